@@ -1,0 +1,40 @@
+-- Laws of a list that is cut in halves, and of lists that are cut in other ways.
+use mathlib.Core.Path.{_≡_, refl, ap, sym, _∙_}
+use mathlib.Core.List.{List, [], _∷_, _++_, map}
+use Prim.Native.Nat.{ℕ, zero, suc, _+_, _-_, _^_, _/_}
+use native.Mathlib.Omega.{arith}
+use native.Mathlib.Nat.{two-pow-succ, sub-zero, zero-sub, suc-sub-suc}
+use lib.ListN.{length, take, drop, length-drop, length-append}
+use lib.Seq.{length-take-le, take-nil}
+
+module _ {A : Type 0} (m : ℕ) (x : List A) (e : length x ≡ 2 ^ suc m) where
+  pub length-first : length (take (2 ^ m) x) ≡ 2 ^ m
+  length-first = length-take-le (2 ^ m) x (omega (arith, two-pow-succ m))
+
+  pub length-second : length (drop (2 ^ m) x) ≡ 2 ^ m
+  length-second = simp length-drop (omega (arith, two-pow-succ m))
+
+pub drop-take : {A : Type 0} (h n : ℕ) (x : List A) → drop h (take n x) ≡ take (n - h) (drop h x)
+drop-take zero n x = rw sub-zero
+drop-take (suc h) zero x = rw zero-sub
+drop-take (suc h) (suc n) [] = sym (take-nil (suc n - suc h))
+drop-take (suc h) (suc n) (a ∷ x) = rw suc-sub-suc (drop-take h n x)
+
+pub length-more : {A : Type 0} (x : List A) (a : A) → length (x ++ a ∷ []) ≡ length x + 1
+length-more x a = length-append x (a ∷ [])
+
+pub map-append : {A B : Type 0} (f : A → B) (x y : List A) → map f (x ++ y) ≡ map f x ++ map f y
+map-append f [] y = refl
+map-append {B} f (a ∷ x) y = ap (λ (l : List B). f a ∷ l) (map-append f x y)
+
+-- a length that is a power of two above 1, halved, as code does it
+pub record Halved (n m : ℕ) : Type 0 where
+  pub above : m ≡ suc (m - 1)
+  pub half : n / 2 ≡ 2 ^ (m - 1)
+  pub whole : n ≡ n / 2 + n / 2
+
+pub halved : (n m : ℕ) → n ≡ 2 ^ m → (m ≡ 0 → ⊥) → Halved n m
+halved n zero e z = absurd (z refl)
+halved n (suc p) e z =
+    let q : suc p - 1 ≡ p = omega arith in
+    record { above = ap suc (sym q); half = rw q (omega (arith, two-pow-succ p)); whole = omega (arith, two-pow-succ p) }

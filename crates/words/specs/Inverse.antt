@@ -1,0 +1,28 @@
+-- From a word back to its information bits, or the lowest frozen index that is 1 (01, "The code" and refusal 5).
+use mathlib.Core.List.{List, [], _∷_}
+use mathlib.Core.Bool.{cond}
+use Prim.Native.Nat.{ℕ, zero, suc}
+use lib.ListN.{length}
+use lib.Dec.{ltb}
+use Rattle.words.specs.Word.{transform}
+use Rattle.words.specs.Kinds.{pick}
+
+pub data TakenBack : Type 0 where
+  -- the information bits
+  taken : List ℕ → TakenBack
+  -- the lowest frozen index where the row u is 1
+  frozenOne : ℕ → TakenBack
+
+-- the lowest frozen index where the row is 1, or the row's length where there is none
+unfoldable pub firstFrozenOne : List ℕ → List ℕ → ℕ
+firstFrozenOne [] u = 0
+firstFrozenOne (k ∷ ks) [] = 0
+firstFrozenOne (zero ∷ ks) (zero ∷ u) = suc (firstFrozenOne ks u)
+firstFrozenOne (zero ∷ ks) (suc a ∷ u) = 0
+firstFrozenOne (suc k ∷ ks) (a ∷ u) = suc (firstFrozenOne ks u)
+
+-- the transform is its own inverse: it gives the row u that the word comes from
+unfoldable pub takenBack : ℕ → List ℕ → List ℕ → TakenBack
+takenBack m ks x =
+    let u = transform m x in
+    cond (ltb (firstFrozenOne ks u) (length ks)) (frozenOne (firstFrozenOne ks u)) (taken (pick ks u))

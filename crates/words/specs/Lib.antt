@@ -1,0 +1,6 @@
+pub mod Bits
+pub mod Word
+pub mod Kinds
+pub mod Polynomial
+pub mod Inverse
+pub mod TransformLaws
