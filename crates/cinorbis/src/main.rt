@@ -1,0 +1,2 @@
+// The program: records in, lines out.
+fn main() {}

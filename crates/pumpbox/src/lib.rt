@@ -1,0 +1,1 @@
+// The C exports, one per public call.

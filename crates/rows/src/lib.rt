@@ -1,0 +1,1 @@
+// The two combining steps, on one pair and over rows.

@@ -1,0 +1,1 @@
+// The public calls: the search with an allowance, and the short call.

@@ -1,0 +1,1 @@
+// The walk: the frozen step and the information step.
