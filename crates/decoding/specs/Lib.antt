@@ -5,3 +5,4 @@ pub mod Walk
 pub mod Allowance
 pub mod Answer
 pub mod BenchFigures
+pub mod CorrelationLaws
