@@ -4,3 +4,4 @@ pub mod Kinds
 pub mod Polynomial
 pub mod Inverse
 pub mod TransformLaws
+pub mod BitLaws

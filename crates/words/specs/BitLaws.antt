@@ -1,0 +1,60 @@
+-- Laws of the binary digits of an index: of an index in the first half 0, 1, .. below 2^m, and of one in the second half, 2^m further on.
+use mathlib.Core.Path.{_≡_, refl, ap, ap₂, sym, subst, _∙_}
+use mathlib.Core.Logic.{⊎-elim}
+use Prim.Native.Nat.{ℕ, zero, suc, _+_, _-_, _*_, _^_, _<_}
+use native.Mathlib.Omega.{arith}
+use native.Mathlib.Nat.{two-pow-succ, mul-add-div-right, add-div-left, div-eq-of-lt, zero-add}
+use lib.Pow.{pow-pos, pow-add}
+use lib.Count as Count
+use Rattle.numbers.specs.Choice.{lt-or-le}
+use Rattle.words.specs.Bits.{digit, ones}
+
+pub digit-first : (m i : ℕ) → i < 2 ^ m → digit m i ≡ 0
+unfolding digit
+digit-first m i h = rw div-eq-of-lt
+
+pub digit-second : (m i : ℕ) → i < 2 ^ m → digit m (2 ^ m + i) ≡ 1
+unfolding digit
+digit-second m i h = rw (add-div-left i (pow-pos m), div-eq-of-lt)
+
+-- a power of two above a digit does not change it
+pub digit-below : (p j i : ℕ) → digit p (2 ^ (suc j + p) + i) ≡ digit p i
+unfolding digit
+digit-below p j i = rw (pow-add 2 (suc j) p, mul-add-div-right (pow-pos p) (2 ^ suc j) i) (omega (arith, two-pow-succ j))
+
+pub ones-below : (p j i : ℕ) → ones p (2 ^ (j + p) + i) ≡ ones p i
+unfolding ones
+ones-below zero j i = refl
+ones-below (suc p) j i =
+    let e : j + suc p ≡ suc j + p = omega arith in
+    rw e (ap₂ _+_ (ones-below p (suc j) i) (digit-below p j i))
+
+pub ones-first : (m i : ℕ) → i < 2 ^ m → ones (suc m) i ≡ ones m i
+unfolding ones
+ones-first m i h = omega (arith, digit-first m i h)
+
+pub ones-second : (m i : ℕ) → i < 2 ^ m → ones (suc m) (2 ^ m + i) ≡ suc (ones m i)
+unfolding ones
+ones-second m i h = omega (arith, digit-second m i h, rw (zero-add m) at (ones-below m 0 i))
+
+-- a fact of every index of the first half and of every index of the second half is one of every index
+pub by-halves : (P : ℕ → Type 0) (m : ℕ) → ((i : ℕ) → i < 2 ^ m → P i) → ((i : ℕ) → i < 2 ^ m → P (2 ^ m + i)) → (i : ℕ) → i < 2 ^ suc m → P i
+by-halves P m f g i h =
+    ⊎-elim (f i)
+    (λ k.
+    let e : 2 ^ m + (i - 2 ^ m) ≡ i = omega arith in
+    subst P e (g (i - 2 ^ m) (omega (arith, two-pow-succ m))))
+    (lt-or-le i (2 ^ m))
+
+-- the count of ones that the machine has an instruction for
+pub ones-counted : (m i : ℕ) → i < 2 ^ m → Count.ones i ≡ ones m i
+unfolding ones Count.ones
+ones-counted zero zero h = refl
+ones-counted zero (suc i) h = absurd (omega arith)
+ones-counted (suc m) i h =
+    by-halves (λ (n : ℕ). Count.ones n ≡ ones (suc m) n) m
+    (λ n k. ones-counted m n k ∙ sym (ones-first m n k))
+    (λ n k.
+    let e : 2 ^ m + n ≡ 1 * 2 ^ m + n = omega arith in
+    ap Count.ones e ∙ omega (arith, Count.ones-cat m 1 n k, Count.ones-ones 1, ones-counted m n k, ones-second m n k))
+    i h
