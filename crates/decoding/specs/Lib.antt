@@ -5,4 +5,5 @@ pub mod Walk
 pub mod Allowance
 pub mod Answer
 pub mod BenchFigures
+pub mod StepLaws
 pub mod CorrelationLaws
