@@ -5,3 +5,4 @@ pub mod Choice
 pub mod PartsLaws
 pub mod Halves
 pub mod Front
+pub mod SumsLaws
