@@ -7,3 +7,4 @@ pub mod Answer
 pub mod BenchFigures
 pub mod StepLaws
 pub mod CorrelationLaws
+pub mod TurnLaws
