@@ -6,5 +6,6 @@ pub mod Allowance
 pub mod Answer
 pub mod BenchFigures
 pub mod StepLaws
+pub mod PathLaws
 pub mod CorrelationLaws
 pub mod TurnLaws
