@@ -1,0 +1,19 @@
+-- What the value at an index is asked of: the readings l, the scratch array s, and the byte array y that holds the path.
+use mathlib.Core.Path.{_≡_}
+use mathlib.Core.List.{List}
+use mathlib.Core.Bool.{Bool, true}
+use Prim.Native.Nat.{ℕ, _-_, _^_, _≤_, _<_}
+use lib.IntN.{ℤ}
+use lib.ListN.{length, take}
+use Rattle.words.specs.Bits.{Bits}
+use Rattle.decoding.specs.Readings.{sizes}
+use Rattle.memory.specs.Memory.{pathOf, Stands}
+
+-- where fresh, the scratch array stands for the index before i
+pub record ValueReady (l : List ℤ) (m : ℕ) (fresh : Bool) (i : ℕ) (s : List ℤ) (y : List ℕ) : Type 0 where
+  pub long : length l ≡ 2 ^ m
+  pub most : m ≤ 8
+  pub inside : i < 2 ^ m
+  pub small : sizes l < 2 ^ 31
+  pub bits : Bits y
+  pub stands : fresh ≡ true → 0 < i → Stands m l (take (i - 1) (pathOf m i (take (2 ^ m) y))) (take (2 ^ m) s)
