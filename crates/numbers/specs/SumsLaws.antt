@@ -1,10 +1,10 @@
 -- Laws of sums and rows over the indices below a number: cut at a place, entry by entry, modulo 2.
 use mathlib.Core.Path.{_≡_, refl, ap, ap₂, sym, _∙_}
 use mathlib.Core.List.{List, [], _∷_, _++_}
-use Prim.Native.Nat.{ℕ, zero, suc, _+_, _*_, _%_, _≤_, _<_, zero-le, suc-le-suc}
+use Prim.Native.Nat.{ℕ, zero, suc, _+_, _<_, suc-le-suc}
 use native.Mathlib.Omega.{arith}
-use native.Mathlib.Nat.{zero-add, add-assoc, suc-add, not-suc-le-zero, le-of-suc-le-suc, zero-lt-suc, add-mod}
-use lib.ListN.{length, getD}
+use native.Mathlib.Nat.{zero-add, add-assoc, suc-add, not-suc-le-zero, le-of-suc-le-suc, zero-lt-suc}
+use lib.ListN.{length, getD, replicate}
 use Rattle.numbers.specs.Sums.{total, tabulate, sum}
 
 -- ---- cut at a place
@@ -51,7 +51,7 @@ unfolding tabulate
 tabulate-same f g zero h = refl
 tabulate-same f g (suc n) h = ap₂ _∷_ (h 0 (zero-lt-suc n)) (tabulate-same (λ i. f (suc i)) (λ i. g (suc i)) n (λ i k. h (suc i) (suc-le-suc k)))
 
--- ---- sums of functions
+-- ---- sums of two functions, and of zeros
 pub total-add : (f g : ℕ → ℕ) (n : ℕ) → total (λ i. f i + g i) n ≡ total f n + total g n
 unfolding total
 total-add f g zero = refl
@@ -61,3 +61,13 @@ pub total-zero : (n : ℕ) → total (λ i. 0) n ≡ 0
 unfolding total
 total-zero zero = refl
 total-zero (suc n) = omega (arith, total-zero n)
+
+pub tabulate-zeros : (n : ℕ) → tabulate {A = ℕ} (λ i. 0) n ≡ replicate n 0
+unfolding tabulate
+tabulate-zeros zero = refl
+tabulate-zeros (suc n) = ap (λ (l : List ℕ). 0 ∷ l) (tabulate-zeros n)
+
+pub sum-zeros : (n : ℕ) → sum (replicate n 0) ≡ 0
+unfolding sum
+sum-zeros zero = refl
+sum-zeros (suc n) = omega (arith, sum-zeros n)

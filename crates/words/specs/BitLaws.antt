@@ -1,13 +1,22 @@
 -- Laws of the binary digits of an index: of an index in the first half 0, 1, .. below 2^m, and of one in the second half, 2^m further on.
 use mathlib.Core.Path.{_≡_, refl, ap, ap₂, sym, subst, _∙_}
 use mathlib.Core.Logic.{⊎-elim}
-use Prim.Native.Nat.{ℕ, zero, suc, _+_, _-_, _*_, _^_, _<_}
+use Prim.Native.Nat.{ℕ, zero, suc, _+_, _-_, _*_, _^_, _≤_, _<_}
 use native.Mathlib.Omega.{arith}
 use native.Mathlib.Nat.{two-pow-succ, mul-add-div-right, add-div-left, div-eq-of-lt, zero-add}
 use lib.Pow.{pow-pos, pow-add}
 use lib.Count as Count
 use Rattle.numbers.specs.Choice.{lt-or-le}
 use Rattle.words.specs.Bits.{digit, ones}
+
+pub digit-bit : (p i : ℕ) → digit p i < 2
+unfolding digit
+digit-bit p i = omega arith
+
+pub ones-most : (m i : ℕ) → ones m i ≤ m
+unfolding ones
+ones-most zero i = omega arith
+ones-most (suc m) i = omega (arith, ones-most m i, digit-bit m i)
 
 pub digit-first : (m i : ℕ) → i < 2 ^ m → digit m i ≡ 0
 unfolding digit
@@ -38,7 +47,8 @@ unfolding ones
 ones-second m i h = omega (arith, digit-second m i h, rw (zero-add m) at (ones-below m 0 i))
 
 -- a fact of every index of the first half and of every index of the second half is one of every index
-pub by-halves : (P : ℕ → Type 0) (m : ℕ) → ((i : ℕ) → i < 2 ^ m → P i) → ((i : ℕ) → i < 2 ^ m → P (2 ^ m + i)) → (i : ℕ) → i < 2 ^ suc m → P i
+pub by-halves : (P : ℕ → Type 0) (m : ℕ) → ((i : ℕ) → i < 2 ^ m → P i) → ((i : ℕ) → i < 2 ^ m → P (2 ^ m + i))
+    → (i : ℕ) → i < 2 ^ suc m → P i
 by-halves P m f g i h =
     ⊎-elim (f i)
     (λ k.

@@ -5,3 +5,4 @@ pub mod Polynomial
 pub mod Inverse
 pub mod TransformLaws
 pub mod BitLaws
+pub mod KindLaws
