@@ -1,9 +1,11 @@
 -- A loop that replaces a list's entries one by one from the front: after j turns the list is `front d x j`, where d is what it was and x what it is to be.
 use mathlib.Core.Path.{_≡_, refl, ap}
-use mathlib.Core.List.{List, [], _∷_, _++_}
+use mathlib.Core.List.{List, [], _∷_, _++_, append-nil}
 use Prim.Native.Nat.{ℕ, zero, suc, _≤_, _<_}
 use native.Mathlib.Nat.{not-suc-le-zero, le-of-suc-le-suc}
-use lib.ListN.{length, getD, take, drop, set}
+use native.Mathlib.Omega.{arith}
+use lib.ListN.{length, getD, take, drop, set, drop-of-length-le}
+use lib.Seq.{take-length}
 
 module _ {A : Type 0} where
   abbrev pub front : List A → List A → ℕ → List A
@@ -23,3 +25,7 @@ module _ {A : Type 0} where
   front-after (a ∷ d) [] (suc j) i z h k l = absurd (not-suc-le-zero k)
   front-after (a ∷ d) (b ∷ x) (suc j) zero z h k l = absurd (not-suc-le-zero l)
   front-after (a ∷ d) (b ∷ x) (suc j) (suc i) z h k l = front-after d x j i z (le-of-suc-le-suc h) (le-of-suc-le-suc k) (le-of-suc-le-suc l)
+
+  -- all are replaced
+  pub front-all : (d x : List A) → length d ≡ length x → front d x (length x) ≡ x
+  front-all d x e = rw (take-length x, drop-of-length-le d {i = length x} (omega arith), append-nil x)

@@ -6,3 +6,4 @@ pub mod PartsLaws
 pub mod Halves
 pub mod Front
 pub mod SumsLaws
+pub mod Lent
