@@ -1,6 +1,7 @@
 pub mod Parts
 pub mod Sums
 pub mod Least
+pub mod LeastLaws
 pub mod Choice
 pub mod PartsLaws
 pub mod Halves
