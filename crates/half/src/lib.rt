@@ -1,9 +1,12 @@
 // On lent bytes: fold, the in-place transform, filling a row with information bits and taking them back.
 ghost use mathlib.Core.Path.{_≡_};
-ghost use Prim.Native.Nat.{_+_, _^_};
+ghost use Prim.Native.Nat.{_+_, _^_, _≤_};
 ghost use lib.ListN.{length};
+ghost use Rattle.numbers.specs.Sums.{sum};
 ghost use Rattle.words.specs.Bits.{Bits};
 ghost use Rattle.words.specs.Word.{transform};
+ghost use Rattle.words.specs.Kinds.{fill, pick};
+ghost use Rattle.words.specs.Inverse.{firstFrozenOne};
 ghost use Rattle.half.specs.Fold.{folded};
 
 // Adds the second half of a word of 2h bits into the first, modulo 2.
@@ -42,4 +45,53 @@ pub fn copy(from: &[u8], to: &mut [u8])
         to[i] = from[i];
         i += 1;
     }
+}
+
+// The row u: the bits in rising order at the information indices, 0 at the frozen ones.
+pub fn fill(kinds: &[u8], bits: &[u8], row: &mut [u8])
+    requires { ⌜ (length (now row) ≡ length (now kinds)) × (sum (now kinds) ≤ length (now bits)) ⌝ }
+    ensures { λ _. ⌜ now (row .exit) ≡ fill (now (kinds .entry)) (now (bits .entry)) ⌝ }
+{
+    let mut i = 0;
+    let mut used = 0;
+    while i < kinds.len() {
+        if kinds[i] == 0 {
+            row[i] = 0;
+        } else {
+            row[i] = bits[used];
+            used += 1;
+        }
+        i += 1;
+    }
+}
+
+// The bits of a row at the information indices.
+pub fn pick(kinds: &[u8], row: &[u8], bits: &mut [u8])
+    requires { ⌜ (length (now row) ≡ length (now kinds)) × (length (now bits) ≡ sum (now kinds)) × Bits (now kinds) ⌝ }
+    ensures { λ _. ⌜ now (bits .exit) ≡ pick (now (kinds .entry)) (now (row .entry)) ⌝ }
+{
+    let mut i = 0;
+    let mut taken = 0;
+    while i < kinds.len() {
+        if kinds[i] != 0 {
+            bits[taken] = row[i];
+            taken += 1;
+        }
+        i += 1;
+    }
+}
+
+// The lowest frozen index where the row is 1, or the row's length where there is none.
+pub fn first_frozen_one(kinds: &[u8], row: &[u8]) -> usize
+    requires { ⌜ length (now row) ≡ length (now kinds) ⌝ }
+    ensures { λ i. ⌜ i ≡ firstFrozenOne (now (kinds .entry)) (now (row .entry)) ⌝ }
+{
+    let mut i = 0;
+    while i < kinds.len() {
+        if kinds[i] == 0 && row[i] != 0 {
+            return i;
+        }
+        i += 1;
+    }
+    i
 }

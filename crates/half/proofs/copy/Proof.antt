@@ -3,7 +3,7 @@ use mathlib.Core.Path.{_≡_, refl, ap, _∙_}
 use Prim.Native.Nat.{_-_, _≤_, zero-le}
 use native.Mathlib.Omega.{arith}
 use native.Mathlib.Numerals.{add-one}
-use lib.ListN.{length, length-set}
+use lib.ListN.{length, length-set, drop-of-length-le}
 use Rattle.numbers.specs.Front.{front, front-suc, front-all}
 use Rattle.half.proofs.copy.Statement.{statement}
 use Rattle.half.proofs.copy.Tie as tie
@@ -41,8 +41,8 @@ same-length c = omega arith
 returns : tie.Need-returns Inv-loop μ-loop
 returns c =
     let g = c .before .before .args in
-    let e : c .before .loop .i ≡ length (g .from .now) = omega arith in
-    c .before .loop .inv .1 ∙ ap (front (g .to .now) (g .from .now)) e ∙ front-all (g .to .now) (g .from .now) (c .before .before .pre)
+    let l = c .before .loop in
+    l .inv .1 ∙ front-all (g .to .now) (g .from .now) (l .i) (omega arith) (drop-of-length-le (g .from .now) {i = l .i} (omega arith))
 
 pub copy-spec : {M : Type 1} → statement M
 copy-spec =

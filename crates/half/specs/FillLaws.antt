@@ -1,0 +1,157 @@
+-- The loops of `fill`, `pick` and `first_frozen_one`: what holds before each turn, and what a turn does.
+use mathlib.Core.Path.{_≡_, refl, ap, sym, _∙_, subst}
+use mathlib.Core.List.{List, [], _∷_, _++_}
+use Prim.Native.Nat.{ℕ, zero, suc, _+_, _-_, _≤_, _<_, zero-le}
+use native.Mathlib.Omega.{arith}
+use native.Mathlib.Nat.{suc-ne-zero}
+use native.Mathlib.Numerals.{add-one}
+use lib.ListN.{length, getD, set, take, drop, length-set, length-drop, drop-of-length-le}
+use lib.Seq.{drop-cons, take-all}
+use Rattle.numbers.specs.Sums.{sum}
+use Rattle.numbers.specs.Front.{front, front-all, front-next, drop-next}
+use Rattle.words.specs.Bits.{Bits}
+use Rattle.words.specs.Kinds.{fill, pick}
+use Rattle.words.specs.Inverse.{firstFrozenOne}
+
+-- ---- fill: i kinds are passed, `used` bits are used
+pub record Filled (ks b row₀ row : List ℕ) (i used : ℕ) : Type 0 where
+  pub within : i ≤ length ks
+  pub is : row ≡ front row₀ (fill ks b) i
+  pub long : length row ≡ length row₀
+  pub rest : drop i (fill ks b) ≡ fill (drop i ks) (drop used b)
+  pub room : used + sum (drop i ks) ≤ length b
+
+module _ (ks b row₀ : List ℕ) (same : length row₀ ≡ length ks) where
+  pub fill-starts : sum ks ≤ length b → Filled ks b row₀ row₀ 0 0
+  fill-starts h = record { within = zero-le; is = refl; long = refl; rest = refl; room = omega arith }
+
+  module _ (row : List ℕ) (i used : ℕ) (f : Filled ks b row₀ row i used) where
+    fill-turn : (a u : ℕ) → i < length ks → drop i (fill ks b) ≡ a ∷ fill (drop (suc i) ks) (drop u b) → u + sum (drop (suc i) ks) ≤ length b
+        → Filled ks b row₀ (set row i a) (i + 1) u
+    fill-turn a u h e r =
+        rw add-one
+        (record {
+          within = h;
+          is = rw (f .is) (front-next row₀ (fill ks b) i a _ (omega arith) e);
+          long = length-set row i a ∙ f .long;
+          rest = drop-next (fill ks b) i a _ e;
+          room = r;
+        })
+
+    pub fill-frozen : i < length ks → getD ks i 0 ≡ 0 → Filled ks b row₀ (set row i 0) (i + 1) used
+    unfolding sum
+    fill-frozen h z =
+        let e : drop i ks ≡ 0 ∷ drop (suc i) ks = drop-cons ks i 0 h ∙ ap (λ (k : ℕ). k ∷ drop (suc i) ks) z in
+        fill-turn 0 used h (f .rest ∙ ap (λ (l : List ℕ). fill l (drop used b)) e) (omega (arith, ap sum e, f .room))
+
+    module _ (h : i < length ks) (k : ℕ) (is-kind : getD ks i 0 ≡ suc k) where
+      kinds-left : drop i ks ≡ suc k ∷ drop (suc i) ks
+      kinds-left = drop-cons ks i 0 h ∙ ap (λ (n : ℕ). n ∷ drop (suc i) ks) is-kind
+
+      room-left : suc used + sum (drop (suc i) ks) ≤ length b
+      unfolding sum
+      room-left = omega (arith, ap sum kinds-left, f .room)
+
+      fill-one : Filled ks b row₀ (set row i (getD b used 0)) (i + 1) (used + 1)
+      fill-one =
+          let e : drop used b ≡ getD b used 0 ∷ drop (suc used) b = drop-cons b used 0 (omega (arith, room-left)) in
+          let g = f .rest ∙ ap (λ (l : List ℕ). fill l (drop used b)) kinds-left ∙ ap (fill (suc k ∷ drop (suc i) ks)) e in
+          subst (Filled ks b row₀ (set row i (getD b used 0)) (i + 1)) (sym (add-one used)) (fill-turn (getD b used 0) (suc used) h g room-left)
+
+    module _ (h : i < length ks) (one : getD ks i 0 ≡ 0 → ⊥) where
+      pub bit-left : used < length b
+      bit-left = omega (arith, room-left h (getD ks i 0 - 1) (omega arith))
+
+      pub fill-information : Filled ks b row₀ (set row i (getD b used 0)) (i + 1) (used + 1)
+      fill-information = fill-one h (getD ks i 0 - 1) (omega arith)
+
+    pub fill-ends : length ks ≤ i → row ≡ fill ks b
+    fill-ends h =
+        let e : drop i (fill ks b) ≡ [] = f .rest ∙ ap (λ (l : List ℕ). fill l (drop used b)) (drop-of-length-le ks {i = i} h) in
+        f .is ∙ front-all row₀ (fill ks b) i (omega arith) e
+
+-- ---- pick: i kinds are passed, `taken` bits are taken
+pub record Picked (ks u b₀ b : List ℕ) (i taken : ℕ) : Type 0 where
+  pub within : i ≤ length ks
+  pub is : b ≡ front b₀ (pick ks u) taken
+  pub long : length b ≡ length b₀
+  pub rest : drop taken (pick ks u) ≡ pick (drop i ks) (drop i u)
+  pub room : taken + sum (drop i ks) ≡ length b₀
+
+module _ (ks u b₀ : List ℕ) (same : length u ≡ length ks) where
+  pub pick-starts : length b₀ ≡ sum ks → Picked ks u b₀ b₀ 0 0
+  pick-starts h = record { within = zero-le; is = refl; long = refl; rest = refl; room = omega arith }
+
+  module _ (b : List ℕ) (i taken : ℕ) (p : Picked ks u b₀ b i taken) where
+    module _ (h : i < length ks) (k : ℕ) (is-kind : getD ks i 0 ≡ k) where
+      both-left : pick (drop i ks) (drop i u) ≡ pick (k ∷ drop (suc i) ks) (getD u i 0 ∷ drop (suc i) u)
+      both-left = rw (drop-cons ks i 0 h, drop-cons u i 0 (omega arith), is-kind)
+
+      sum-left : sum (drop i ks) ≡ k + sum (drop (suc i) ks)
+      unfolding sum
+      sum-left = ap sum (drop-cons ks i 0 h ∙ ap (λ (n : ℕ). n ∷ drop (suc i) ks) is-kind)
+
+    pub pick-frozen : i < length ks → getD ks i 0 ≡ 0 → Picked ks u b₀ b (i + 1) taken
+    pick-frozen h z =
+        rw add-one
+        (record {
+          within = h;
+          is = p .is;
+          long = p .long;
+          rest = p .rest ∙ both-left h 0 z;
+          room = omega (arith, sum-left h 0 z, p .room);
+        })
+
+    module _ (h : i < length ks) (one : getD ks i 0 ≡ 1) where
+      pub place-left : taken < length b
+      place-left = omega (arith, sum-left h 1 one, p .room, p .long)
+
+      pub pick-information : Picked ks u b₀ (set b taken (getD u i 0)) (i + 1) (taken + 1)
+      pick-information =
+          let e = p .rest ∙ both-left h 1 one in
+          rw (add-one i, add-one taken)
+          (record {
+            within = h;
+            is = rw (p .is) (front-next b₀ (pick ks u) taken (getD u i 0) _ (omega (arith, place-left, p .long)) e);
+            long = length-set b taken (getD u i 0) ∙ p .long;
+            rest = drop-next (pick ks u) taken (getD u i 0) _ e;
+            room = omega (arith, sum-left h 1 one, p .room);
+          })
+
+    pub pick-ends : length ks ≤ i → b ≡ pick ks u
+    unfolding sum
+    pick-ends h =
+        let none = drop-of-length-le ks {i = i} h in
+        let e : drop taken (pick ks u) ≡ [] = p .rest ∙ ap (λ (l : List ℕ). pick l (drop i u)) none in
+        p .is ∙ front-all b₀ (pick ks u) taken (omega (arith, ap sum none, p .room)) e
+
+-- ---- first_frozen_one: i kinds are passed
+abbrev pub Passed : List ℕ → List ℕ → ℕ → Type 0
+Passed ks u i = (i ≤ length ks) × (firstFrozenOne ks u ≡ i + firstFrozenOne (drop i ks) (drop i u))
+
+one-passed : (k a : ℕ) (ks u : List ℕ) → (k ≡ 0 → a ≡ 0) → firstFrozenOne (k ∷ ks) (a ∷ u) ≡ suc (firstFrozenOne ks u)
+unfolding firstFrozenOne
+one-passed zero zero ks u h = refl
+one-passed zero (suc a) ks u h = absurd (suc-ne-zero a (h refl))
+one-passed (suc k) a ks u h = refl
+
+one-found : (k a : ℕ) (ks u : List ℕ) → k ≡ 0 → (a ≡ 0 → ⊥) → firstFrozenOne (k ∷ ks) (a ∷ u) ≡ 0
+unfolding firstFrozenOne
+one-found zero zero ks u z h = absurd (h refl)
+one-found zero (suc a) ks u z h = refl
+one-found (suc k) a ks u z h = absurd (suc-ne-zero k z)
+
+module _ (ks u : List ℕ) (i : ℕ) (same : length u ≡ length ks) (p : Passed ks u i) where
+  module _ (h : i < length ks) where
+    next-kind : firstFrozenOne ks u ≡ i + firstFrozenOne (getD ks i 0 ∷ drop (suc i) ks) (getD u i 0 ∷ drop (suc i) u)
+    next-kind = p .1 ∙ rw (drop-cons ks i 0 h, drop-cons u i 0 (omega arith)) refl
+
+    pub pass : (getD ks i 0 ≡ 0 → getD u i 0 ≡ 0) → Passed ks u (i + 1)
+    pass k = rw add-one (h, omega (arith, next-kind, one-passed (getD ks i 0) (getD u i 0) (drop (suc i) ks) (drop (suc i) u) k))
+
+    pub found : getD ks i 0 ≡ 0 → (getD u i 0 ≡ 0 → ⊥) → i ≡ firstFrozenOne ks u
+    found z k = omega (arith, next-kind, one-found (getD ks i 0) (getD u i 0) (drop (suc i) ks) (drop (suc i) u) z k)
+
+  pub none-found : length ks ≤ i → i ≡ firstFrozenOne ks u
+  unfolding firstFrozenOne
+  none-found h = omega (arith, p .1, ap (λ (l : List ℕ). firstFrozenOne l (drop i u)) (drop-of-length-le ks {i = i} h))
