@@ -1,1 +1,4 @@
 pub mod Sound
+pub mod Entries
+pub mod SoundLaws
+pub mod EntriesLaws

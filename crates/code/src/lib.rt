@@ -2,9 +2,12 @@
 // This is the one place for all of them.
 ghost use mathlib.Core.Path.{_≡_};
 ghost use Prim.Native.Nat.{_<_, _^_};
-ghost use lib.IntN.{pos};
-ghost use Rattle.words.specs.Kinds.{kind, dimension};
-ghost use Rattle.code.specs.Sound.{Sound, made, numberOf, placeOf, penaltyOf, visitsOf};
+ghost use lib.ListN.{length};
+ghost use lib.IntN.{natAbs};
+ghost use lib.Dec.{ltb};
+ghost use Rattle.words.specs.Kinds.{kind, kinds, dimension};
+ghost use Rattle.code.specs.Sound.{Sound, largestReading, made, numberOf, placeOf, penaltyOf, visitsOf};
+ghost use Rattle.code.specs.Entries.{firstBadBit, firstBadReading};
 
 // The parameters of RM(r,m).
 pub struct Code {
@@ -33,6 +36,19 @@ pub enum Refusal {
     Pad,
 }
 
+// The number k of information bits: row m, column r.
+const DIMENSIONS: [[usize; 9]; 9] = [
+    [1, 1, 1, 1, 1, 1, 1, 1, 1],
+    [1, 2, 2, 2, 2, 2, 2, 2, 2],
+    [1, 3, 4, 4, 4, 4, 4, 4, 4],
+    [1, 4, 7, 8, 8, 8, 8, 8, 8],
+    [1, 5, 11, 15, 16, 16, 16, 16, 16],
+    [1, 6, 16, 26, 31, 32, 32, 32, 32],
+    [1, 7, 22, 42, 57, 63, 64, 64, 64],
+    [1, 8, 29, 64, 99, 120, 127, 128, 128],
+    [1, 9, 37, 93, 163, 219, 247, 255, 256],
+];
+
 impl Code {
     pub const LARGEST_M: u32 = 8;
 
@@ -41,7 +57,7 @@ impl Code {
     pub const DEFAULT_ALLOWANCE: u32 = 1000000;
 
     pub fn new(r: u32, m: u32) -> Made
-        ensures { λ made_code. ⌜ made_code ≡ made r m ⌝ }
+        ensures { λ answer. ⌜ answer ≡ made r m ⌝ }
     {
         if Code::LARGEST_M < m {
             return Made::Bad;
@@ -52,7 +68,7 @@ impl Code {
         Made::Good(Code { r, m })
     }
 
-    // The length n = 2^m.
+    // n, the number of positions.
     pub fn length(self) -> usize
         requires { ⌜ Sound self ⌝ }
         ensures { λ n. ⌜ n ≡ 2 ^ (self .m) ⌝ }
@@ -60,11 +76,151 @@ impl Code {
         1usize << self.m
     }
 
+    // k, the number of information bits.
+    pub fn dimension(self) -> usize
+        requires { ⌜ Sound self ⌝ }
+        ensures { λ k. ⌜ k ≡ dimension (self .r) (self .m) ⌝ }
+    {
+        let m = self.m as usize;
+        let r = self.r as usize;
+        DIMENSIONS[m][r]
+    }
+
     // 1 at an information index, 0 at a frozen one.
     pub fn kind(self, i: usize) -> u8
-        requires { ⌜ Sound self ⌝ }
+        requires { ⌜ Sound self × (i < 2 ^ (self .m)) ⌝ }
         ensures { λ k. ⌜ k ≡ kind (self .r) (self .m) i ⌝ }
     {
-        0
+        if self.m - self.r <= usize::count_ones(i) {
+            1
+        } else {
+            0
+        }
+    }
+}
+
+// Fills the row with the kinds of all indices.
+pub fn put_kinds(code: Code, row: &mut [u8])
+    requires { ⌜ Sound code × (length (now row) ≡ 2 ^ (code .m)) ⌝ }
+    ensures { λ _. ⌜ now (row .exit) ≡ kinds (code .r) (code .m) ⌝ }
+{
+    let mut i = 0;
+    while i < row.len() {
+        row[i] = code.kind(i);
+        i += 1;
+    }
+}
+
+// The lowest place of a byte above 1, or the length where there is none.
+pub fn first_bad_bit(bits: &[u8]) -> usize
+    ensures { λ place. ⌜ place ≡ firstBadBit (now (bits .entry)) ⌝ }
+{
+    let mut i = 0;
+    while i < bits.len() {
+        if 1 < bits[i] {
+            return i;
+        }
+        i += 1;
+    }
+    i
+}
+
+// Whether a reading is beyond the largest, either way.
+fn beyond(reading: i16) -> bool
+    ensures { λ r. ⌜ r ≡ ltb largestReading (natAbs reading) ⌝ }
+{
+    if reading < -Code::LARGEST_READING {
+        return true;
+    }
+    Code::LARGEST_READING < reading
+}
+
+// The lowest place of a reading beyond the largest, or the length where there is none.
+pub fn first_bad_reading(readings: &[i16]) -> usize
+    ensures { λ place. ⌜ place ≡ firstBadReading largestReading (now (readings .entry)) ⌝ }
+{
+    let mut i = 0;
+    while i < readings.len() {
+        if beyond(readings[i]) {
+            return i;
+        }
+        i += 1;
+    }
+    i
+}
+
+impl Refusal {
+    // The rules' number.
+    pub fn number(self) -> u32
+        ensures { λ r. ⌜ r ≡ numberOf self ⌝ }
+    {
+        match self {
+            Refusal::Parameters => 1,
+            Refusal::InputLength => 2,
+            Refusal::OutputLength => 3,
+            Refusal::Entry(_) => 4,
+            Refusal::NotAWord(_) => 5,
+            Refusal::OutOfVisits(_) => 6,
+            Refusal::Tied {
+                penalty: _,
+                visits: _,
+            } => 7,
+            Refusal::Torn => 8,
+            Refusal::Pad => 9,
+        }
+    }
+
+    // The place that 4 and 5 carry, else 0.
+    pub fn place(self) -> usize
+        ensures { λ r. ⌜ r ≡ placeOf self ⌝ }
+    {
+        match self {
+            Refusal::Entry(place) => place,
+            Refusal::NotAWord(index) => index,
+            Refusal::Parameters => 0,
+            Refusal::InputLength => 0,
+            Refusal::OutputLength => 0,
+            Refusal::OutOfVisits(_) => 0,
+            Refusal::Tied {
+                penalty: _,
+                visits: _,
+            } => 0,
+            Refusal::Torn => 0,
+            Refusal::Pad => 0,
+        }
+    }
+
+    // The least penalty under 7, else 0.
+    pub fn penalty(self) -> u32
+        ensures { λ r. ⌜ r ≡ penaltyOf self ⌝ }
+    {
+        match self {
+            Refusal::Tied { penalty, visits: _ } => penalty,
+            Refusal::Parameters => 0,
+            Refusal::InputLength => 0,
+            Refusal::OutputLength => 0,
+            Refusal::Entry(_) => 0,
+            Refusal::NotAWord(_) => 0,
+            Refusal::OutOfVisits(_) => 0,
+            Refusal::Torn => 0,
+            Refusal::Pad => 0,
+        }
+    }
+
+    // The allowance under 6, the walk's visits under 7, else 0.
+    pub fn visits(self) -> u32
+        ensures { λ r. ⌜ r ≡ visitsOf self ⌝ }
+    {
+        match self {
+            Refusal::OutOfVisits(allowed) => allowed,
+            Refusal::Tied { penalty: _, visits } => visits,
+            Refusal::Parameters => 0,
+            Refusal::InputLength => 0,
+            Refusal::OutputLength => 0,
+            Refusal::Entry(_) => 0,
+            Refusal::NotAWord(_) => 0,
+            Refusal::Torn => 0,
+            Refusal::Pad => 0,
+        }
     }
 }

@@ -9,4 +9,3 @@ pub mod StepLaws
 pub mod PathLaws
 pub mod CorrelationLaws
 pub mod TurnLaws
-pub mod TurnedWalk

@@ -1,0 +1,45 @@
+-- Laws of the code parameters: what the tests on r and m show, the table of dimensions, and the row of kinds as it is filled.
+use mathlib.Core.Path.{_≡_, ap, _∙_}
+use mathlib.Core.List.{List, []}
+use Prim.Native.Nat.{ℕ, _-_, _^_, _≤_, _<_}
+use native.Mathlib.Omega.{arith}
+use lib.Count as Count
+use lib.ListN.{getD}
+use borrow.Author.Tests.{le-leb, lt-leb}
+use Rattle.numbers.specs.Sums.{tabulate}
+use Rattle.numbers.specs.SumsLaws.{getD-tabulate}
+use Rattle.words.specs.BitLaws.{ones-counted}
+use Rattle.words.specs.Kinds.{kind, dimension}
+use Rattle.code.specs.declared.Made.the-variants.{Good, Bad}
+use Rattle.code.specs.Sound.{made, largestM}
+
+module _ (r m : ℕ) where
+  pub made-large : largestM < m → made r m ≡ Bad
+  unfolding made
+  made-large h = rw (lt-leb m largestM h)
+
+  pub made-crossed : m ≤ largestM → m < r → made r m ≡ Bad
+  unfolding made
+  made-crossed h k = rw (le-leb m largestM h, lt-leb r m k)
+
+  pub made-good : m ≤ largestM → r ≤ m → made r m ≡ Good (record { r = r; m = m })
+  unfolding made
+  made-good h k = rw (le-leb m largestM h, le-leb r m k)
+
+  -- by the machine's count of ones
+  module _ (i : ℕ) (h : i < 2 ^ m) where
+    pub kind-one : m - r ≤ Count.ones i → 1 ≡ kind r m i
+    unfolding kind
+    kind-one k = rw (le-leb (m - r) _ (rw (ones-counted m i h) at k))
+
+    pub kind-zero : Count.ones i < m - r → 0 ≡ kind r m i
+    unfolding kind
+    kind-zero k = rw (lt-leb (m - r) _ (rw (ones-counted m i h) at k))
+
+-- what the constant table of the code holds
+pub dimensions-at : (table : List (List ℕ)) → table ≡ tabulate (λ m. tabulate (λ r. dimension r m) 9) 9
+    → (r m : ℕ) → r ≤ m → m ≤ largestM → getD (getD table m []) r 0 ≡ dimension r m
+dimensions-at table e r m h k =
+    ap (λ (t : List (List ℕ)). getD (getD t m []) r 0) e
+    ∙ ap (λ (t : List ℕ). getD t r 0) (getD-tabulate (λ m. tabulate (λ r. dimension r m) 9) 9 m [] (omega arith))
+    ∙ getD-tabulate (λ r. dimension r m) 9 r 0 (omega arith)
