@@ -9,3 +9,4 @@ pub mod StepLaws
 pub mod PathLaws
 pub mod CorrelationLaws
 pub mod TurnLaws
+pub mod TurnedWalk

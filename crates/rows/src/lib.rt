@@ -1,8 +1,12 @@
 // The two combining steps, on one pair and over rows.
+// Rows of running sums stand in one scratch array, the row of n sums at [n .. 2n].
 ghost use mathlib.Core.Path.{_≡_};
-ghost use Prim.Native.Nat.{_+_, _^_, _<_};
+ghost use Prim.Native.Nat.{_+_, _^_, _≤_, _<_};
 ghost use lib.IntN.{pos, natAbs};
-ghost use Rattle.decoding.specs.Quick.{lower, upper};
+ghost use lib.ListN.{length, take};
+ghost use Rattle.decoding.specs.Readings.{sizes};
+ghost use Rattle.decoding.specs.Quick.{lower, upper, lowerRow, upperRow};
+ghost use Rattle.rows.specs.Rows.{rowOf, withRow};
 
 fn size(x: i32) -> i32
     requires { ⌜ natAbs x < 2 ^ 31 ⌝ }
@@ -32,4 +36,52 @@ pub fn upper(x: i32, y: i32, a: u8) -> i32
     ensures { λ r. ⌜ r ≡ upper x y a ⌝ }
 {
     if a == 0 { y + x } else { y - x }
+}
+
+// The row of h sums for the lower half, from the row of 2h sums.
+pub fn lower_row(rows: &mut [i32], h: usize)
+    requires { ⌜ (h + h + (h + h) ≤ length (now rows)) × (sizes (rowOf (h + h) (now rows)) < 2 ^ 31) ⌝ }
+    ensures { λ _. ⌜ now (rows .exit) ≡ withRow h (now (rows .entry)) (lowerRow h (rowOf (h + h) (now (rows .entry)))) ⌝ }
+{
+    for j in 0..h {
+        let x = rows[h + h + j];
+        let y = rows[h + h + (h + j)];
+        rows[h + j] = lower(x, y);
+    }
+}
+
+// The row of h sums for the upper half, from the row of 2h sums and the lower half's word.
+pub fn upper_row(rows: &mut [i32], h: usize, word: &[u8])
+    requires { ⌜ (h + h + (h + h) ≤ length (now rows)) × (h ≤ length (now word)) × (sizes (rowOf (h + h) (now rows)) < 2 ^ 31) ⌝ }
+    ensures { λ _. ⌜ now (rows .exit) ≡ withRow h (now (rows .entry)) (upperRow h (rowOf (h + h) (now (rows .entry))) (take h (now (word .entry)))) ⌝ }
+{
+    for j in 0..h {
+        let x = rows[h + h + j];
+        let y = rows[h + h + (h + j)];
+        rows[h + j] = upper(x, y, word[j]);
+    }
+}
+
+// The row of h sums for the lower half, from 2h readings.
+pub fn lower_top(readings: &[i16], rows: &mut [i32], h: usize)
+    requires { ⌜ (length (now readings) ≡ h + h) × (h + h ≤ length (now rows)) ⌝ }
+    ensures { λ _. ⌜ now (rows .exit) ≡ withRow h (now (rows .entry)) (lowerRow h (now (readings .entry))) ⌝ }
+{
+    for j in 0..h {
+        let x = readings[j] as i32;
+        let y = readings[h + j] as i32;
+        rows[h + j] = lower(x, y);
+    }
+}
+
+// The row of h sums for the upper half, from 2h readings and the lower half's word.
+pub fn upper_top(readings: &[i16], rows: &mut [i32], h: usize, word: &[u8])
+    requires { ⌜ (length (now readings) ≡ h + h) × (h + h ≤ length (now rows)) × (h ≤ length (now word)) ⌝ }
+    ensures { λ _. ⌜ now (rows .exit) ≡ withRow h (now (rows .entry)) (upperRow h (now (readings .entry)) (take h (now (word .entry)))) ⌝ }
+{
+    for j in 0..h {
+        let x = readings[j] as i32;
+        let y = readings[h + j] as i32;
+        rows[h + j] = upper(x, y, word[j]);
+    }
 }

@@ -67,6 +67,13 @@ bits-append [] y h k i = k i
 bits-append (a ∷ x) y h k zero = h 0
 bits-append (a ∷ x) y h k (suc i) = bits-append x y (λ n. h (suc n)) k i
 
+-- one bit more
+pub bits-more : (u : List ℕ) (b : ℕ) → Bits u → b < 2 → Bits (u ++ b ∷ [])
+bits-more [] b h k zero = k
+bits-more [] b h k (suc i) = omega arith
+bits-more (a ∷ u) b h k zero = h 0
+bits-more (a ∷ u) b h k (suc i) = bits-more u b (λ j. h (suc j)) k i
+
 pub bits-take : (n : ℕ) (x : List ℕ) → Bits x → Bits (take n x)
 bits-take zero x h i = omega arith
 bits-take (suc n) [] h i = omega arith

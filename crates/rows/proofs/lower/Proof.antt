@@ -10,7 +10,7 @@ use mir.Syntax.{w32}
 use mir.Val.{toZ, SFits}
 use mir.Facts.{toZ-ofZ}
 use Rattle.numbers.specs.PartsLaws.{parts, sum-parts, negated, less-parts, not-less-parts, fits-size}
-use Rattle.rows.specs.SignLaws.{lower-same, lower-differ}
+use Rattle.decoding.specs.StepLaws.{lower-same, lower-differ}
 use Rattle.rows.proofs.lower.Statement.{statement}
 use Rattle.rows.proofs.lower.Tie as tie
 
