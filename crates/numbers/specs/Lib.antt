@@ -2,8 +2,7 @@ pub mod Parts
 pub mod Sums
 pub mod Least
 pub mod LeastLaws
-pub mod Among
-pub mod AmongLaws
+pub mod EntryLaws
 pub mod Choice
 pub mod PartsLaws
 pub mod Halves
