@@ -6,7 +6,7 @@ use mathlib.Core.List.{List·Memᴰ, List·Memᴰ·head, List·Memᴰ·append-ca
 use Prim.Native.Nat.{ℕ, zero, suc, _+_, _^_, _%_, _<_}
 use native.Mathlib.Omega.{arith}
 use native.Mathlib.Nat.{suc-inj, suc-ne-zero, zero-add, two-pow-succ}
-use lib.ListN.{length, length-append, length-map}
+use lib.ListN.{length, replicate, length-append, length-map}
 use Rattle.numbers.specs.Sums.{sum}
 use Rattle.numbers.specs.Halves.{map-append}
 use Rattle.words.specs.Bits.{Bits, xors}
@@ -79,6 +79,12 @@ fill-xors (suc k ∷ ks) [] [] e = ap (λ (l : List ℕ). 0 ∷ l) (fill-xors ks
 fill-xors (suc k ∷ ks) [] (y ∷ b) e = absurd (suc-ne-zero (length b) (sym e))
 fill-xors (suc k ∷ ks) (x ∷ a) [] e = absurd (suc-ne-zero (length a) e)
 fill-xors (suc k ∷ ks) (x ∷ a) (y ∷ b) e = ap (λ (l : List ℕ). (x + y) % 2 ∷ l) (fill-xors ks a b (suc-inj e))
+
+pub fill-zeros : (ks : List ℕ) (n : ℕ) → fill ks (replicate n 0) ≡ replicate (length ks) 0
+fill-zeros [] n = refl
+fill-zeros (zero ∷ ks) n = ap (λ (l : List ℕ). 0 ∷ l) (fill-zeros ks n)
+fill-zeros (suc k ∷ ks) zero = ap (λ (l : List ℕ). 0 ∷ l) (fill-zeros ks 0)
+fill-zeros (suc k ∷ ks) (suc n) = ap (λ (l : List ℕ). 0 ∷ l) (fill-zeros ks n)
 
 pub pick-xors : (ks u v : List ℕ) → length u ≡ length v → pick ks (xors u v) ≡ xors (pick ks u) (pick ks v)
 pick-xors [] u v e = refl

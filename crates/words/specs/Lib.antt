@@ -8,3 +8,4 @@ pub mod BitLaws
 pub mod Rows
 pub mod KindLaws
 pub mod FillLaws
+pub mod InverseLaws

@@ -4,7 +4,7 @@ use mathlib.Core.List.{List, [], _∷_, _++_}
 use Prim.Native.Nat.{ℕ, zero, suc, _+_, _^_, _%_, _<_}
 use native.Mathlib.Omega.{arith}
 use native.Mathlib.Nat.{suc-inj, suc-ne-zero, add-mod, two-pow-succ}
-use lib.ListN.{length, getD, take, drop, length-append, take-append-drop}
+use lib.ListN.{length, getD, take, drop, replicate, length-append, length-replicate, take-append-drop}
 use lib.Seq.{take-at, drop-at, getD-drop}
 use Rattle.numbers.specs.Halves.{length-first, length-second}
 use Rattle.words.specs.Bits.{Bits, xors}
@@ -90,6 +90,18 @@ getD-xors (a ∷ x) [] i e = absurd (suc-ne-zero (length x) e)
 getD-xors (a ∷ x) (b ∷ y) zero e = refl
 getD-xors (a ∷ x) (b ∷ y) (suc i) e = getD-xors x y i (suc-inj e)
 
+-- a row added to itself is the zero row
+pub xors-self : (x : List ℕ) → xors x x ≡ replicate (length x) 0
+xors-self [] = refl
+xors-self (a ∷ x) =
+    let e : (a + a) % 2 ≡ 0 = omega arith in
+    ap₂ _∷_ e (xors-self x)
+
+pub bits-zeros : (n : ℕ) → Bits (replicate n 0)
+bits-zeros zero i = omega arith
+bits-zeros (suc n) zero = omega arith
+bits-zeros (suc n) (suc i) = bits-zeros n i
+
 -- ---- the transform
 pub length-transform : (m : ℕ) (x : List ℕ) → length x ≡ 2 ^ m → length (transform m x) ≡ 2 ^ m
 unfolding transform
@@ -124,6 +136,13 @@ transform-xors (suc m) x y e f =
     (ap (λ (l : List ℕ). l ++ xors (transform m xb) (transform m yb)) (xors-swap (transform m xa) (transform m ya) (transform m xb) (transform m yb) (lxa ∙ sym lya) (lxa ∙ sym lxb) (lxa ∙ sym lyb))
     ∙ sym (xors-append (xors (transform m xa) (transform m xb)) (transform m xb) (xors (transform m ya) (transform m yb)) (transform m yb)
     (length-xors (transform m xa) (transform m xb) (lxa ∙ sym lxb) ∙ lxa ∙ sym (length-xors (transform m ya) (transform m yb) (lya ∙ sym lyb) ∙ lya))))
+
+pub transform-zeros : (m : ℕ) → transform m (replicate (2 ^ m) 0) ≡ replicate (2 ^ m) 0
+transform-zeros m =
+    let z : List ℕ = replicate (2 ^ m) 0 in
+    let l : length z ≡ 2 ^ m = length-replicate (2 ^ m) 0 in
+    ap (transform m) (sym (xors-self z ∙ ap (λ (n : ℕ). replicate n 0) l)) ∙ transform-xors m z z l l
+    ∙ xors-self (transform m z) ∙ ap (λ (n : ℕ). replicate n 0) (length-transform m z l)
 
 -- its own inverse
 pub transform-twice : (m : ℕ) (x : List ℕ) → length x ≡ 2 ^ m → Bits x → transform m (transform m x) ≡ x
