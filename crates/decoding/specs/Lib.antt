@@ -9,4 +9,6 @@ pub mod StepLaws
 pub mod PathLaws
 pub mod CorrelationLaws
 pub mod TurnLaws
+pub mod HeldLaws
 pub mod TurnedWalk
+pub mod AllOnes
