@@ -7,6 +7,7 @@ pub mod Answer
 pub mod BenchFigures
 pub mod StepLaws
 pub mod PathLaws
+pub mod BestLaws
 pub mod CorrelationLaws
 pub mod TurnLaws
 pub mod HeldLaws

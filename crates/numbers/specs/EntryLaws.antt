@@ -5,7 +5,9 @@ use mathlib.Core.List.{List, [], _∷_, _++_, map, Memᴰ·cast, Memᴰ·of-map}
 use mathlib.Core.List.{List·Memᴰ, List·Memᴰ·head, List·Memᴰ·tail, List·Memᴰ·cases-cons, List·Memᴰ·not-nil, List·Memᴰ·append-cases}
 use Prim.Native.Nat.{ℕ, zero, suc, _+_, _≤_, _<_, min, zero-le}
 use native.Mathlib.Omega.{arith}
+use native.Mathlib.Nat.{not-suc-le-zero, zero-lt-suc}
 use native.Mathlib.Decide.{ℕ-discrete}
+use lib.ListN.{length}
 use borrow.Author.Tests.{eq-eqb, ne-eqb}
 use Rattle.numbers.specs.Choice.{lt-or-le}
 use Rattle.numbers.specs.Sums.{sum}
@@ -40,15 +42,16 @@ least-below x [] h = absurd (List·Memᴰ·not-nil h)
 least-below x (y ∷ []) h = ⊎-elim (λ e. omega arith) (λ i. absurd (List·Memᴰ·not-nil i)) (List·Memᴰ·cases-cons h)
 least-below x (y ∷ z ∷ l) h = ⊎-elim (λ e. omega arith) (λ i. omega (arith, least-below x (z ∷ l) i)) (List·Memᴰ·cases-cons h)
 
-pub least-entry : (x : ℕ) (l : List ℕ) → List·Memᴰ (least (x ∷ l)) (x ∷ l)
+pub least-entry : (l : List ℕ) → 0 < length l → List·Memᴰ (least l) l
 unfolding least
-least-entry x [] = List·Memᴰ·head refl
-least-entry x (y ∷ l) =
+least-entry [] h = absurd (not-suc-le-zero h)
+least-entry (x ∷ []) h = List·Memᴰ·head refl
+least-entry (x ∷ y ∷ l) h =
     let a = least (y ∷ l) in
     ⊎-elim
     (λ k.
     let e : min x a ≡ a = omega arith in
-    rw e (List·Memᴰ·tail (least-entry y l)))
+    rw e (List·Memᴰ·tail (least-entry (y ∷ l) (zero-lt-suc (length l)))))
     (λ k.
     let e : min x a ≡ x = omega arith in
     rw e (List·Memᴰ·head refl))

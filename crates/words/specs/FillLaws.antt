@@ -2,13 +2,14 @@
 use mathlib.Core.Path.{_≡_, refl, ap, ap₂, sym, subst, _∙_}
 use mathlib.Core.Logic.{⊎-elim}
 use mathlib.Core.List.{List, [], _∷_, _++_, map, map-map, Memᴰ·cast, Memᴰ·append-left, Memᴰ·append-right, Memᴰ·map, Memᴰ·of-map}
-use mathlib.Core.List.{List·Memᴰ, List·Memᴰ·head, List·Memᴰ·append-cases, List·Memᴰ·eq-of-singleton}
+use mathlib.Core.List.{List·Memᴰ, List·Memᴰ·head, List·Memᴰ·append-cases, List·Memᴰ·eq-of-singleton, List·Memᴰ·not-nil, head-eq-of-cons-eq, tail-eq-of-cons-eq}
 use Prim.Native.Nat.{ℕ, zero, suc, _+_, _^_, _%_, _<_}
 use native.Mathlib.Omega.{arith}
 use native.Mathlib.Nat.{suc-inj, suc-ne-zero, zero-add, two-pow-succ}
 use lib.ListN.{length, replicate, length-append, length-map}
 use Rattle.numbers.specs.Sums.{sum}
 use Rattle.numbers.specs.Halves.{map-append}
+use Rattle.numbers.specs.EntryLaws.{Distinct, distinct-append, distinct-map}
 use Rattle.words.specs.Bits.{Bits, xors}
 use Rattle.words.specs.Kinds.{fill, pick, allBits}
 use Rattle.words.specs.TransformLaws.{getD-xors}
@@ -135,6 +136,19 @@ of-allBits (suc k) b m =
     (row-mapped k 0 b (allBits k) (omega arith) (of-allBits k))
     (row-mapped k 1 b (allBits k) (omega arith) (of-allBits k))
     (List·Memᴰ·append-cases (map (λ u. 0 ∷ u) (allBits k)) m)
+
+-- each once
+pub distinct-allBits : (k : ℕ) → Distinct (allBits k)
+unfolding allBits
+distinct-allBits zero = (List·Memᴰ·not-nil, tt)
+distinct-allBits (suc k) =
+    let all = allBits k in
+    let each : (a : ℕ) → Distinct (map (λ u. a ∷ u) all) = λ a. distinct-map (λ u. a ∷ u) (λ x y e. tail-eq-of-cons-eq e) all (distinct-allBits k) in
+    distinct-append (map (λ u. 0 ∷ u) all) (map (λ u. 1 ∷ u) all) (each 0) (each 1)
+    (λ x i j.
+    let p = Memᴰ·of-map (λ u. 0 ∷ u) all i in
+    let q = Memᴰ·of-map (λ u. 1 ∷ u) all j in
+    suc-ne-zero 0 (head-eq-of-cons-eq (q .2 ∙ sym (p .2))))
 
 -- ---- all information bits fill all rows that are 0 at every frozen index, in the same order
 pub fill-allBits : (ks : List ℕ) → Bits ks → map (fill ks) (allBits (sum ks)) ≡ rowsOf ks
