@@ -1,0 +1,220 @@
+-- Laws of the layout: packing and unpacking are inverse to each other; lengths; one reading by its number.
+use mathlib.Core.Path.{_≡_, refl, ap, sym, _∙_}
+use mathlib.Core.List.{List, [], _∷_, _++_}
+use mathlib.Core.Logic.{⊎-elim}
+use Prim.Native.Nat.{ℕ, zero, suc, _+_, _-_, _*_, _/_, _%_, _^_, _≤_, _<_}
+use native.Mathlib.Omega.{arith}
+use native.Mathlib.Nat.{two-pow-succ}
+use lib.IntN.{ℤ, pos, negsuc, _-ℤ_}
+use lib.ListN.{length, getD}
+use lib.Dec.{ltb}
+use borrow.Author.Tests.{lt-ltb, le-ltb}
+use Rattle.numbers.specs.Choice.{lt-or-le}
+use Rattle.numbers.specs.PartsLaws.{by-parts, sum-parts}
+use Rattle.record.specs.Layout.{bytes, nibbles, field, reading, spread, gathered, recordOf, packed, unpacked, partLength, padOf}
+
+-- every entry is below b
+abbrev pub Below : ℕ → List ℕ → Type 0
+Below b l = (i : ℕ) → getD l i 0 < b
+
+-- a 12-bit field holds -2,048 to 2,047
+abbrev pub Held : ℤ → Type 0
+Held (pos n) = n < 2048
+Held (negsuc n) = n < 2048
+
+pub field-below : (x : ℤ) → Held x → field x < 4096
+field-below (pos n) h = omega arith
+field-below (negsuc n) h = omega arith
+
+pub reading-field : (x : ℤ) → Held x → reading (field x) ≡ x
+reading-field (pos n) h = rw (lt-ltb n 2048 h)
+reading-field (negsuc n) h = rw (le-ltb (4095 - n) 2048 (omega arith)) (ap negsuc (omega arith))
+
+pub field-reading : (f : ℕ) → f < 4096 → field (reading f) ≡ f
+field-reading f h =
+    ⊎-elim (λ k. rw (lt-ltb f 2048 k)) (λ k. rw (le-ltb f 2048 k) (omega arith)) (lt-or-le f 2048)
+
+-- Nibbles that fill a byte up: none, or one 0.
+abbrev fill : List ℕ → List ℕ
+fill [] = []
+fill (a ∷ []) = 0 ∷ []
+fill (a ∷ b ∷ d) = fill d
+
+nibbles-bytes : (d : List ℕ) → Below 16 d → nibbles (bytes d) ≡ d ++ fill d
+nibbles-bytes [] h = refl
+nibbles-bytes (a ∷ []) h =
+    let e : 16 * a / 16 ≡ a = omega arith in
+    let z : 16 * a % 16 ≡ 0 = omega arith in
+    rw (e, z)
+nibbles-bytes (a ∷ b ∷ d) h =
+    let e : (16 * a + b) / 16 ≡ a = omega (arith, h 1) in
+    let z : (16 * a + b) % 16 ≡ b = omega (arith, h 1) in
+    rw (e, z) (ap (λ (l : List ℕ). a ∷ b ∷ l) (nibbles-bytes d (λ i. h (suc (suc i)))))
+
+bytes-nibbles : (p : List ℕ) → bytes (nibbles p) ≡ p
+bytes-nibbles [] = refl
+bytes-nibbles (x ∷ p) =
+    let e : 16 * (x / 16) + x % 16 ≡ x = omega arith in
+    rw e (ap (λ (l : List ℕ). x ∷ l) (bytes-nibbles p))
+
+-- no entries that are not there can be too large
+below-nil : (b : ℕ) → Below (suc b) []
+below-nil b i = omega arith
+
+nibbles-below : (p : List ℕ) → Below 256 p → Below 16 (nibbles p)
+nibbles-below [] h i = below-nil 15 i
+nibbles-below (x ∷ p) h zero = omega (arith, h 0)
+nibbles-below (x ∷ p) h (suc zero) = omega arith
+nibbles-below (x ∷ p) h (suc (suc i)) = nibbles-below p (λ j. h (suc j)) i
+
+length-nibbles : (p : List ℕ) → length (nibbles p) ≡ 2 * length p
+length-nibbles [] = refl
+length-nibbles (x ∷ p) = omega (arith, length-nibbles p)
+
+-- every reading fits its field
+abbrev pub AllHeld : List ℤ → Type 0
+AllHeld l = (i : ℕ) → Held (getD l i (pos 0))
+
+spread-below : (l : List ℤ) → AllHeld l → Below 16 (spread l)
+spread-below [] h i = below-nil 15 i
+spread-below (x ∷ l) h zero = omega (arith, field-below x (h 0))
+spread-below (x ∷ l) h (suc zero) = omega arith
+spread-below (x ∷ l) h (suc (suc zero)) = omega arith
+spread-below (x ∷ l) h (suc (suc (suc i))) = spread-below l (λ j. h (suc j)) i
+
+length-spread : (l : List ℤ) → length (spread l) ≡ 3 * length l
+length-spread [] = refl
+length-spread (x ∷ l) = omega (arith, length-spread l)
+
+fill-short : (d : List ℕ) → length (fill d) < 2
+fill-short [] = omega arith
+fill-short (a ∷ []) = omega arith
+fill-short (a ∷ b ∷ d) = fill-short d
+
+gathered-spread : (l : List ℤ) (z : List ℕ) → AllHeld l → length z < 2 → gathered (spread l ++ z) ≡ l
+gathered-spread [] [] h k = refl
+gathered-spread [] (a ∷ []) h k = refl
+gathered-spread [] (a ∷ b ∷ z) h k = absurd (omega arith)
+gathered-spread (x ∷ l) z h k =
+    let e : 256 * (field x / 256) + 16 * (field x / 16 % 16) + field x % 16 ≡ field x = omega arith in
+    rw (e, reading-field x (h 0)) (ap (λ (t : List ℤ). x ∷ t) (gathered-spread l z (λ i. h (suc i)) k))
+
+-- packing and then unpacking gives the same readings
+pub unpacked-packed : (l : List ℤ) → AllHeld l → unpacked (packed l) ≡ l
+unfolding packed unpacked
+unpacked-packed l h = rw (nibbles-bytes (spread l) (spread-below l h)) (gathered-spread l (fill (spread l)) h (fill-short (spread l)))
+
+-- three nibbles of a field that is made of three nibbles
+spread-gathered : (k : ℕ) (d : List ℕ) → length d ≡ 3 * k → Below 16 d → spread (gathered d) ≡ d
+spread-gathered zero [] e h = refl
+spread-gathered zero (a ∷ d) e h = absurd (omega arith)
+spread-gathered (suc k) [] e h = absurd (omega arith)
+spread-gathered (suc k) (a ∷ []) e h = absurd (omega arith)
+spread-gathered (suc k) (a ∷ b ∷ []) e h = absurd (omega arith)
+spread-gathered (suc k) (a ∷ b ∷ c ∷ d) e h =
+    let f = 256 * a + 16 * b + c in
+    let x : f / 256 ≡ a = omega (arith, h 1, h 2) in
+    let y : f / 16 % 16 ≡ b = omega (arith, h 1, h 2) in
+    let z : f % 16 ≡ c = omega (arith, h 2) in
+    rw (field-reading f (omega (arith, h 0, h 1, h 2)), x, y, z)
+    (ap (λ (t : List ℕ). a ∷ b ∷ c ∷ t) (spread-gathered k d (omega arith) (λ i. h (suc (suc (suc i))))))
+
+six : (t : ℕ) → (3 * (t + t) + 1) / 2 ≡ 3 * t
+six t = omega arith
+
+-- unpacking a part with no pad bit set, and then packing, gives the same bytes
+pub packed-unpacked : (m : ℕ) (p : List ℕ) → length p ≡ partLength m → Below 256 p → padOf m p ≡ 0 → packed (unpacked p) ≡ p
+unfolding packed unpacked partLength padOf
+packed-unpacked zero [] e h z = absurd (omega arith)
+packed-unpacked zero (x ∷ []) e h z = absurd (omega arith)
+packed-unpacked zero (x ∷ y ∷ []) e h z =
+    let f = 256 * (x / 16) + 16 * (x % 16) + y / 16 in
+    let a : f / 256 ≡ x / 16 = omega (arith, h 1) in
+    let b : f / 16 % 16 ≡ x % 16 = omega (arith, h 1) in
+    let c : f % 16 ≡ y / 16 = omega (arith, h 1) in
+    let d : 16 * (x / 16) + x % 16 ≡ x = omega arith in
+    let g : 16 * (y / 16) ≡ y = omega arith in
+    rw (field-reading f (omega (arith, h 0, h 1)), a, b, c, d, g)
+packed-unpacked zero (x ∷ y ∷ w ∷ p) e h z = absurd (omega arith)
+packed-unpacked (suc m) p e h z =
+    let t : (3 * 2 ^ suc m + 1) / 2 ≡ 3 * 2 ^ m = rw (two-pow-succ m) (six (2 ^ m)) in
+    rw (spread-gathered (2 ^ suc m) (nibbles p) (omega (arith, length-nibbles p, two-pow-succ m)) (nibbles-below p h)) (bytes-nibbles p)
+
+length-bytes : (d : List ℕ) → length (bytes d) ≡ (length d + 1) / 2
+length-bytes [] = omega arith
+length-bytes (a ∷ []) = omega arith
+length-bytes (a ∷ b ∷ d) = omega (arith, length-bytes d)
+
+pub length-packed : (m : ℕ) (l : List ℤ) → length l ≡ 2 ^ m → length (packed l) ≡ partLength m
+unfolding packed partLength
+length-packed m l e = omega (arith, length-bytes (spread l), length-spread l)
+
+length-gathered : (d : List ℕ) → length (gathered d) ≡ length d / 3
+length-gathered [] = omega arith
+length-gathered (a ∷ []) = omega arith
+length-gathered (a ∷ b ∷ []) = omega arith
+length-gathered (a ∷ b ∷ c ∷ d) = omega (arith, length-gathered d)
+
+pub length-unpacked : (p : List ℕ) → length (unpacked p) ≡ 2 * length p / 3
+unfolding unpacked
+length-unpacked p = omega (arith, length-gathered (nibbles p), length-nibbles p)
+
+pub length-readings : (m : ℕ) (p : List ℕ) → length p ≡ partLength m → length (unpacked p) ≡ 2 ^ m
+unfolding partLength
+length-readings m p e = omega (arith, length-unpacked p)
+
+-- two readings stand in three bytes: reading 2k, and reading 2k + 1
+reading-even : (k : ℕ) (p : List ℕ) → 3 * k + 2 ≤ length p
+    → getD (unpacked p) (2 * k) (pos 0) ≡ reading (16 * getD p (3 * k) 0 + getD p (3 * k + 1) 0 / 16)
+unfolding unpacked
+reading-even zero [] h = absurd (omega arith)
+reading-even zero (x ∷ []) h = absurd (omega arith)
+reading-even zero (x ∷ y ∷ p) h =
+    let e : 256 * (x / 16) + 16 * (x % 16) + y / 16 ≡ 16 * x + y / 16 = omega arith in
+    rw e
+reading-even (suc k) [] h = absurd (omega arith)
+reading-even (suc k) (x ∷ []) h = absurd (omega arith)
+reading-even (suc k) (x ∷ y ∷ []) h = absurd (omega arith)
+reading-even (suc k) (x ∷ y ∷ z ∷ p) h =
+    let d : 2 * suc k ≡ suc (suc (2 * k)) = omega arith in
+    let e : 3 * suc k ≡ suc (suc (suc (3 * k))) = omega arith in
+    let f : suc (suc (suc (3 * k))) + 1 ≡ suc (suc (suc (3 * k + 1))) = omega arith in
+    rw (d, e, f) (reading-even k p (omega arith))
+
+reading-odd : (k : ℕ) (p : List ℕ) → 3 * k + 3 ≤ length p
+    → getD (unpacked p) (2 * k + 1) (pos 0) ≡ reading (256 * (getD p (3 * k + 1) 0 % 16) + getD p (3 * k + 2) 0)
+unfolding unpacked
+reading-odd zero [] h = absurd (omega arith)
+reading-odd zero (x ∷ []) h = absurd (omega arith)
+reading-odd zero (x ∷ y ∷ []) h = absurd (omega arith)
+reading-odd zero (x ∷ y ∷ z ∷ p) h =
+    let e : 256 * (y % 16) + 16 * (z / 16) + z % 16 ≡ 256 * (y % 16) + z = omega arith in
+    rw e
+reading-odd (suc k) [] h = absurd (omega arith)
+reading-odd (suc k) (x ∷ []) h = absurd (omega arith)
+reading-odd (suc k) (x ∷ y ∷ []) h = absurd (omega arith)
+reading-odd (suc k) (x ∷ y ∷ z ∷ p) h =
+    let d : 2 * suc k + 1 ≡ suc (suc (2 * k + 1)) = omega arith in
+    let e : 3 * suc k + 1 ≡ suc (suc (suc (3 * k + 1))) = omega arith in
+    let f : 3 * suc k + 2 ≡ suc (suc (suc (3 * k + 2))) = omega arith in
+    rw (d, e, f) (reading-odd k p (omega arith))
+
+-- reading number j, by its bytes
+module _ (p : List ℕ) (j : ℕ) (h : 3 * j + 3 ≤ 2 * length p) where
+  pub even-reading : j % 2 ≡ 0 → getD (unpacked p) j (pos 0) ≡ reading (getD p (j / 2 * 3) 0 * 16 + getD p (j / 2 * 3 + 1) 0 / 16)
+  even-reading e =
+      let a : 2 * (j / 2) ≡ j = omega arith in
+      let b : 3 * (j / 2) ≡ j / 2 * 3 = omega arith in
+      let d : 16 * getD p (j / 2 * 3) 0 ≡ getD p (j / 2 * 3) 0 * 16 = omega arith in
+      rw (a, b, d) at (reading-even (j / 2) p (omega arith))
+
+  pub odd-reading : (j % 2 ≡ 0 → ⊥) → getD (unpacked p) j (pos 0) ≡ reading (getD p (j / 2 * 3 + 1) 0 % 16 * 256 + getD p (j / 2 * 3 + 2) 0)
+  odd-reading e =
+      let a : 2 * (j / 2) + 1 ≡ j = omega arith in
+      let b : 3 * (j / 2) ≡ j / 2 * 3 = omega arith in
+      let d : 256 * (getD p (j / 2 * 3 + 1) 0 % 16) ≡ getD p (j / 2 * 3 + 1) 0 % 16 * 256 = omega arith in
+      rw (a, b, d) at (reading-odd (j / 2) p (omega arith))
+
+-- a field with its sign bit set, as code computes it
+pub below-zero : (f : ℕ) → f < 4096 → pos f -ℤ pos 4096 ≡ negsuc (4095 - f)
+below-zero f h = by-parts (pos f -ℤ pos 4096) (negsuc (4095 - f)) (omega (arith, sum-parts (pos f) (negsuc 4095)))
