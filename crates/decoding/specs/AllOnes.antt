@@ -13,9 +13,9 @@ use Rattle.numbers.specs.Choice.{cond-two, lt-or-le}
 use Rattle.numbers.specs.Halves.{length-more}
 use Rattle.words.specs.Bits.{Bits, xors}
 use Rattle.words.specs.Word.{transform}
-use Rattle.words.specs.Kinds.{fill, Word}
-use Rattle.words.specs.TransformLaws.{length-xors, getD-xors, bits-more, length-transform, transform-twice}
-use Rattle.words.specs.FillLaws.{length-fill, bits-fill, frozen-fill}
+use Rattle.words.specs.Kinds.{Word}
+use Rattle.words.specs.TransformLaws.{length-xors, getD-xors, bits-more, length-transform, bits-transform, transform-twice}
+use Rattle.words.specs.InverseLaws.{word-length, word-bits, word-frozen}
 use Rattle.decoding.specs.Readings.{loss, turn, turns}
 use Rattle.decoding.specs.Quick.{hard}
 use Rattle.decoding.specs.Walk.{value, State, start, dropped, visited, finished, extend, walk, walked, needed}
@@ -125,13 +125,12 @@ module _ (m : ℕ) (ks : List ℕ) (l : List ℤ) (g : length ks ≡ 2 ^ m) (e :
   pub walked-negated : bare (walked m ks (turns (allOnes m) l)) ≡ bare (walked m ks l)
   unfolding walked
   walked-negated =
-      let v = fill ks (w .bits) in
-      let f : length v ≡ 2 ^ m = length-fill ks (w .bits) ∙ g in
-      let bits = bits-fill ks (w .bits) (w .are-bits) in
-      let row : transform m (allOnes m) ≡ v = ap (transform m) (sym (w .gives)) ∙ transform-twice m v f bits in
-      let early : (i : ℕ) → suc i < 2 ^ m → getD v i 0 ≡ 0 = λ i h. rw row at (ones-early m i h) in
-      ap (λ (c : List ℕ). bare (walk m (turns c l) ks [] 0 start)) (sym (w .gives))
-      ∙ walk-early m l v e f bits early ks [] 0 start start (omega arith) (λ i. omega arith) (λ i k. rw zero-add (frozen-fill ks (w .bits) i k)) refl
+      let v = transform m (allOnes m) in
+      let long = word-length m ks (allOnes m) g w in
+      let bits = word-bits m ks (allOnes m) g w in
+      ap (λ (c : List ℕ). bare (walk m (turns c l) ks [] 0 start)) (sym (transform-twice m (allOnes m) long bits))
+      ∙ walk-early m l v e (length-transform m (allOnes m) long) (bits-transform m (allOnes m) bits) (ones-early m) ks [] 0 start start
+      (omega arith) (λ i. omega arith) (λ i k. rw zero-add (word-frozen m ks (allOnes m) g w i k)) refl
 
   -- the same visits
   pub needed-negated : needed m ks (turns (allOnes m) l) ≡ needed m ks l

@@ -12,4 +12,5 @@ pub mod CorrelationLaws
 pub mod TurnLaws
 pub mod HeldLaws
 pub mod TurnedWalk
+pub mod TurnedBest
 pub mod AllOnes

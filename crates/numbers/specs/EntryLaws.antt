@@ -1,5 +1,5 @@
 -- Laws of a list's entries: a list without repeats, and what the least number is to the entries.
-use mathlib.Core.Path.{_≡_, refl, ap, sym, _∙_}
+use mathlib.Core.Path.{_≡_, refl, ap, ap₂, sym, _∙_}
 use mathlib.Core.Logic.{⊎-elim}
 use mathlib.Core.List.{List, [], _∷_, _++_, map, Memᴰ·cast, Memᴰ·of-map}
 use mathlib.Core.List.{List·Memᴰ, List·Memᴰ·head, List·Memᴰ·tail, List·Memᴰ·cases-cons, List·Memᴰ·not-nil, List·Memᴰ·append-cases}
@@ -34,6 +34,11 @@ distinct-map f one (x ∷ l) h = (
       h .0 (Memᴰ·cast (one x (r .0) (sym (r .2))) (r .1)),
   distinct-map f one l (h .1),
 )
+
+-- two functions that agree at the entries
+pub map-same : {A B : Type 0} (f g : A → B) (l : List A) → ((x : A) → List·Memᴰ x l → f x ≡ g x) → map f l ≡ map g l
+map-same f g [] h = refl
+map-same f g (x ∷ l) h = ap₂ _∷_ (h x (List·Memᴰ·head refl)) (map-same f g l (λ y m. h y (List·Memᴰ·tail m)))
 
 -- ---- the least number and the entries
 pub least-below : (x : ℕ) (l : List ℕ) → List·Memᴰ x l → least l ≤ x

@@ -132,3 +132,24 @@ pub least-le-next : (l : List ℕ) → 2 ≤ length l → least l ≤ next l
 least-le-next l h =
     let k = least-two l h in
     k .first (next l) .0 (omega (arith, k .second (next l) .1 (le-refl (next l))))
+
+-- ---- reordered lists have the same least number and the same next one
+least-next-reordered : (l l′ : List ℕ) → Reordered l l′ → (least l ≡ least l′) × (next l ≡ next l′)
+unfolding sum
+least-next-reordered [] [] r = (refl, refl)
+least-next-reordered [] (y ∷ l′) r = absurd (omega (arith, length-reordered [] (y ∷ l′) r))
+least-next-reordered (x ∷ []) [] r = absurd (omega (arith, length-reordered (x ∷ []) [] r))
+least-next-reordered (x ∷ []) (y ∷ []) r =
+    let same : x ≡ y = omega (arith, r (λ z. z)) in
+    (ap (λ (z : ℕ). least (z ∷ [])) same, ap (λ (z : ℕ). next (z ∷ [])) same)
+least-next-reordered (x ∷ []) (y ∷ z ∷ l′) r = absurd (omega (arith, length-reordered (x ∷ []) (y ∷ z ∷ l′) r))
+least-next-reordered (x ∷ y ∷ l) l′ r =
+    let two = least-two-reordered (x ∷ y ∷ l) l′ r (least-two (x ∷ y ∷ l) (omega arith)) in
+    let long = length-reordered (x ∷ y ∷ l) l′ r in
+    (sym (least-is l′ (omega arith) two), sym (next-is l′ (omega arith) two))
+
+pub least-reordered : (l l′ : List ℕ) → Reordered l l′ → least l ≡ least l′
+least-reordered l l′ r = least-next-reordered l l′ r .0
+
+pub next-reordered : (l l′ : List ℕ) → Reordered l l′ → next l ≡ next l′
+next-reordered l l′ r = least-next-reordered l l′ r .1

@@ -154,6 +154,9 @@ pub taken-encoded : (m : ℕ) (ks b : List ℕ) → length ks ≡ 2 ^ m → Bits
 taken-encoded m ks b e h l c = word-taken m ks (encoded m ks b) e h (record { bits = b; long = l; are-bits = c; gives = refl })
 
 -- ---- words form a linear code
+pub encoded-xors : (m : ℕ) (ks a b : List ℕ) → length ks ≡ 2 ^ m → length a ≡ length b → encoded m ks (xors a b) ≡ xors (encoded m ks a) (encoded m ks b)
+encoded-xors m ks a b e l = ap (transform m) (fill-xors ks a b l) ∙ transform-xors m (fill ks a) (fill ks b) (length-fill ks a ∙ e) (length-fill ks b ∙ e)
+
 pub word-xors : (m : ℕ) (ks x y : List ℕ) → length ks ≡ 2 ^ m → Word m ks x → Word m ks y → Word m ks (xors x y)
 word-xors m ks x y e v w =
     let a = v .bits in
@@ -163,9 +166,7 @@ word-xors m ks x y e v w =
       bits = xors a b;
       long = length-xors a b l ∙ v .long;
       are-bits = bits-xors a b;
-      gives = ap (transform m) (fill-xors ks a b l)
-          ∙ transform-xors m (fill ks a) (fill ks b) (length-fill ks a ∙ e) (length-fill ks b ∙ e)
-          ∙ ap₂ xors (v .gives) (w .gives);
+      gives = encoded-xors m ks a b e l ∙ ap₂ xors (v .gives) (w .gives);
     }
 
 pub word-zeros : (m : ℕ) (ks : List ℕ) → length ks ≡ 2 ^ m → Word m ks (replicate (2 ^ m) 0)
