@@ -3,7 +3,7 @@ use mathlib.Core.Path.{_≡_, refl, ap, ap₂, sym, subst, _∙_}
 use mathlib.Core.Logic.{⊎-elim}
 use Prim.Native.Nat.{ℕ, zero, suc, _+_, _-_, _*_, _^_, _≤_, _<_}
 use native.Mathlib.Omega.{arith}
-use native.Mathlib.Nat.{two-pow-succ, mul-add-div-right, add-div-left, div-eq-of-lt, zero-add}
+use native.Mathlib.Nat.{two-pow-succ, mul-add-div-right, add-div-left, div-eq-of-lt, le-refl, le-of-lt}
 use lib.Pow.{pow-pos, pow-add}
 use lib.Count as Count
 use Rattle.numbers.specs.Choice.{lt-or-le}
@@ -27,16 +27,19 @@ unfolding digit
 digit-second m i h = rw (add-div-left i (pow-pos m), div-eq-of-lt)
 
 -- a power of two above a digit does not change it
-pub digit-below : (p j i : ℕ) → digit p (2 ^ (suc j + p) + i) ≡ digit p i
+digit-above : (p j i : ℕ) → digit p (2 ^ (suc j + p) + i) ≡ digit p i
 unfolding digit
-digit-below p j i = rw (pow-add 2 (suc j) p, mul-add-div-right (pow-pos p) (2 ^ suc j) i) (omega (arith, two-pow-succ j))
+digit-above p j i = rw (pow-add 2 (suc j) p, mul-add-div-right (pow-pos p) (2 ^ suc j) i) (omega (arith, two-pow-succ j))
 
-pub ones-below : (p j i : ℕ) → ones p (2 ^ (j + p) + i) ≡ ones p i
+pub digit-below : (m p i : ℕ) → p < m → digit p (2 ^ m + i) ≡ digit p i
+digit-below m p i h =
+    let e : suc (m - suc p) + p ≡ m = omega arith in
+    subst (λ (n : ℕ). digit p (2 ^ n + i) ≡ digit p i) e (digit-above p (m - suc p) i)
+
+ones-below : (m p i : ℕ) → p ≤ m → ones p (2 ^ m + i) ≡ ones p i
 unfolding ones
-ones-below zero j i = refl
-ones-below (suc p) j i =
-    let e : j + suc p ≡ suc j + p = omega arith in
-    rw e (ap₂ _+_ (ones-below p (suc j) i) (digit-below p j i))
+ones-below m zero i h = refl
+ones-below m (suc p) i h = ap₂ _+_ (ones-below m p i (le-of-lt h)) (digit-below m p i h)
 
 pub ones-first : (m i : ℕ) → i < 2 ^ m → ones (suc m) i ≡ ones m i
 unfolding ones
@@ -44,7 +47,7 @@ ones-first m i h = omega (arith, digit-first m i h)
 
 pub ones-second : (m i : ℕ) → i < 2 ^ m → ones (suc m) (2 ^ m + i) ≡ suc (ones m i)
 unfolding ones
-ones-second m i h = omega (arith, digit-second m i h, rw (zero-add m) at (ones-below m 0 i))
+ones-second m i h = omega (arith, digit-second m i h, ones-below m m i (le-refl m))
 
 -- a fact of every index of the first half and of every index of the second half is one of every index
 pub by-halves : (P : ℕ → Type 0) (m : ℕ) → ((i : ℕ) → i < 2 ^ m → P i) → ((i : ℕ) → i < 2 ^ m → P (2 ^ m + i))

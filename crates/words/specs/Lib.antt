@@ -9,3 +9,5 @@ pub mod Rows
 pub mod KindLaws
 pub mod FillLaws
 pub mod InverseLaws
+pub mod TableLaws
+pub mod PublishedLaws
