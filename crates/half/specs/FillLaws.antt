@@ -8,7 +8,7 @@ use native.Mathlib.Numerals.{add-one}
 use lib.ListN.{length, getD, set, take, drop, length-set, length-drop, drop-of-length-le}
 use lib.Seq.{drop-cons, take-all}
 use Rattle.numbers.specs.Sums.{sum}
-use Rattle.numbers.specs.Front.{front, front-all, front-next, drop-next}
+use Rattle.numbers.specs.Front.{front, front-done, front-next, drop-next}
 use Rattle.words.specs.Bits.{Bits}
 use Rattle.words.specs.Kinds.{fill, pick}
 use Rattle.words.specs.Inverse.{firstFrozenOne}
@@ -68,7 +68,7 @@ module _ (ks b row₀ : List ℕ) (same : length row₀ ≡ length ks) where
     pub fill-ends : length ks ≤ i → row ≡ fill ks b
     fill-ends h =
         let e : drop i (fill ks b) ≡ [] = f .rest ∙ ap (λ (l : List ℕ). fill l (drop used b)) (drop-of-length-le ks {i = i} h) in
-        f .is ∙ front-all row₀ (fill ks b) i (omega arith) e
+        f .is ∙ front-done row₀ (fill ks b) i (omega arith) e
 
 -- ---- pick: i kinds are passed, `taken` bits are taken
 pub record Picked (ks u b₀ b : List ℕ) (i taken : ℕ) : Type 0 where
@@ -123,7 +123,7 @@ module _ (ks u b₀ : List ℕ) (same : length u ≡ length ks) where
     pick-ends h =
         let none = drop-of-length-le ks {i = i} h in
         let e : drop taken (pick ks u) ≡ [] = p .rest ∙ ap (λ (l : List ℕ). pick l (drop i u)) none in
-        p .is ∙ front-all b₀ (pick ks u) taken (omega (arith, ap sum none, p .room)) e
+        p .is ∙ front-done b₀ (pick ks u) taken (omega (arith, ap sum none, p .room)) e
 
 -- ---- first_frozen_one: i kinds are passed
 abbrev pub Passed : List ℕ → List ℕ → ℕ → Type 0

@@ -5,7 +5,7 @@ use Prim.Native.Nat.{ℕ, zero, suc, _≤_, _<_}
 use native.Mathlib.Nat.{not-suc-le-zero, le-of-suc-le-suc}
 use native.Mathlib.Omega.{arith}
 use lib.ListN.{length, getD, take, drop, set, drop-of-length-le, take-append-drop, length-append, length-drop}
-use lib.Seq.{take-at, length-take-le}
+use lib.Seq.{take-at, length-take-le, drop-length}
 
 module _ {A : Type 0} where
   abbrev pub front : List A → List A → ℕ → List A
@@ -41,9 +41,11 @@ module _ {A : Type 0} where
   front-next (c ∷ d) (b ∷ x) (suc j) a y h e = ap (λ (l : List A). b ∷ l) (front-next d x j a y (le-of-suc-le-suc h) e)
 
   -- all are replaced
-  pub front-all : (d x : List A) (j : ℕ) → length d ≤ j → drop j x ≡ [] → front d x j ≡ x
-  front-all d x j h e =
-      ap (λ (l : List A). take j x ++ l) (drop-of-length-le d {i = j} h ∙ sym e) ∙ take-append-drop j x
+  pub front-done : (d x : List A) (j : ℕ) → length d ≤ j → drop j x ≡ [] → front d x j ≡ x
+  front-done d x j h e = ap (λ (l : List A). take j x ++ l) (drop-of-length-le d {i = j} h ∙ sym e) ∙ take-append-drop j x
+
+  pub front-all : (d x : List A) → length d ≡ length x → front d x (length x) ≡ x
+  front-all d x e = front-done d x (length x) (omega arith) (drop-length x)
 
   -- what is replaced
   pub front-whole : (d x : List A) (j : ℕ) → j ≤ length x → take j (front d x j) ≡ take j x

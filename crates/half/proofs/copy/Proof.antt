@@ -1,9 +1,9 @@
 -- The loop's invariant: what is copied stands in front of what is as it was.
-use mathlib.Core.Path.{_≡_, refl, ap, _∙_}
+use mathlib.Core.Path.{_≡_, refl, _∙_}
 use Prim.Native.Nat.{_-_, _≤_, zero-le}
 use native.Mathlib.Omega.{arith}
 use native.Mathlib.Numerals.{add-one}
-use lib.ListN.{length, length-set, drop-of-length-le}
+use lib.ListN.{length, length-set}
 use Rattle.numbers.specs.Front.{front, front-suc, front-all}
 use Rattle.half.proofs.copy.Statement.{statement}
 use Rattle.half.proofs.copy.Tie as tie
@@ -42,7 +42,8 @@ returns : tie.Need-returns Inv-loop μ-loop
 returns c =
     let g = c .before .before .args in
     let l = c .before .loop in
-    l .inv .1 ∙ front-all (g .to .now) (g .from .now) (l .i) (omega arith) (drop-of-length-le (g .from .now) {i = l .i} (omega arith))
+    let all : l .i ≡ length (g .from .now) = omega arith in
+    l .inv .1 ∙ rw all (front-all (g .to .now) (g .from .now) (c .before .before .pre))
 
 pub copy-spec : {M : Type 1} → statement M
 copy-spec =
