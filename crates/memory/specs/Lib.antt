@@ -1,3 +1,4 @@
 pub mod Memory
 pub mod MemoryLaws
 pub mod Ready
+pub mod PathLaws

@@ -1,8 +1,8 @@
 -- What the value at an index is asked of: the readings l, the scratch array s, and the byte array y that holds the path.
 use mathlib.Core.Path.{_≡_}
-use mathlib.Core.List.{List}
+use mathlib.Core.List.{List, [], _∷_, _++_}
 use mathlib.Core.Bool.{Bool, true}
-use Prim.Native.Nat.{ℕ, _-_, _^_, _≤_, _<_}
+use Prim.Native.Nat.{ℕ, _+_, _-_, _^_, _≤_, _<_}
 use lib.IntN.{ℤ}
 use lib.ListN.{length, take}
 use Rattle.words.specs.Bits.{Bits}
@@ -17,3 +17,19 @@ pub record ValueReady (l : List ℤ) (m : ℕ) (fresh : Bool) (i : ℕ) (s : Lis
   pub small : sizes l < 2 ^ 31
   pub bits : Bits y
   pub stands : fresh ≡ true → 0 < i → Stands m l (take (i - 1) (pathOf m i (take (2 ^ m) y))) (take (2 ^ m) s)
+
+-- the 2^m bytes x, and the index i of a path in them
+pub record PathReady (m i : ℕ) (x : List ℕ) : Type 0 where
+  pub long : length x ≡ 2 ^ m
+  pub inside : i < 2 ^ m
+  pub bits : Bits x
+
+-- y is x with one bit more on the path
+pub record BitPut (m i bit : ℕ) (x y : List ℕ) : Type 0 where
+  pub path : pathOf m (i + 1) y ≡ pathOf m i x ++ bit ∷ []
+  pub bits : Bits y
+
+-- y is x with the bit of index i taken back
+pub record BitBack (m i : ℕ) (x y : List ℕ) : Type 0 where
+  pub path : pathOf m i y ≡ take i (pathOf m (i + 1) x)
+  pub bits : Bits y
