@@ -8,6 +8,7 @@ pub mod BenchFigures
 pub mod StepLaws
 pub mod PathLaws
 pub mod BestLaws
+pub mod OfferLaws
 pub mod CorrelationLaws
 pub mod TurnLaws
 pub mod HeldLaws

@@ -1,10 +1,10 @@
 -- Laws of values and of a path's penalty: a full path's penalty is its word's; a path's penalty is the least of all rows that begin with it.
-use mathlib.Core.Path.{_≡_, refl, ap, ap₂, sym, _∙_, subst}
+use mathlib.Core.Path.{_≡_, refl, ap, ap₂, sym, _∙_}
 use mathlib.Core.Logic.{⊎-elim}
 use mathlib.Core.List.{List, [], _∷_, _++_, append-nil, append-assoc}
 use Prim.Native.Nat.{ℕ, zero, suc, _+_, _-_, _^_, _≤_, _<_}
 use native.Mathlib.Omega.{arith}
-use native.Mathlib.Nat.{two-pow-succ, le-of-lt, le-trans, le-refl, le-add-right, add-zero, zero-add, add-assoc}
+use native.Mathlib.Nat.{two-pow-succ, le-of-lt, le-trans, le-add-right, add-zero, zero-add, add-assoc}
 use lib.ListN.{length, take, drop, length-append, length-drop, take-append-drop, drop-of-length-le}
 use lib.Seq.{length-take-le, take-all, take-append-le, drop-append-le, take-nil, drop-nil}
 use lib.IntN.{ℤ, pos, negsuc, natAbs}

@@ -3,7 +3,7 @@ use mathlib.Core.Path.{_≡_, refl, ap, ap₂, sym, _∙_}
 use mathlib.Core.Logic.{⊎-elim}
 use mathlib.Core.List.{List, [], _∷_, _++_, map, Memᴰ·cast, Memᴰ·of-map}
 use mathlib.Core.List.{List·Memᴰ, List·Memᴰ·head, List·Memᴰ·tail, List·Memᴰ·cases-cons, List·Memᴰ·not-nil, List·Memᴰ·append-cases}
-use Prim.Native.Nat.{ℕ, zero, suc, _+_, _≤_, _<_, min, zero-le}
+use Prim.Native.Nat.{ℕ, _≤_, _<_, min, zero-le}
 use native.Mathlib.Omega.{arith}
 use native.Mathlib.Nat.{not-suc-le-zero, zero-lt-suc}
 use native.Mathlib.Decide.{ℕ-discrete}
@@ -18,6 +18,22 @@ use Rattle.numbers.specs.LeastLaws.{upto, at-most}
 abbrev pub Distinct : {A : Type 0} → List A → Type 0
 Distinct [] = Unit {0}
 Distinct (x ∷ l) = (List·Memᴰ x l → ⊥) × Distinct l
+
+module _ {A : Type 0} (x y : A) (l : List A) (h : Distinct (x ∷ y ∷ l)) where
+  pub distinct-swap : Distinct (y ∷ x ∷ l)
+  distinct-swap = (
+    λ i. ⊎-elim (λ e. h .0 (List·Memᴰ·head (sym e))) (h .1 .0) (List·Memᴰ·cases-cons i),
+    (λ i. h .0 (List·Memᴰ·tail i), h .1 .1),
+  )
+
+  pub distinct-less : Distinct (x ∷ l)
+  distinct-less = (λ i. h .0 (List·Memᴰ·tail i), h .1 .1)
+
+pub distinct-third : {A : Type 0} (x y z : A) (l : List A) → Distinct (x ∷ y ∷ z ∷ l) → Distinct (x ∷ y ∷ l)
+distinct-third x y z l h = (
+  λ i. h .0 (⊎-elim (λ e. List·Memᴰ·head e) (λ j. List·Memᴰ·tail (List·Memᴰ·tail j)) (List·Memᴰ·cases-cons i)),
+  distinct-less y z l (h .1),
+)
 
 pub distinct-append : {A : Type 0} (k l : List A) → Distinct k → Distinct l → ((x : A) → List·Memᴰ x k → List·Memᴰ x l → ⊥) → Distinct (k ++ l)
 distinct-append [] l h i apart = i
