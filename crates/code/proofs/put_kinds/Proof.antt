@@ -4,7 +4,7 @@ use mathlib.Core.Path.{_≡_, refl, sym, _∙_}
 use native.Mathlib.Omega.{arith}
 use native.Mathlib.Numerals.{add-one}
 use lib.ListN.{length, getD, length-set, drop-of-length-le}
-use Rattle.numbers.specs.Front.{front, front-suc, front-all}
+use Rattle.numbers.specs.Front.{front, front-suc, front-done}
 use Rattle.words.specs.Kinds.{kinds}
 use Rattle.words.specs.KindLaws.{length-kinds, kinds-at}
 use Rattle.code.proofs.put_kinds.Statement.{statement}
@@ -55,7 +55,7 @@ returns c =
     let d = s .args .row .now in
     let x = kinds (s .args .code .r) (s .args .code .m) in
     let long : length d ≡ length x = omega (arith, length-kinds (s .args .code .r) (s .args .code .m), s .pre .1) in
-    l .inv .1 ∙ front-all d x (l .i) (omega arith) (drop-of-length-le x {i = l .i} (omega (arith, long)))
+    l .inv .1 ∙ front-done d x (l .i) (omega arith) (drop-of-length-le x {i = l .i} (omega (arith, long)))
 
 pub put-kinds-spec : {M : Type 1} → statement M
 put-kinds-spec =
