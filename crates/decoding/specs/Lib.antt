@@ -15,3 +15,5 @@ pub mod HeldLaws
 pub mod TurnedWalk
 pub mod TurnedBest
 pub mod AllOnes
+pub mod AnswerLaws
+pub mod Demands

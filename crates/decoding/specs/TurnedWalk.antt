@@ -1,6 +1,6 @@
 -- The walk on readings that are negated by a word: with no value of zero at an information index where a path is extended,
 -- it is the walk on the readings, with the word's row added to each path that is held. Penalties and visits are the same.
-use mathlib.Core.Path.{_≡_, refl, ap, ap₂, _∙_}
+use mathlib.Core.Path.{_≡_, refl, ap, ap₂, sym, _∙_}
 use mathlib.Core.Bool.{false}
 use mathlib.Core.List.{List, [], _∷_, _++_}
 use Prim.Native.Nat.{ℕ, zero, suc, _+_, _-_, _^_, _%_, _<_}
@@ -13,8 +13,9 @@ use Rattle.numbers.specs.Choice.{cond-two}
 use Rattle.numbers.specs.Halves.{length-more}
 use Rattle.words.specs.Bits.{Bits, xors}
 use Rattle.words.specs.Word.{transform}
-use Rattle.words.specs.Rows.{Frozen}
+use Rattle.words.specs.Kinds.{fill, Word}
 use Rattle.words.specs.TransformLaws.{bits-more}
+use Rattle.words.specs.FillLaws.{length-fill, bits-fill, frozen-fill}
 use Rattle.decoding.specs.Readings.{loss, turn, turns}
 use Rattle.decoding.specs.Quick.{hard}
 use Rattle.decoding.specs.Walk.{value, State, start, dropped, visited, finished, extend, walk, walked, NeverZero}
@@ -100,7 +101,12 @@ module _ (m : ℕ) (l : List ℤ) (v : List ℕ) (e : length l ≡ 2 ^ m) (f : l
       (ap (λ (b : ℕ). extend (walk m l′ ks) x′ (changed u v) p b (rowAdded v s)) first ∙ go (hard x) (hard-bit x) s (never .1))
       ∙ go (1 - hard x) (omega arith) s1 (never .2)
 
-  pub walked-turned : (ks : List ℕ) → length ks ≡ 2 ^ m → Frozen ks v → NeverZero m l ks [] 0 start
-      → walked m ks l′ ≡ rowAdded v (walked m ks l)
-  unfolding walked
-  walked-turned ks g frozen never = walk-turned ks [] 0 start (omega arith) (λ i. omega arith) (λ i k. rw zero-add (frozen i k)) never
+-- the whole walk on the readings l, negated by the word c
+pub walked-turned : (m : ℕ) (ks : List ℕ) (l : List ℤ) (c : List ℕ) → length ks ≡ 2 ^ m → length l ≡ 2 ^ m → (w : Word m ks c) → NeverZero m l ks [] 0 start
+    → walked m ks (turns c l) ≡ rowAdded (fill ks (w .bits)) (walked m ks l)
+unfolding walked
+walked-turned m ks l c g e w never =
+    let v = fill ks (w .bits) in
+    ap (λ (x : List ℕ). walk m (turns x l) ks [] 0 start) (sym (w .gives))
+    ∙ walk-turned m l v e (length-fill ks (w .bits) ∙ g) (bits-fill ks (w .bits) (w .are-bits)) ks [] 0 start
+    (omega arith) (λ i. omega arith) (λ i k. rw zero-add (frozen-fill ks (w .bits) i k)) never
