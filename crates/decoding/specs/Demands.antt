@@ -2,14 +2,15 @@
 -- The words of a set are those of any row of kinds; RM(r,m) is the row `kinds r m`.
 use mathlib.Core.Path.{_≡_, ap, sym, _∙_}
 use mathlib.Core.Logic.{_↔_, ⊎-elim}
-use mathlib.Core.List.{List, []}
+use mathlib.Core.List.{List, [], map}
 use Prim.Native.Nat.{ℕ, _^_, _≤_, _<_}
 use native.Mathlib.Omega.{arith}
 use lib.ListN.{length}
-use lib.IntN.{ℤ}
+use lib.IntN.{ℤ, negℤ}
 use Rattle.numbers.specs.Choice.{lt-or-le}
 use Rattle.words.specs.Bits.{xors}
-use Rattle.words.specs.Kinds.{Word}
+use Rattle.words.specs.Kinds.{kinds, Word}
+use Rattle.words.specs.KindLaws.{length-kinds}
 use Rattle.words.specs.InverseLaws.{word-length}
 use Rattle.decoding.specs.Readings.{turns, Within}
 use Rattle.decoding.specs.Best.{leastPenalty, gap, bestBits, bestWord}
@@ -19,7 +20,7 @@ use Rattle.decoding.specs.AnswerLaws.{answer-out, answer-tied, answer-fo
 use Rattle.decoding.specs.TurnLaws.{length-turns, within-turns}
 use Rattle.decoding.specs.TurnedBest.{least-turned, gap-turned, bestBits-turned, bestWord-turned}
 use Rattle.decoding.specs.TurnedWalk.{walked-turned}
-use Rattle.decoding.specs.AllOnes.{allOnes, needed-negated}
+use Rattle.decoding.specs.AllOnes.{allOnes, turns-ones, needed-negated, all-ones-word}
 
 -- ---- Demand 3: readings negated where a word c of the set has 1
 -- Both searches are tied, with the same penalty; or both answer, with the same penalty and gap, and the second's bits and word are the first's plus c's, modulo 2.
@@ -113,3 +114,14 @@ module _ (m : ℕ) (ks : List ℕ) (l : List ℤ) (c : List ℕ) (g : length ks 
 pub demand-3-all-ones : (m : ℕ) (ks : List ℕ) (l : List ℤ) → length ks ≡ 2 ^ m → length l ≡ 2 ^ m → (w : Word m ks (allOnes m)) → (allowed : ℕ)
     → answer m ks (turns (allOnes m) l) allowed ≡ plusWord (w .bits) (allOnes m) (answer m ks l allowed)
 demand-3-all-ones m ks l g e w = answers-equal m ks l (allOnes m) g e w (needed-negated m ks l g e w)
+
+-- of RM(r,m)
+module _ (r m : ℕ) (l : List ℤ) (e : length l ≡ 2 ^ m) where
+  pub demand-3-code : (c : List ℕ) (w : Word m (kinds r m) c) → Demand3 m (kinds r m) l c (w .bits)
+  demand-3-code c w = demand-3 m (kinds r m) l c (length-kinds r m) e w
+
+  -- all readings negated: every RM(r,m) has the all-ones word
+  pub demand-3-negated : (allowed : ℕ) → answer m (kinds r m) (map negℤ l) allowed ≡ plusWord (all-ones-word r m .bits) (allOnes m) (answer m (kinds r m) l allowed)
+  demand-3-negated allowed =
+      ap (λ (k : List ℤ). answer m (kinds r m) k allowed) (sym (turns-ones (2 ^ m) l e))
+      ∙ demand-3-all-ones m (kinds r m) l (length-kinds r m) e (all-ones-word r m) allowed

@@ -49,6 +49,14 @@ pub ones-second : (m i : ℕ) → i < 2 ^ m → ones (suc m) (2 ^ m + i) ≡ suc
 unfolding ones
 ones-second m i h = omega (arith, digit-second m i h, ones-below m m i (le-refl m))
 
+-- the last index has ones only
+pub ones-last : (m : ℕ) → ones m (2 ^ m - 1) ≡ m
+unfolding ones
+ones-last zero = refl
+ones-last (suc m) =
+    let place : 2 ^ suc m - 1 ≡ 2 ^ m + (2 ^ m - 1) = omega (arith, two-pow-succ m, pow-pos m) in
+    ap (ones (suc m)) place ∙ ones-second m (2 ^ m - 1) (omega (arith, pow-pos m)) ∙ ap suc (ones-last m)
+
 -- a fact of every index of the first half and of every index of the second half is one of every index
 pub by-halves : (P : ℕ → Type 0) (m : ℕ) → ((i : ℕ) → i < 2 ^ m → P i) → ((i : ℕ) → i < 2 ^ m → P (2 ^ m + i))
     → (i : ℕ) → i < 2 ^ suc m → P i
