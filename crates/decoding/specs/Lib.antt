@@ -9,6 +9,7 @@ pub mod StepLaws
 pub mod PathLaws
 pub mod BestLaws
 pub mod OfferLaws
+pub mod WalkLaws
 pub mod CorrelationLaws
 pub mod TurnLaws
 pub mod HeldLaws
