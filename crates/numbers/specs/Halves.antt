@@ -1,11 +1,11 @@
 -- Laws of a list that is cut in halves, and of lists that are cut in other ways.
 use mathlib.Core.Path.{_≡_, refl, ap, sym, _∙_}
 use mathlib.Core.List.{List, [], _∷_, _++_, map}
-use Prim.Native.Nat.{ℕ, zero, suc, _+_, _-_, _^_, _/_}
+use Prim.Native.Nat.{ℕ, zero, suc, _+_, _-_, _^_, _/_, _<_}
 use native.Mathlib.Omega.{arith}
 use native.Mathlib.Nat.{two-pow-succ, sub-zero, zero-sub, suc-sub-suc}
-use lib.ListN.{length, take, drop, length-drop, length-append}
-use lib.Seq.{length-take-le, take-nil}
+use lib.ListN.{length, getD, take, drop, length-drop, length-append, List·getD-append}
+use lib.Seq.{length-take-le, take-nil, getD-append-add}
 
 module _ {A : Type 0} (m : ℕ) (x : List A) (e : length x ≡ 2 ^ suc m) where
   pub length-first : length (take (2 ^ m) x) ≡ 2 ^ m
@@ -13,6 +13,14 @@ module _ {A : Type 0} (m : ℕ) (x : List A) (e : length x ≡ 2 ^ suc m) where
 
   pub length-second : length (drop (2 ^ m) x) ≡ 2 ^ m
   length-second = simp length-drop (omega (arith, two-pow-succ m))
+
+-- the entries of two lists of which the first has n
+module _ {A : Type 0} (p q : List A) (n : ℕ) (e : length p ≡ n) where
+  pub getD-first : (i : ℕ) (d : A) → i < n → getD (p ++ q) i d ≡ getD p i d
+  getD-first i d h = List·getD-append p q d i (omega arith)
+
+  pub getD-second : (i : ℕ) (d : A) → getD (p ++ q) (n + i) d ≡ getD q i d
+  getD-second i d = ap (λ (k : ℕ). getD (p ++ q) (k + i) d) (sym e) ∙ getD-append-add p q i d
 
 pub drop-take : {A : Type 0} (h n : ℕ) (x : List A) → drop h (take n x) ≡ take (n - h) (drop h x)
 drop-take zero n x = rw sub-zero

@@ -3,7 +3,7 @@ use mathlib.Core.Path.{_≡_, refl, ap, ap₂, sym, subst, _∙_}
 use mathlib.Core.Logic.{⊎-elim}
 use Prim.Native.Nat.{ℕ, zero, suc, _+_, _-_, _*_, _^_, _≤_, _<_}
 use native.Mathlib.Omega.{arith}
-use native.Mathlib.Nat.{two-pow-succ, mul-add-div-right, add-div-left, div-eq-of-lt, le-refl, le-of-lt}
+use native.Mathlib.Nat.{two-pow-succ, mul-add-div-right, add-div-left, div-eq-of-lt, le-refl}
 use lib.Pow.{pow-pos, pow-add}
 use lib.Count as Count
 use Rattle.numbers.specs.Choice.{lt-or-le}
@@ -31,15 +31,19 @@ digit-above : (p j i : ℕ) → digit p (2 ^ (suc j + p) + i) ≡ digit p i
 unfolding digit
 digit-above p j i = rw (pow-add 2 (suc j) p, mul-add-div-right (pow-pos p) (2 ^ suc j) i) (omega (arith, two-pow-succ j))
 
-pub digit-below : (m p i : ℕ) → p < m → digit p (2 ^ m + i) ≡ digit p i
-digit-below m p i h =
+-- the digits below m agree
+abbrev pub Alike : ℕ → ℕ → ℕ → Type 0
+Alike m i k = (p : ℕ) → p < m → digit p i ≡ digit p k
+
+pub second-alike : (m i : ℕ) → Alike m (2 ^ m + i) i
+second-alike m i p h =
     let e : suc (m - suc p) + p ≡ m = omega arith in
     subst (λ (n : ℕ). digit p (2 ^ n + i) ≡ digit p i) e (digit-above p (m - suc p) i)
 
-ones-below : (m p i : ℕ) → p ≤ m → ones p (2 ^ m + i) ≡ ones p i
+ones-alike : (m i k : ℕ) → Alike m i k → ones m i ≡ ones m k
 unfolding ones
-ones-below m zero i h = refl
-ones-below m (suc p) i h = ap₂ _+_ (ones-below m p i (le-of-lt h)) (digit-below m p i h)
+ones-alike zero i k h = refl
+ones-alike (suc m) i k h = ap₂ _+_ (ones-alike m i k (λ p l. h p (omega arith))) (h m (le-refl (suc m)))
 
 pub ones-first : (m i : ℕ) → i < 2 ^ m → ones (suc m) i ≡ ones m i
 unfolding ones
@@ -47,7 +51,7 @@ ones-first m i h = omega (arith, digit-first m i h)
 
 pub ones-second : (m i : ℕ) → i < 2 ^ m → ones (suc m) (2 ^ m + i) ≡ suc (ones m i)
 unfolding ones
-ones-second m i h = omega (arith, digit-second m i h, ones-below m m i (le-refl m))
+ones-second m i h = omega (arith, digit-second m i h, ones-alike m (2 ^ m + i) i (second-alike m i))
 
 -- the last index has ones only
 pub ones-last : (m : ℕ) → ones m (2 ^ m - 1) ≡ m

@@ -11,3 +11,5 @@ pub mod FillLaws
 pub mod InverseLaws
 pub mod TableLaws
 pub mod PublishedLaws
+pub mod HalfLaws
+pub mod PolynomialLaws

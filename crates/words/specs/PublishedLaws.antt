@@ -13,12 +13,12 @@ use Rattle.numbers.specs.SumsLaws.{total-same, tabulate-same}
 use Rattle.numbers.specs.Halves.{length-first, length-second}
 use Rattle.words.specs.Bits.{Bits, xors, digit}
 use Rattle.words.specs.Word.{covers, wordBit, wordByIndex, kronecker, wordByMatrix, transform}
-use Rattle.words.specs.BitLaws.{digit-first, digit-second, digit-below}
+use Rattle.words.specs.BitLaws.{Alike, second-alike, digit-first, digit-second}
 use Rattle.words.specs.TransformLaws.{bits-take, bits-drop}
 use Rattle.words.specs.TableLaws.{table, table-lower}
 
 -- ---- what makes a table by a matrix the transform: it is 1 for m = 0, and by halves it has the blocks [1 0; 1 1]
-pub by-blocks : (matrix : ℕ → ℕ → ℕ → ℕ) → (matrix 0 0 0 ≡ 1)
+by-blocks : (matrix : ℕ → ℕ → ℕ → ℕ) → (matrix 0 0 0 ≡ 1)
     → ((m i j : ℕ) → i < 2 ^ m → j < 2 ^ m → matrix (suc m) i j ≡ matrix m i j)
     → ((m i j : ℕ) → i < 2 ^ m → j < 2 ^ m → matrix (suc m) (2 ^ m + i) j ≡ matrix m i j)
     → ((m i j : ℕ) → i < 2 ^ m → j < 2 ^ m → matrix (suc m) i (2 ^ m + j) ≡ 0)
@@ -54,13 +54,6 @@ word-by-matrix =
     (λ m i j k l. rw (second-div m i k, second-mod m i k, second-mod m j l) (one-mul (kronecker m i j)))
 
 -- ---- bit by bit
--- the digits below m agree
-abbrev Alike : ℕ → ℕ → ℕ → Type 0
-Alike m i k = (p : ℕ) → p < m → digit p i ≡ digit p k
-
-second-alike : (m i : ℕ) → Alike m (2 ^ m + i) i
-second-alike m i p h = digit-below m p i h
-
 covers-alike : (m j i t s : ℕ) → Alike m j t → Alike m i s → covers m j i ≡ covers m t s
 unfolding covers
 covers-alike zero j i t s h k = refl

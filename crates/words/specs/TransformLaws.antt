@@ -3,7 +3,7 @@ use mathlib.Core.Path.{_≡_, refl, ap, ap₂, sym, _∙_}
 use mathlib.Core.List.{List, [], _∷_, _++_}
 use Prim.Native.Nat.{ℕ, zero, suc, _+_, _^_, _%_, _<_}
 use native.Mathlib.Omega.{arith}
-use native.Mathlib.Nat.{suc-inj, suc-ne-zero, add-mod, two-pow-succ}
+use native.Mathlib.Nat.{suc-inj, suc-ne-zero, add-comm, add-mod, two-pow-succ}
 use lib.ListN.{length, getD, take, drop, replicate, length-append, length-replicate, take-append-drop}
 use lib.Seq.{take-at, drop-at, getD-drop}
 use Rattle.numbers.specs.Halves.{length-first, length-second}
@@ -43,6 +43,12 @@ pub xors-twice : (x y : List ℕ) → length x ≡ length y → Bits x → xors 
 xors-twice [] y e h = refl
 xors-twice (a ∷ x) [] e h = absurd (suc-ne-zero (length x) e)
 xors-twice (a ∷ x) (b ∷ y) e h = ap₂ _∷_ (twice-one a b (h 0)) (xors-twice x y (suc-inj e) (λ i. h (suc i)))
+
+pub xors-comm : (x y : List ℕ) → xors x y ≡ xors y x
+xors-comm [] [] = refl
+xors-comm [] (b ∷ y) = refl
+xors-comm (a ∷ x) [] = refl
+xors-comm (a ∷ x) (b ∷ y) = ap₂ _∷_ (ap (λ (n : ℕ). n % 2) (add-comm a b)) (xors-comm x y)
 
 pub take-xors : (n : ℕ) (x y : List ℕ) → take n (xors x y) ≡ xors (take n x) (take n y)
 take-xors zero x y = refl

@@ -1,0 +1,129 @@
+-- The words of RM(r,m) by halves: x is a word of RM(r,m+1) exactly if the sum of its halves is one of RM(r-1,m) and its second half one of RM(r,m).
+-- So that r = 0 is no case of its own, a code is named here by d = r + 1; for d = 0 it holds the zero row alone.
+use mathlib.Core.Path.{_≡_, ap, sym, _∙_}
+use mathlib.Core.Logic.{⊎-elim}
+use mathlib.Core.List.{List}
+use Prim.Native.Nat.{ℕ, suc, _+_, _-_, _^_, _≤_, _<_}
+use native.Mathlib.Omega.{arith}
+use native.Mathlib.Nat.{two-pow-succ}
+use lib.ListN.{length, getD, take, drop, replicate, getD-replicate, List·getD-eq-default, length-replicate}
+use lib.Seq.{ext-getD}
+use Rattle.numbers.specs.Choice.{lt-or-le}
+use Rattle.numbers.specs.Halves.{length-first, length-second, getD-first, getD-second}
+use Rattle.words.specs.Bits.{Bits, xors, ones}
+use Rattle.words.specs.Word.{transform}
+use Rattle.words.specs.Kinds.{kinds, Word}
+use Rattle.words.specs.BitLaws.{by-halves, ones-most, ones-first, ones-second}
+use Rattle.words.specs.TransformLaws.{length-xors, bits-xors, bits-drop, getD-xors, length-transform, transform-xors, transform-twice, transform-zeros}
+use Rattle.words.specs.KindLaws.{kind-information, kind-frozen, length-kinds, bits-kinds, kinds-at}
+use Rattle.words.specs.InverseLaws.{word-length, word-bits, word-frozen, frozen-word}
+
+pub record Below (d m : ℕ) (x : List ℕ) : Type 0 where
+  pub long : length x ≡ 2 ^ m
+  pub are-bits : Bits x
+  pub frozen : (i : ℕ) → i < 2 ^ m → ones m i + d ≤ m → getD (transform m x) i 0 ≡ 0
+
+-- ---- the words of RM(r,m)
+pub word-below : (r m : ℕ) (x : List ℕ) → Word m (kinds r m) x → Below (suc r) m x
+word-below r m x w =
+    let e = length-kinds r m in
+    record {
+      long = word-length m (kinds r m) x e w;
+      are-bits = word-bits m (kinds r m) x e w;
+      frozen = λ i h k. word-frozen m (kinds r m) x e w i (kinds-at r m i h ∙ kind-frozen r m i (omega arith));
+    }
+
+pub below-word : (r m : ℕ) (x : List ℕ) → Below (suc r) m x → Word m (kinds r m) x
+below-word r m x b =
+    frozen-word m (kinds r m) x (length-kinds r m) (bits-kinds r m) (b .long) (b .are-bits)
+    (λ i z.
+    ⊎-elim
+    (λ h.
+    ⊎-elim
+    (λ (k : ones m i + r < m). b .frozen i h (omega arith))
+    (λ k. absurd (omega (arith, z, kinds-at r m i h, kind-information r m i k)))
+    (lt-or-le (ones m i + r) m))
+    (λ h. List·getD-eq-default (transform m x) 0 {n = i} (rw (length-transform m x (b .long)) h))
+    (lt-or-le i (2 ^ m)))
+
+length-summed : (m : ℕ) (a b : List ℕ) → length a ≡ 2 ^ m → length b ≡ 2 ^ m → length (xors (transform m a) (transform m b)) ≡ 2 ^ m
+length-summed m a b e f =
+    let la = length-transform m a e in length-xors (transform m a) (transform m b) (la ∙ sym (length-transform m b f)) ∙ la
+
+-- ---- sums, and a larger code
+pub below-xors : (d m : ℕ) (x y : List ℕ) → Below d m x → Below d m y → Below d m (xors x y)
+below-xors d m x y a b =
+    let l : length x ≡ length y = a .long ∙ sym (b .long) in
+    record {
+      long = length-xors x y l ∙ a .long;
+      are-bits = bits-xors x y;
+      frozen = λ i h k.
+          let same : length (transform m x) ≡ length (transform m y) = length-transform m x (a .long) ∙ sym (length-transform m y (b .long)) in
+          rw (transform-xors m x y (a .long) (b .long), getD-xors (transform m x) (transform m y) i same, a .frozen i h k, b .frozen i h k);
+    }
+
+pub below-more : (d e m : ℕ) (x : List ℕ) → d ≤ e → Below d m x → Below e m x
+below-more d e m x h b = record { long = b .long; are-bits = b .are-bits; frozen = λ i k l. b .frozen i k (omega arith) }
+
+-- RM(r,m) lies in RM(s,m) for r ≤ s
+pub word-nested : (r s m : ℕ) (x : List ℕ) → r ≤ s → Word m (kinds r m) x → Word m (kinds s m) x
+word-nested r s m x h w = below-word s m x (below-more (suc r) (suc s) m x (omega arith) (word-below r m x w))
+
+-- ---- halves
+module _ (m : ℕ) (x : List ℕ) (e : length x ≡ 2 ^ suc m) where
+  -- the halves of the row that x comes from
+  first-row : (i : ℕ) → i < 2 ^ m → getD (transform (suc m) x) i 0 ≡ getD (transform m (xors (take (2 ^ m) x) (drop (2 ^ m) x))) i 0
+  unfolding transform
+  first-row i h =
+      let a = take (2 ^ m) x in
+      let b = drop (2 ^ m) x in
+      let la = length-first m x e in
+      let lb = length-second m x e in
+      rw (transform-xors m a b la lb)
+      (getD-first (xors (transform m a) (transform m b)) (transform m b) (2 ^ m) (length-summed m a b la lb) i 0 h)
+
+  second-row : (i : ℕ) → getD (transform (suc m) x) (2 ^ m + i) 0 ≡ getD (transform m (drop (2 ^ m) x)) i 0
+  unfolding transform
+  second-row i =
+      let a = take (2 ^ m) x in
+      let b = drop (2 ^ m) x in
+      getD-second (xors (transform m a) (transform m b)) (transform m b) (2 ^ m) (length-summed m a b (length-first m x e) (length-second m x e)) i 0
+
+-- and the sum of the halves of x is one of the code below, its second half of the same
+pub below-first : (d m : ℕ) (x : List ℕ) → Below d (suc m) x → Below (d - 1) m (xors (take (2 ^ m) x) (drop (2 ^ m) x))
+below-first d m x b =
+    let e = b .long in
+    let a = length-first m x e in
+    record {
+      long = length-xors (take (2 ^ m) x) (drop (2 ^ m) x) (a ∙ sym (length-second m x e)) ∙ a;
+      are-bits = bits-xors (take (2 ^ m) x) (drop (2 ^ m) x);
+      frozen = λ i h k.
+          sym (first-row m x e i h) ∙ b .frozen i (omega (arith, two-pow-succ m)) (omega (arith, ones-first m i h, ones-most m i));
+    }
+
+pub below-second : (d m : ℕ) (x : List ℕ) → Below d (suc m) x → Below d m (drop (2 ^ m) x)
+below-second d m x b = record {
+  long = length-second m x (b .long);
+  are-bits = bits-drop (2 ^ m) x (b .are-bits);
+  frozen = λ i h k.
+      sym (second-row m x (b .long) i) ∙ b .frozen (2 ^ m + i) (omega (arith, two-pow-succ m)) (omega (arith, ones-second m i h));
+}
+
+pub below-halves : (d m : ℕ) (x : List ℕ) → length x ≡ 2 ^ suc m → Bits x
+    → Below (d - 1) m (xors (take (2 ^ m) x) (drop (2 ^ m) x)) → Below d m (drop (2 ^ m) x) → Below d (suc m) x
+below-halves d m x e h s b = record {
+  long = e;
+  are-bits = h;
+  frozen = by-halves (λ (i : ℕ). ones (suc m) i + d ≤ suc m → getD (transform (suc m) x) i 0 ≡ 0) m
+      (λ i l k. first-row m x e i l ∙ s .frozen i l (omega (arith, ones-first m i l, ones-most m i)))
+      (λ i l k. second-row m x e i ∙ b .frozen i l (omega (arith, ones-second m i l)));
+}
+
+-- the code for d = 0
+pub below-zero : (m : ℕ) (x : List ℕ) → Below 0 m x → x ≡ replicate (2 ^ m) 0
+below-zero m x b =
+    let l = length-transform m x (b .long) in
+    let zeros : transform m x ≡ replicate (2 ^ m) 0 =
+    ext-getD 0 (transform m x) (replicate (2 ^ m) 0) (l ∙ sym (length-replicate (2 ^ m) 0))
+    (λ i h. let k : i < 2 ^ m = omega arith in b .frozen i k (omega (arith, ones-most m i)) ∙ sym (getD-replicate (2 ^ m) i 0 0 k)) in
+    sym (transform-twice m x (b .long) (b .are-bits)) ∙ ap (transform m) zeros ∙ transform-zeros m
