@@ -18,3 +18,4 @@ pub mod TurnedBest
 pub mod AllOnes
 pub mod AnswerLaws
 pub mod Demands
+pub mod QuickLaws
