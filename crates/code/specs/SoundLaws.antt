@@ -1,17 +1,21 @@
 -- Laws of the code parameters: what the tests on r and m show, the table of dimensions, and the row of kinds as it is filled.
 use mathlib.Core.Path.{_≡_, ap, _∙_}
+use mathlib.Core.Logic.{⊎-elim}
 use mathlib.Core.List.{List, []}
 use Prim.Native.Nat.{ℕ, _-_, _^_, _≤_, _<_}
 use native.Mathlib.Omega.{arith}
 use lib.Count as Count
 use lib.ListN.{getD}
+use lib.Pow.{pow-mono}
 use borrow.Author.Tests.{le-leb, lt-leb}
+use Rattle.numbers.specs.Choice.{lt-or-le}
 use Rattle.numbers.specs.Sums.{tabulate}
 use Rattle.numbers.specs.SumsLaws.{getD-tabulate}
 use Rattle.words.specs.BitLaws.{ones-counted}
 use Rattle.words.specs.Kinds.{kind, dimension}
+use Rattle.code.specs.declared.Code.{Code}
 use Rattle.code.specs.declared.Made.the-variants.{Good, Bad}
-use Rattle.code.specs.Sound.{made, largestM}
+use Rattle.code.specs.Sound.{Sound, made, largestM}
 
 module _ (r m : ℕ) where
   pub made-large : largestM < m → made r m ≡ Bad
@@ -43,3 +47,25 @@ dimensions-at table e r m h k =
     ap (λ (t : List (List ℕ)). getD (getD t m []) r 0) e
     ∙ ap (λ (t : List ℕ). getD t r 0) (getD-tabulate (λ m. tabulate (λ r. dimension r m) 9) 9 m [] (omega arith))
     ∙ getD-tabulate (λ r. dimension r m) 9 r 0 (omega arith)
+
+-- what a code that is made shows: it is the code of r and m, and sound
+pub record MadeOf (r m : ℕ) (c : Code) : Type 0 where
+  pub same : c ≡ record { r = r; m = m }
+  pub sound : Sound c
+
+pub made-of : (r m : ℕ) (c : Code) → made r m ≡ Good c → MadeOf r m c
+made-of r m c e =
+    ⊎-elim
+    (λ large. let z : _≡_ {A = ℕ} 0 1 = cc (made-large r m large) in absurd (omega arith))
+    (λ small.
+    ⊎-elim
+    (λ crossed. let z : _≡_ {A = ℕ} 0 1 = cc (made-crossed r m small crossed) in absurd (omega arith))
+    (λ within.
+    let same : c ≡ record { r = r; m = m } = cc (made-good r m small within) in
+    record { same = same; sound = rw same (record { r-small = within; m-small = small }) })
+    (lt-or-le m r))
+    (lt-or-le largestM m)
+
+-- n is at most 256
+pub length-most : {c : Code} → Sound c → 2 ^ (c .m) ≤ 256
+length-most s = pow-mono (s .m-small)

@@ -5,7 +5,7 @@ use Prim.Native.Nat.{ℕ, _-_}
 use native.Mathlib.Omega.{arith}
 use native.Mathlib.Nat.{sub-zero}
 use lib.ListN.{length, take, drop, length-drop, drop-of-length-le}
-use lib.Seq.{take-all}
+use lib.Seq.{take-all, take-at}
 use borrow.Rule.Slice.PartMut.{midOf, putMid}
 
 module _ {A : Type 0} (h : ℕ) (x : List A) where
@@ -21,3 +21,7 @@ module _ {A : Type 0} (h : ℕ) (x : List A) where
   pub back-from : (q : List A) → putMid h (length x - h) x q ≡ take h x ++ q
   back-from q =
       ap (λ (l : List A). take h x ++ l) (ap (λ (l : List A). q ++ l) (drop-of-length-le (drop h x) {i = length x - h} (simp length-drop (omega arith))) ∙ append-nil q)
+
+  -- what came back of a front is read again
+  pub lent-again : (q : List A) → length q ≡ h → midOf 0 (h - 0) (putMid 0 (h - 0) x q) ≡ q
+  lent-again q e = rw sub-zero (take-at q (drop h x) h e)
