@@ -1,5 +1,5 @@
 -- Laws of the layout: packing and unpacking are inverse to each other; lengths; one reading by its number.
-use mathlib.Core.Path.{_≡_, refl, ap, sym, _∙_}
+use mathlib.Core.Path.{_≡_, refl, ap}
 use mathlib.Core.List.{List, [], _∷_, _++_}
 use mathlib.Core.Logic.{⊎-elim}
 use Prim.Native.Nat.{ℕ, zero, suc, _+_, _-_, _*_, _/_, _%_, _^_, _≤_, _<_}
@@ -7,11 +7,10 @@ use native.Mathlib.Omega.{arith}
 use native.Mathlib.Nat.{two-pow-succ}
 use lib.IntN.{ℤ, pos, negsuc, _-ℤ_}
 use lib.ListN.{length, getD}
-use lib.Dec.{ltb}
 use borrow.Author.Tests.{lt-ltb, le-ltb}
 use Rattle.numbers.specs.Choice.{lt-or-le}
 use Rattle.numbers.specs.PartsLaws.{by-parts, sum-parts}
-use Rattle.record.specs.Layout.{bytes, nibbles, field, reading, spread, gathered, recordOf, packed, unpacked, partLength, padOf}
+use Rattle.record.specs.Layout.{bytes, nibbles, field, reading, spread, gathered, packed, unpacked, partLength, padOf}
 
 -- every entry is below b
 abbrev pub Below : ℕ → List ℕ → Type 0

@@ -1,7 +1,64 @@
 -- What the reader of packed records answers, as functions of the bytes handed in (01, "Packed records and the program").
-use mathlib.Core.List.{List, _++_}
+use mathlib.Core.List.{List, [], _∷_, _++_}
+use mathlib.Core.Bool.{cond}
+use Prim.Native.Nat.{ℕ, suc, _-_, _/_, _%_}
 use lib.IntN.{ℤ}
 use lib.ListN.{length, take, drop}
+use lib.Dec.{ltb, eqb}
+use Rattle.code.specs.Sound.{largestReading, made}
+use Rattle.code.specs.Entries.{firstBadReading}
+use Rattle.code.specs.declared.Code.{Code}
+use Rattle.code.specs.declared.Made.{Made}
+use Rattle.code.specs.declared.Made.the-variants.{Good, Bad}
+use Rattle.code.specs.declared.Refusal.the-variants.{Parameters, Entry, Torn, Pad}
+use Rattle.record.specs.declared.Header.{Header}
+use Rattle.record.specs.declared.Header.the-variants.{Record, Refused}
+use Rattle.record.specs.Layout.{unpacked, partLength, padOf}
+
+-- what a first byte says: 4 bits m, 4 bits r
+abbrev pub codeOf : ℕ → Made
+codeOf first = made (first % 16) (first / 16)
+
+-- how many bytes a record has by its first byte; 0 where that is refused
+abbrev pub lengthBy : Made → ℕ
+lengthBy Bad = 0
+lengthBy (Good c) = suc (partLength (c .m))
+
+-- the packed part of bytes s that begin with a record of the code c
+abbrev pub partOf : Code → List ℕ → List ℕ
+partOf c s = take (partLength (c .m)) (drop 1 s)
+
+-- the readings in it
+abbrev pub readingsOf : Code → List ℕ → List ℤ
+readingsOf c s = unpacked (partOf c s)
+
+-- 1, then 8, then 9
+abbrev pub framedBy : Made → List ℕ → Header
+framedBy Bad s = Refused Parameters
+framedBy (Good c) s =
+    cond (ltb (length s - 1) (partLength (c .m))) (Refused Torn)
+    (cond (eqb (padOf (c .m) (partOf c s)) 0) (Record c) (Refused Pad))
+
+-- with no byte at all it is 8
+unfoldable pub frameOf : List ℕ → Header
+frameOf [] = Refused Torn
+frameOf (first ∷ s) = framedBy (codeOf first) (first ∷ s)
+
+-- then 4, with the number of the reading
+abbrev pub railedBy : Header → List ℕ → Header
+railedBy (Refused why) s = Refused why
+railedBy (Record c) s =
+    let place = firstBadReading largestReading (readingsOf c s) in
+    cond (ltb place (length (readingsOf c s))) (Refused (Entry place)) (Record c)
+
+-- the code of the record that the bytes begin with, or the refusal
+unfoldable pub headerOf : List ℕ → Header
+headerOf s = railedBy (frameOf s) s
+
+-- the part handed back: empty on refusal
+abbrev pub partBy : Header → List ℕ → List ℕ
+partBy (Refused why) s = []
+partBy (Record c) s = partOf c s
 
 -- the readings x laid over the entries of d from the first on, as far as both go
 abbrev pub laidOver : List ℤ → List ℤ → List ℤ

@@ -1,22 +1,158 @@
--- Laws of the reader's answers.
-use mathlib.Core.Path.{_≡_, refl, ap, sym, _∙_}
-use mathlib.Core.List.{List, [], _∷_, _++_}
+-- Laws of the reader's answers: what a frame shows, and which bytes are accepted.
+use mathlib.Core.Path.{_≡_, refl, ap, subst}
+use mathlib.Core.List.{List, [], _∷_}
 use mathlib.Core.Logic.{⊎-elim}
-use Prim.Native.Nat.{ℕ, _≤_, _<_, min}
+use Prim.Native.Nat.{ℕ, zero, suc, _+_, _-_, _/_, _%_, _^_, _≤_, _<_, min}
 use native.Mathlib.Omega.{arith}
+use lib.Pow.{pow-mono}
 use lib.IntN.{ℤ}
-use lib.ListN.{length, take, drop, drop-of-length-le}
-use lib.Seq.{take-all, take-length, drop-length}
+use lib.ListN.{length, getD, take, drop, drop-of-length-le, length-drop}
+use lib.Seq.{take-at, take-all, take-length, length-take-le, drop-length, getD-take, getD-drop}
+use borrow.Author.Tests.{lt-ltb, le-ltb, eq-eqb, ne-eqb}
 use Rattle.numbers.specs.Choice.{lt-or-le}
 use Rattle.numbers.specs.Front.{front}
-use Rattle.record.specs.Reader.{laidOver}
+use Rattle.code.specs.Sound.{Sound, largestM, largestReading, made}
+use Rattle.code.specs.Entries.{firstBadReading}
+use Rattle.code.specs.SoundLaws.{made-large, made-crossed, made-good}
+use Rattle.code.specs.declared.Code.{Code}
+use Rattle.code.specs.declared.Made.{Made}
+use Rattle.code.specs.declared.Made.the-variants.{Good, Bad}
+use Rattle.code.specs.declared.Refusal.the-variants.{Entry, Torn, Pad}
+use Rattle.record.specs.declared.Header.{Header}
+use Rattle.record.specs.declared.Header.the-variants.{Record, Refused}
+use Rattle.record.specs.Layout.{partLength, padOf}
+use Rattle.record.specs.LayoutLaws.{length-readings}
+use Rattle.record.specs.Reader.{codeOf, partOf, readingsOf, framedBy, frameOf, railedBy, headerOf, laidOver}
+
+-- what is told of a code that was made
+pub made-sound : (r m : ℕ) (c : Code) → made r m ≡ Good c → Sound c
+made-sound r m c e =
+    ⊎-elim
+    (λ k. let z : _≡_ {A = ℕ} 0 1 = cc (made-large r m k) in absurd (omega arith))
+    (λ k.
+    ⊎-elim
+    (λ n. let z : _≡_ {A = ℕ} 0 1 = cc (made-crossed r m k n) in absurd (omega arith))
+    (λ n.
+    let same : record { r = r; m = m } ≡ c = cc (made-good r m k n) in
+    record { r-small = omega (arith, ap (λ (c : Code). c .r) same, ap (λ (c : Code). c .m) same); m-small = omega (arith, ap (λ (c : Code). c .m) same) })
+    (lt-or-le m r))
+    (lt-or-le largestM m)
+
+-- n is at most 256
+pub length-small : (c : Code) → Sound c → 2 ^ c .m ≤ 256
+length-small c s = pow-mono (s .m-small)
+
+pub part-small : (c : Code) → Sound c → partLength (c .m) ≤ 384
+unfolding partLength
+part-small c s = omega (arith, length-small c s)
+
+-- the three answers of a frame, by its tests
+module _ (c : Code) (s : List ℕ) where
+  pub frame-torn : length s - 1 < partLength (c .m) → framedBy (Good c) s ≡ Refused Torn
+  frame-torn h = rw (lt-ltb (length s - 1) (partLength (c .m)) h)
+
+  pub frame-pad : partLength (c .m) ≤ length s - 1 → (padOf (c .m) (partOf c s) ≡ 0 → ⊥) → framedBy (Good c) s ≡ Refused Pad
+  frame-pad h z = rw (le-ltb (length s - 1) (partLength (c .m)) h, ne-eqb (padOf (c .m) (partOf c s)) 0 z)
+
+  pub frame-whole : partLength (c .m) ≤ length s - 1 → padOf (c .m) (partOf c s) ≡ 0 → framedBy (Good c) s ≡ Record c
+  frame-whole h z = rw (le-ltb (length s - 1) (partLength (c .m)) h, eq-eqb (padOf (c .m) (partOf c s)) 0 z)
+
+-- the pad bits, as code looks at them
+pub pad-third : (m : ℕ) (s : List ℕ) → m ≡ 0 → padOf m (take (partLength m) (drop 1 s)) ≡ getD s 2 0 % 16
+unfolding padOf partLength
+pad-third zero s e = rw (getD-take 2 (drop 1 s) 1 0 (omega arith), getD-drop 1 s 1 0)
+pad-third (suc m) s e = absurd (omega arith)
+
+pub pad-none : (m : ℕ) (p : List ℕ) → (m ≡ 0 → ⊥) → padOf m p ≡ 0
+unfolding padOf
+pad-none zero p h = absurd (h refl)
+pad-none (suc m) p h = refl
+
+pub part-of-one : (m : ℕ) → m ≡ 0 → partLength m ≡ 2
+unfolding partLength
+part-of-one m e = rw e
+
+-- what is told of bytes whose frame is accepted
+pub record Framed (s : List ℕ) (c : Code) : Type 0 where
+  pub said : codeOf (getD s 0 0) ≡ Good c
+  pub sound : Sound c
+  pub whole : suc (partLength (c .m)) ≤ length s
+  pub clear : padOf (c .m) (partOf c s) ≡ 0
+
+framed-by : (first : ℕ) (s : List ℕ) (c : Code) (k : Made) → codeOf first ≡ k → framedBy k (first ∷ s) ≡ Record c → Framed (first ∷ s) c
+framed-by first s c Bad q e = let z : _≡_ {A = ℕ} 0 1 = cc in absurd (omega arith)
+framed-by first s c (Good d) q e =
+    let t = first ∷ s in
+    ⊎-elim
+    (λ k. let z : _≡_ {A = ℕ} 0 1 = cc (frame-torn d t k) in absurd (omega arith))
+    (λ k.
+    ⊎-elim
+    (λ n. let z : _≡_ {A = ℕ} 0 1 = cc (frame-pad d t k (λ w. omega (arith, w))) in absurd (omega arith))
+    (λ n.
+    let z : padOf (d .m) (partOf d t) ≡ 0 = omega arith in
+    let same : d ≡ c = cc (frame-whole d t k z) in
+    subst (Framed t) same (record { said = q; sound = made-sound (first % 16) (first / 16) d q; whole = omega arith; clear = z }))
+    (lt-or-le 0 (padOf (d .m) (partOf d t))))
+    (lt-or-le (length t - 1) (partLength (d .m)))
+
+pub framed-record : (s : List ℕ) (c : Code) → frameOf s ≡ Record c → Framed s c
+unfolding frameOf
+framed-record [] c e = let z : _≡_ {A = ℕ} 0 1 = cc in absurd (omega arith)
+framed-record (first ∷ s) c e = framed-by first s c (codeOf first) refl e
+
+-- the answers of the first test, and by the first byte
+pub frame-empty : (s : List ℕ) → length s ≡ 0 → frameOf s ≡ Refused Torn
+unfolding frameOf
+frame-empty [] e = refl
+frame-empty (first ∷ s) e = absurd (omega arith)
+
+pub frame-by : (s : List ℕ) (k : Made) → (length s ≡ 0 → ⊥) → codeOf (getD s 0 0) ≡ k → frameOf s ≡ framedBy k s
+unfolding frameOf
+frame-by [] k h q = absurd (h refl)
+frame-by (first ∷ s) k h q = ap (λ (k : Made). framedBy k (first ∷ s)) q
+
+-- the packed part as code takes it, and its readings
+pub part-taken : (c : Code) (s : List ℕ) (k : ℕ) → k ≡ partLength (c .m) → take ((1 + k) - 1) (drop 1 s) ≡ partOf c s
+part-taken c s k e = let d : (1 + k) - 1 ≡ partLength (c .m) = omega arith in rw d
+
+pub length-part : (c : Code) (s : List ℕ) → suc (partLength (c .m)) ≤ length s → length (partOf c s) ≡ partLength (c .m)
+length-part c s h = length-take-le (partLength (c .m)) (drop 1 s) (simp length-drop (omega arith))
+
+pub length-readings-of : (c : Code) (s : List ℕ) → suc (partLength (c .m)) ≤ length s → length (readingsOf c s) ≡ 2 ^ c .m
+length-readings-of c s h = length-readings (c .m) (partOf c s) (length-part c s h)
+
+-- the two answers of the test for rails
+module _ (c : Code) (s : List ℕ) (place n : ℕ) (is : place ≡ firstBadReading largestReading (readingsOf c s)) (count : length (readingsOf c s) ≡ n) where
+  pub rail-found : place < n → railedBy (Record c) s ≡ Refused (Entry place)
+  rail-found h = rw (← is, count, lt-ltb place n h)
+
+  pub rail-none : n ≤ place → railedBy (Record c) s ≡ Record c
+  rail-none h = rw (← is, count, le-ltb place n h)
+
+header-by : (s : List ℕ) (c : Code) (h : Header) → frameOf s ≡ h → railedBy h s ≡ Record c → frameOf s ≡ Record c
+header-by s c (Refused why) q e = let z : _≡_ {A = ℕ} 0 1 = cc in absurd (omega arith)
+header-by s c (Record d) q e =
+    let place = firstBadReading largestReading (readingsOf d s) in
+    ⊎-elim
+    (λ k. let z : _≡_ {A = ℕ} 0 1 = cc (rail-found d s place (length (readingsOf d s)) refl refl k) in absurd (omega arith))
+    (λ k. cc (rail-none d s place (length (readingsOf d s)) refl refl k))
+    (lt-or-le place (length (readingsOf d s)))
+
+-- what is told of bytes whose header is accepted
+pub header-framed : (s : List ℕ) (c : Code) → headerOf s ≡ Record c → frameOf s ≡ Record c
+unfolding headerOf
+header-framed s c e = header-by s c (frameOf s) refl e
+
+-- the first n of readings that are laid over a longer row
+pub first-laid : (n : ℕ) (x d : List ℤ) → n ≤ length d → length x ≡ n → take (n - 0) (drop 0 (laidOver x d)) ≡ x
+first-laid n x d h e =
+    let z : n - 0 ≡ n = omega arith in
+    rw (z, take-all (length d) x (omega arith)) (take-at x (drop (length x) d) n e)
 
 -- when as many are replaced as both have
 pub laid-front : (x d : List ℤ) → front d x (min (length x) (length d)) ≡ laidOver x d
 laid-front x d =
     ⊎-elim
     (λ k. let e : min (length x) (length d) ≡ length x = omega arith in rw (e, take-length x, take-all (length d) x (omega arith)))
-    (λ k.
-    let e : min (length x) (length d) ≡ length d = omega arith in
-    rw (e, drop-of-length-le d {i = length x} k, drop-length d))
+    (λ k. let e : min (length x) (length d) ≡ length d = omega arith in rw (e, drop-of-length-le d {i = length x} k, drop-length d))
     (lt-or-le (length x) (length d))

@@ -1,10 +1,75 @@
 // Packed records: the layout, the reader, the unpacker, and the search of a record.
 ghost use mathlib.Core.Path.{_≡_};
-ghost use Prim.Native.Nat.{_+_, _*_, _<_, _≤_, min};
+ghost use Prim.Native.Nat.{suc, _+_, _*_, _<_, _≤_, min};
 ghost use lib.IntN.{pos};
 ghost use lib.ListN.{length, getD};
-ghost use Rattle.record.specs.Layout.{reading, unpacked};
-ghost use Rattle.record.specs.Reader.{laidOver};
+ghost use Rattle.code.specs.Sound.{Sound, largestReading};
+ghost use Rattle.code.specs.Entries.{firstBadReading};
+ghost use Rattle.record.specs.Layout.{reading, unpacked, partLength};
+ghost use Rattle.record.specs.Reader.{codeOf, lengthBy, framedBy, frameOf, railedBy, headerOf, partBy, laidOver};
+use code::Code;
+use code::Made;
+use code::Refusal;
+
+// What bytes begin with: a record of a code, or why not.
+pub enum Header {
+    Record(Code),
+    Refused(Refusal),
+}
+
+// How many bytes follow a record's first.
+fn part_length(code: Code) -> usize
+    requires { ⌜ Sound code ⌝ }
+    ensures { λ k. ⌜ k ≡ partLength (code .m) ⌝ }
+{
+    (3 * code.length() + 1) / 2
+}
+
+fn code_of(first: u8) -> Made
+    ensures { λ answer. ⌜ answer ≡ codeOf first ⌝ }
+{
+    let first = first as u32;
+    Code::new(first % 16, first / 16)
+}
+
+// How many bytes a record has, told by its first byte; 0 where that byte is refused.
+pub fn record_length(first: u8) -> usize
+    ensures { λ k. ⌜ k ≡ lengthBy (codeOf first) ⌝ }
+{
+    match code_of(first) {
+        Made::Good(code) => 1 + part_length(code),
+        Made::Bad => 0,
+    }
+}
+
+// Whether all bytes of the record are there, and its pad bits are 0.
+fn framed(s: &[u8], code: Code) -> Header
+    requires { ⌜ Sound code × (0 < length (now s)) ⌝ }
+    ensures { λ answer. ⌜ answer ≡ framedBy (Made.Good code) (now (s .entry)) ⌝ }
+{
+    if s.len() - 1 < part_length(code) {
+        return Header::Refused(Refusal::Torn);
+    }
+    if code.m == 0 {
+        if s[2] % 16 != 0 {
+            return Header::Refused(Refusal::Pad);
+        }
+    }
+    Header::Record(code)
+}
+
+// The refusals 1, 8 and 9.
+fn frame(s: &[u8]) -> Header
+    ensures { λ answer. ⌜ answer ≡ frameOf (now (s .entry)) ⌝ }
+{
+    if s.len() == 0 {
+        return Header::Refused(Refusal::Torn);
+    }
+    match code_of(s[0]) {
+        Made::Good(code) => framed(s, code),
+        Made::Bad => Header::Refused(Refusal::Parameters),
+    }
+}
 
 fn wide(x: u8) -> u16
     ensures { λ w. ⌜ (w ≡ x) × (w < 256) ⌝ }
@@ -53,5 +118,52 @@ pub fn unpack(part: &[u8], readings: &mut [i16])
     while j < n {
         readings[j] = reading_at(part, j);
         j += 1;
+    }
+}
+
+// The lowest place of a reading beyond the largest in a packed part of n readings, or n where there is none.
+fn first_rail(part: &[u8], n: usize) -> usize
+    requires { ⌜ (n ≤ 256) × (length (unpacked (now part)) ≡ n) ⌝ }
+    ensures { λ place. ⌜ place ≡ firstBadReading largestReading (unpacked (now (part .entry))) ⌝ }
+{
+    let mut readings = [0i16; 256];
+    unpack(part, &mut readings);
+    code::first_bad_reading(&readings[0..n])
+}
+
+// The refusal 4.
+fn railed(s: &[u8], code: Code) -> Header
+    requires { ⌜ Sound code × (suc (partLength (code .m)) ≤ length (now s)) ⌝ }
+    ensures { λ answer. ⌜ answer ≡ railedBy (Header.Record code) (now (s .entry)) ⌝ }
+{
+    let n = code.length();
+    let end = 1 + part_length(code);
+    let place = first_rail(&s[1..end], n);
+    if place < n {
+        return Header::Refused(Refusal::Entry(place));
+    }
+    Header::Record(code)
+}
+
+// The code of the record that the bytes begin with, or the refusal: 1, 8, 9, then 4.
+pub fn header_of(s: &[u8]) -> Header
+    ensures { λ answer. ⌜ answer ≡ headerOf (now (s .entry)) ⌝ }
+{
+    match frame(s) {
+        Header::Record(code) => railed(s, code),
+        Header::Refused(why) => Header::Refused(why),
+    }
+}
+
+// The part of the bytes that holds the packed values: all of the record's bytes after its first. Empty on refusal.
+pub fn packed(s: &[u8]) -> &[u8]
+    ensures { λ part. ⌜ now part ≡ partBy (headerOf (now (s .entry))) (now (s .entry)) ⌝ }
+{
+    match header_of(s) {
+        Header::Record(code) => {
+            let end = 1 + part_length(code);
+            &s[1..end]
+        }
+        Header::Refused(_) => &s[..0],
     }
 }

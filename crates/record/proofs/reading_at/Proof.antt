@@ -1,19 +1,14 @@
 -- `record::reading_at` meets its contract: the even and the odd reading of three bytes.
 use mathlib.Core.Path.{_≡_, _∙_, ap, sym}
-use Prim.Native.Nat.{_+_, _*_, _/_, _%_, _<_}
+use Prim.Native.Nat.{_+_, _*_, _/_, _%_}
 use native.Mathlib.Omega.{arith}
 use borrow.Author.Needs.{needs}
-use lib.IntN.{pos}
 use lib.ListN.{getD}
 use mir.Facts.{toZ-ofZ}
 use Rattle.record.specs.Layout.{reading}
 use Rattle.record.specs.LayoutLaws.{even-reading, odd-reading}
 use Rattle.record.proofs.reading_at.Statement.{statement}
 use Rattle.record.proofs.reading_at.Tie as tie
-use Rattle.record.proofs.reading_at.Reads as reads
-use Rattle.record.proofs.reading_at.Lts as lts
-use Rattle.record.proofs.signed.Reads as signed-reads
-use Rattle.record.proofs.wide.Reads as wide-reads
 
 mul-at : tie.Need-mul-at
 mul-at c = search needs

@@ -4,9 +4,9 @@ use Prim.Native.Nat.{_-_}
 use native.Mathlib.Omega.{arith}
 use borrow.Author.Needs.{needs}
 use borrow.Author.Tests.{lt-ltb, le-ltb}
-use lib.IntN.{ℤ, pos, negsuc, _-ℤ_}
+use lib.IntN.{pos, negsuc, _-ℤ_}
 use mir.Syntax.{w16}
-use mir.Val.{toZ, SFits}
+use mir.Val.{toZ}
 use mir.Facts.{toZ-pos, toZ-ofZ}
 use Rattle.numbers.specs.PartsLaws.{fits-size}
 use Rattle.record.specs.LayoutLaws.{below-zero}

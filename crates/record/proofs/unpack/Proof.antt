@@ -1,9 +1,9 @@
-use mathlib.Core.Path.{_≡_, refl, ap, sym, _∙_}
-use mathlib.Core.List.{List, _++_}
-use Prim.Native.Nat.{ℕ, _+_, _-_, _*_, _≤_, min}
+-- `record::unpack` meets its contract: turn by turn the next reading is stored.
+use mathlib.Core.Path.{_≡_, refl, ap, _∙_}
+use Prim.Native.Nat.{_-_, _≤_, min}
 use native.Mathlib.Omega.{arith}
 use native.Mathlib.Numerals.{add-one}
-use lib.IntN.{ℤ, pos}
+use lib.IntN.{pos}
 use lib.ListN.{length, length-set, getD}
 use mir.Syntax.{w16}
 use mir.Val.{toZ, ofZ}
@@ -14,10 +14,6 @@ use Rattle.record.specs.LayoutLaws.{length-unpacked}
 use Rattle.record.specs.ReaderLaws.{laid-front}
 use Rattle.record.proofs.unpack.Statement.{statement}
 use Rattle.record.proofs.unpack.Tie as tie
-use Rattle.record.proofs.unpack.Reads as reads
-use Rattle.record.proofs.unpack.Lts as lts
-use Rattle.record.proofs.least.Reads as least-reads
-use Rattle.record.proofs.reading_at.Reads as reading-at-reads
 
 abbrev Inv-loop : tie.InvT-loop
 Inv-loop part readings₀ whole n j₀ readings j =
@@ -26,43 +22,33 @@ Inv-loop part readings₀ whole n j₀ readings j =
 abbrev μ-loop : tie.MeasureT-loop
 μ-loop part readings₀ whole n j₀ readings j = n - j
 
--- src/lib.rt:50:17
 mul-whole : tie.Need-mul-whole Inv-loop μ-loop
 mul-whole c = omega arith
 
--- src/lib.rt:50:17
 add-whole : tie.Need-add-whole Inv-loop μ-loop
 add-whole c = omega arith
 
--- src/lib.rt:51:9
 least-requires : tie.Need-least-requires Inv-loop μ-loop
 least-requires c κs = tt
 
--- src/lib.rt:53:5
 loop-holds : tie.Need-loop-holds Inv-loop μ-loop
 loop-holds c = (omega (arith, length-unpacked (c .before .before .args .part .now)), omega arith, refl, refl)
 
--- src/lib.rt:54:23
 reading-at-requires : tie.Need-reading-at-requires Inv-loop μ-loop
 reading-at-requires c κs = omega (arith, length-unpacked (c .before .before .before .before .args .part .now))
 
--- src/lib.rt:54:9
 mul-t14 : tie.Need-mul-t14 Inv-loop μ-loop
 mul-t14 c = omega arith
 
--- src/lib.rt:54:9
 slice-set-from-readings : tie.Need-slice-set-from-readings Inv-loop μ-loop
 slice-set-from-readings c = omega arith
 
--- src/lib.rt:55:9
 add-j : tie.Need-add-j Inv-loop μ-loop
 add-j c = omega arith
 
--- src/lib.rt:53:5
 loop-less : tie.Need-loop-less Inv-loop μ-loop
 loop-less c = omega arith
 
--- src/lib.rt:53:5
 loop-again : tie.Need-loop-again Inv-loop μ-loop
 loop-again c =
     let g = c .before .before .before .before .before .args in
@@ -75,11 +61,9 @@ loop-again c =
       length-set (o .readings) _ _ ∙ o .inv .3,
     )
 
--- src/lib.rt:47:1
 same-length : tie.Need-same-length Inv-loop μ-loop
 same-length c = c .before .loop .inv .3
 
--- src/lib.rt:47:1
 returns : tie.Need-returns Inv-loop μ-loop
 returns c =
     let g = c .before .before .before .before .args in
