@@ -10,6 +10,8 @@ pub mod PathLaws
 pub mod BestLaws
 pub mod OfferLaws
 pub mod WalkLaws
+pub mod TreeLaws
+pub mod AllowanceLaws
 pub mod CorrelationLaws
 pub mod TurnLaws
 pub mod HeldLaws
@@ -17,5 +19,6 @@ pub mod TurnedWalk
 pub mod TurnedBest
 pub mod AllOnes
 pub mod AnswerLaws
+pub mod SearchLaws
 pub mod Demands
 pub mod QuickLaws
