@@ -22,3 +22,4 @@ pub mod AnswerLaws
 pub mod SearchLaws
 pub mod Demands
 pub mod QuickLaws
+pub mod Examples
