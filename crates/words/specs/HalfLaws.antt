@@ -2,19 +2,20 @@
 -- So that r = 0 is no case of its own, a code is named here by d = r + 1; for d = 0 it holds the zero row alone.
 use mathlib.Core.Path.{_≡_, ap, sym, _∙_}
 use mathlib.Core.Logic.{⊎-elim}
-use mathlib.Core.List.{List}
+use mathlib.Core.List.{List, _++_}
 use Prim.Native.Nat.{ℕ, suc, _+_, _-_, _^_, _≤_, _<_}
 use native.Mathlib.Omega.{arith}
 use native.Mathlib.Nat.{two-pow-succ}
-use lib.ListN.{length, getD, take, drop, replicate, getD-replicate, List·getD-eq-default, length-replicate}
-use lib.Seq.{ext-getD}
+use lib.ListN.{length, length-append, getD, take, drop, replicate, getD-replicate, List·getD-eq-default, length-replicate}
+use lib.Seq.{take-at, drop-at, ext-getD}
 use Rattle.numbers.specs.Choice.{lt-or-le}
 use Rattle.numbers.specs.Halves.{length-first, length-second, getD-first, getD-second}
 use Rattle.words.specs.Bits.{Bits, xors, ones}
 use Rattle.words.specs.Word.{transform}
 use Rattle.words.specs.Kinds.{kinds, Word}
 use Rattle.words.specs.BitLaws.{by-halves, ones-most, ones-first, ones-second}
-use Rattle.words.specs.TransformLaws.{length-xors, bits-xors, bits-drop, getD-xors, length-transform, transform-xors, transform-twice, transform-zeros}
+use Rattle.words.specs.TransformLaws.{length-xors, xors-twice, bits-xors, bits-drop, bits-append, getD-xors}
+use Rattle.words.specs.TransformLaws.{length-transform, transform-xors, transform-twice, transform-zeros}
 use Rattle.words.specs.KindLaws.{kind-information, kind-frozen, length-kinds, bits-kinds, kinds-at}
 use Rattle.words.specs.InverseLaws.{word-length, word-bits, word-frozen, frozen-word}
 
@@ -109,7 +110,7 @@ below-second d m x b = record {
       sym (second-row m x (b .long) i) ∙ b .frozen (2 ^ m + i) (omega (arith, two-pow-succ m)) (omega (arith, ones-second m i h));
 }
 
-pub below-halves : (d m : ℕ) (x : List ℕ) → length x ≡ 2 ^ suc m → Bits x
+below-halves : (d m : ℕ) (x : List ℕ) → length x ≡ 2 ^ suc m → Bits x
     → Below (d - 1) m (xors (take (2 ^ m) x) (drop (2 ^ m) x)) → Below d m (drop (2 ^ m) x) → Below d (suc m) x
 below-halves d m x e h s b = record {
   long = e;
@@ -118,6 +119,17 @@ below-halves d m x e h s b = record {
       (λ i l k. first-row m x e i l ∙ s .frozen i l (omega (arith, ones-first m i l, ones-most m i)))
       (λ i l k. second-row m x e i ∙ b .frozen i l (omega (arith, ones-second m i l)));
 }
+
+-- (a + b, b) of words a and b
+pub below-joined : (d m : ℕ) (a b : List ℕ) → Below (d - 1) m a → Below d m b → Below d (suc m) (xors a b ++ b)
+below-joined d m a b g h =
+    let e : length a ≡ length b = g .long ∙ sym (h .long) in
+    let l : length (xors a b) ≡ 2 ^ m = length-xors a b e ∙ g .long in
+    below-halves d m (xors a b ++ b)
+    (length-append (xors a b) b ∙ omega (arith, l, h .long, two-pow-succ m))
+    (bits-append (xors a b) b (bits-xors a b) (h .are-bits))
+    (rw (take-at (xors a b) b (2 ^ m) l, drop-at (xors a b) b (2 ^ m) l, xors-twice a b e (g .are-bits)) g)
+    (rw (drop-at (xors a b) b (2 ^ m) l) h)
 
 -- the code for d = 0
 pub below-zero : (m : ℕ) (x : List ℕ) → Below 0 m x → x ≡ replicate (2 ^ m) 0

@@ -13,3 +13,5 @@ pub mod TableLaws
 pub mod PublishedLaws
 pub mod HalfLaws
 pub mod PolynomialLaws
+pub mod Distance
+pub mod DistanceLaws

@@ -17,9 +17,9 @@ use Rattle.words.specs.Word.{transform}
 use Rattle.words.specs.Kinds.{kinds, Word}
 use Rattle.words.specs.Polynomial.{monomial, valueTable, Polynomial}
 use Rattle.words.specs.BitLaws.{Alike, second-alike, by-halves, digit-first, digit-second, ones-first, ones-second}
-use Rattle.words.specs.TransformLaws.{xors-comm, xors-twice, bits-take, bits-drop, bits-append}
+use Rattle.words.specs.TransformLaws.{xors-comm, xors-twice, xors-undo, bits-take, bits-drop, bits-append}
 use Rattle.words.specs.TableLaws.{table, table-upper}
-use Rattle.words.specs.HalfLaws.{Below, word-below, below-word, below-xors, below-more, below-first, below-second, below-halves}
+use Rattle.words.specs.HalfLaws.{Below, word-below, below-word, below-xors, below-more, below-first, below-second, below-joined}
 
 -- ---- value tables by halves: f = g + x_m·h has g's values where x_m is 0 and those of g + h where it is 1
 monomial-alike : (m i j s t : ℕ) → Alike m i s → Alike m j t → monomial m i j ≡ monomial m s t
@@ -54,9 +54,6 @@ record OfDegree (d m : ℕ) (x : List ℕ) : Type 0 where
   degree : (i : ℕ) → i < 2 ^ m → d ≤ ones m i → getD coefficients i 0 ≡ 0
   table-is : valueTable m coefficients ≡ x
 
-undo : (a b : List ℕ) → length a ≡ length b → Bits b → xors a (xors a b) ≡ b
-undo a b e h = xors-comm a (xors a b) ∙ ap (λ (l : List ℕ). xors l a) (xors-comm a b) ∙ xors-twice b a (sym e) h
-
 values-one : (c : List ℕ) → length c ≡ 1 → Bits c → valueTable 0 c ≡ c
 unfolding valueTable total tabulate monomial
 values-one [] e h = absurd (suc-ne-zero 0 (sym e))
@@ -66,13 +63,9 @@ values-one (a ∷ b ∷ c) e h = absurd (omega arith)
 -- ---- from polynomials to words
 joined : (d m : ℕ) (a b : List ℕ) → Below d m a → Below (d - 1) m b → Below d (suc m) (a ++ xors a b)
 joined d m a b g h =
-    let e : length a ≡ length b = g .long ∙ sym (h .long) in
-    let both : Below d m (xors a b) = below-xors d m a b g (below-more (d - 1) d m b (omega arith) h) in
-    below-halves d m (a ++ xors a b)
-    (length-append a (xors a b) ∙ omega (arith, g .long, both .long, two-pow-succ m))
-    (bits-append a (xors a b) (g .are-bits) (both .are-bits))
-    (rw (take-at a (xors a b) (2 ^ m) (g .long), drop-at a (xors a b) (2 ^ m) (g .long), undo a b e (h .are-bits)) h)
-    (rw (drop-at a (xors a b) (2 ^ m) (g .long)) both)
+    let e : length b ≡ length a = h .long ∙ sym (g .long) in
+    subst (λ (l : List ℕ). Below d (suc m) (l ++ xors a b)) (ap (xors b) (xors-comm a b) ∙ xors-undo b a e (g .are-bits))
+    (below-joined d m b (xors a b) h (below-xors d m a b g (below-more (d - 1) d m b (omega arith) h)))
 
 degree-below : (d m : ℕ) (x : List ℕ) → OfDegree d m x → Below d m x
 unfolding ones transform
@@ -129,7 +122,7 @@ below-degree d (suc m) x b =
       degree = by-halves (λ (i : ℕ). d ≤ ones (suc m) i → getD (c1 ++ c2) i 0 ≡ 0) m
           (λ i l k. getD-first c1 c2 n (g .long) i 0 l ∙ g .degree i l (omega (arith, ones-first m i l)))
           (λ i l k. getD-second c1 c2 n (g .long) i 0 ∙ h .degree i l (omega (arith, ones-second m i l)));
-      table-is = rw (values-halves m (c1 ++ c2), take-at c1 c2 n (g .long), drop-at c1 c2 n (g .long), g .table-is, h .table-is, undo x1 x2 e (h2 .are-bits))
+      table-is = rw (values-halves m (c1 ++ c2), take-at c1 c2 n (g .long), drop-at c1 c2 n (g .long), g .table-is, h .table-is, xors-undo x1 x2 e (h2 .are-bits))
           (take-append-drop n x);
     }
 

@@ -50,6 +50,9 @@ xors-comm [] (b ∷ y) = refl
 xors-comm (a ∷ x) [] = refl
 xors-comm (a ∷ x) (b ∷ y) = ap₂ _∷_ (ap (λ (n : ℕ). n % 2) (add-comm a b)) (xors-comm x y)
 
+pub xors-undo : (x y : List ℕ) → length x ≡ length y → Bits y → xors x (xors x y) ≡ y
+xors-undo x y e h = xors-comm x (xors x y) ∙ ap (λ (l : List ℕ). xors l x) (xors-comm x y) ∙ xors-twice y x (sym e) h
+
 pub take-xors : (n : ℕ) (x y : List ℕ) → take n (xors x y) ≡ xors (take n x) (take n y)
 take-xors zero x y = refl
 take-xors (suc n) [] y = refl
@@ -103,6 +106,9 @@ xors-self (a ∷ x) =
     let e : (a + a) % 2 ≡ 0 = omega arith in
     ap₂ _∷_ e (xors-self x)
 
+pub xors-zeros : (n : ℕ) (x : List ℕ) → length x ≡ n → Bits x → xors x (replicate n 0) ≡ x
+xors-zeros n x e h = ap (xors x) (sym (xors-self x ∙ ap (λ (k : ℕ). replicate k 0) e)) ∙ xors-undo x x refl h
+
 pub bits-zeros : (n : ℕ) → Bits (replicate n 0)
 bits-zeros zero i = omega arith
 bits-zeros (suc n) zero = omega arith
@@ -123,7 +129,9 @@ pub bits-transform : (m : ℕ) (x : List ℕ) → Bits x → Bits (transform m x
 unfolding transform
 bits-transform zero x h = h
 bits-transform (suc m) x h =
-    bits-append (xors (transform m (take (2 ^ m) x)) (transform m (drop (2 ^ m) x))) (transform m (drop (2 ^ m) x)) (bits-xors (transform m (take (2 ^ m) x)) (transform m (drop (2 ^ m) x))) (bits-transform m (drop (2 ^ m) x) (bits-drop (2 ^ m) x h))
+    let a = transform m (take (2 ^ m) x) in
+    let b = transform m (drop (2 ^ m) x) in
+    bits-append (xors a b) b (bits-xors a b) (bits-transform m (drop (2 ^ m) x) (bits-drop (2 ^ m) x h))
 
 -- linear
 pub transform-xors : (m : ℕ) (x y : List ℕ) → length x ≡ 2 ^ m → length y ≡ 2 ^ m → transform m (xors x y) ≡ xors (transform m x) (transform m y)
@@ -138,8 +146,14 @@ transform-xors (suc m) x y e f =
     let lxb = length-transform m xb (length-second m x e) in
     let lya = length-transform m ya (length-first m y f) in
     let lyb = length-transform m yb (length-second m y f) in
-    rw (take-xors (2 ^ m) x y, drop-xors (2 ^ m) x y (e ∙ sym f), transform-xors m xa ya (length-first m x e) (length-first m y f), transform-xors m xb yb (length-second m x e) (length-second m y f))
-    (ap (λ (l : List ℕ). l ++ xors (transform m xb) (transform m yb)) (xors-swap (transform m xa) (transform m ya) (transform m xb) (transform m yb) (lxa ∙ sym lya) (lxa ∙ sym lxb) (lxa ∙ sym lyb))
+    rw (
+      take-xors (2 ^ m) x y,
+      drop-xors (2 ^ m) x y (e ∙ sym f),
+      transform-xors m xa ya (length-first m x e) (length-first m y f),
+      transform-xors m xb yb (length-second m x e) (length-second m y f),
+    )
+    (ap (λ (l : List ℕ). l ++ xors (transform m xb) (transform m yb))
+    (xors-swap (transform m xa) (transform m ya) (transform m xb) (transform m yb) (lxa ∙ sym lya) (lxa ∙ sym lxb) (lxa ∙ sym lyb))
     ∙ sym (xors-append (xors (transform m xa) (transform m xb)) (transform m xb) (xors (transform m ya) (transform m yb)) (transform m yb)
     (length-xors (transform m xa) (transform m xb) (lxa ∙ sym lxb) ∙ lxa ∙ sym (length-xors (transform m ya) (transform m yb) (lya ∙ sym lyb) ∙ lya))))
 
