@@ -35,11 +35,6 @@ getD-tabulate f zero i d h = absurd (not-suc-le-zero h)
 getD-tabulate f (suc n) zero d h = refl
 getD-tabulate f (suc n) (suc i) d h = getD-tabulate (λ j. f (suc j)) n i d (le-of-suc-le-suc h)
 
-pub sum-tabulate : (f : ℕ → ℕ) (n : ℕ) → sum (tabulate f n) ≡ total f n
-unfolding sum tabulate total
-sum-tabulate f zero = refl
-sum-tabulate f (suc n) = ap (λ (s : ℕ). f 0 + s) (sum-tabulate (λ i. f (suc i)) n)
-
 -- ---- two functions that agree below n
 pub total-same : (f g : ℕ → ℕ) (n : ℕ) → ((i : ℕ) → i < n → f i ≡ g i) → total f n ≡ total g n
 unfolding total

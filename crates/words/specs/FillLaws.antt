@@ -12,7 +12,6 @@ use Rattle.numbers.specs.Halves.{map-append}
 use Rattle.numbers.specs.EntryLaws.{Distinct, distinct-append, distinct-map}
 use Rattle.words.specs.Bits.{Bits, xors}
 use Rattle.words.specs.Kinds.{fill, pick, allBits}
-use Rattle.words.specs.TransformLaws.{getD-xors}
 use Rattle.words.specs.Rows.{Frozen, rowsOf}
 
 -- ---- lengths and entries
@@ -86,16 +85,6 @@ fill-zeros [] n = refl
 fill-zeros (zero ∷ ks) n = ap (λ (l : List ℕ). 0 ∷ l) (fill-zeros ks n)
 fill-zeros (suc k ∷ ks) zero = ap (λ (l : List ℕ). 0 ∷ l) (fill-zeros ks 0)
 fill-zeros (suc k ∷ ks) (suc n) = ap (λ (l : List ℕ). 0 ∷ l) (fill-zeros ks n)
-
-pub pick-xors : (ks u v : List ℕ) → length u ≡ length v → pick ks (xors u v) ≡ xors (pick ks u) (pick ks v)
-pick-xors [] u v e = refl
-pick-xors (k ∷ ks) [] v e = refl
-pick-xors (k ∷ ks) (x ∷ u) [] e = absurd (suc-ne-zero (length u) e)
-pick-xors (zero ∷ ks) (x ∷ u) (y ∷ v) e = pick-xors ks u v (suc-inj e)
-pick-xors (suc k ∷ ks) (x ∷ u) (y ∷ v) e = ap (λ (l : List ℕ). (x + y) % 2 ∷ l) (pick-xors ks u v (suc-inj e))
-
-pub frozen-xors : (ks u v : List ℕ) → length u ≡ length v → Frozen ks u → Frozen ks v → Frozen ks (xors u v)
-frozen-xors ks u v e f g i z = rw (getD-xors u v i e, f i z, g i z)
 
 -- ---- all rows of bits
 pub length-allBits : (k : ℕ) → length (allBits k) ≡ 2 ^ k
