@@ -72,7 +72,8 @@ changed-early (a ∷ u) (b ∷ v) g h z =
     let same : (a + b) % 2 ≡ a = omega (arith, z 0 (omega arith), h 0) in
     ap₂ _∷_ same (changed-early u v (le-of-suc-le-suc g) (λ i. h (suc i)) (λ i k. z (suc i) (omega arith)))
 
-module _ (m : ℕ) (l : List ℤ) (v : List ℕ) (e : length l ≡ 2 ^ m) (f : length v ≡ 2 ^ m) (bits : Bits v) (early : (i : ℕ) → suc i < 2 ^ m → getD v i 0 ≡ 0) where
+module _ (m : ℕ) (l : List ℤ) (v : List ℕ) (e : length l ≡ 2 ^ m) (f : length v ≡ 2 ^ m) (bits : Bits v)
+    (early : (i : ℕ) → suc i < 2 ^ m → getD v i 0 ≡ 0) where
   abbrev l′ : List ℤ
   l′ = turns (transform m v) l
 
@@ -119,7 +120,8 @@ ones-early (suc m) i h =
     let t = transform m (allOnes m) in
     let long : length t ≡ 2 ^ m = length-transform m (allOnes m) (length-replicate (2 ^ m) 1) in
     let twice = length-xors t t refl ∙ long in
-    let halves : allOnes (suc m) ≡ allOnes m ++ allOnes m = ap (λ (n : ℕ). replicate n 1) (two-pow-succ m) ∙ sym (replicate-append-replicate (2 ^ m) (2 ^ m) 1) in
+    let halves : allOnes (suc m) ≡ allOnes m ++ allOnes m =
+    ap (λ (n : ℕ). replicate n 1) (two-pow-succ m) ∙ sym (replicate-append-replicate (2 ^ m) (2 ^ m) 1) in
     rw (halves, take-at (allOnes m) (allOnes m) (2 ^ m) (length-replicate (2 ^ m) 1), drop-at (allOnes m) (allOnes m) (2 ^ m) (length-replicate (2 ^ m) 1))
     (⊎-elim
     (λ k. List·getD-append (xors t t) t 0 i (omega arith) ∙ getD-xors t t i refl ∙ omega arith)

@@ -28,4 +28,12 @@ correlation-law (r ∷ l) (b ∷ x) e =
     let c = correlation l x in
     let p = penalty l x in
     by-parts _ _
-    (omega (arith, ap up onward, ap down onward, sum-parts c (pos (2 * p)), sum-parts (turn b r) c, sum-parts (turn b r +ℤ c) (pos (2 * (loss r b + p))), turned r b))
+    (omega (
+      arith,
+      ap up onward,
+      ap down onward,
+      sum-parts c (pos (2 * p)),
+      sum-parts (turn b r) c,
+      sum-parts (turn b r +ℤ c) (pos (2 * (loss r b + p))),
+      turned r b,
+    ))

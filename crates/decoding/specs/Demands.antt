@@ -23,7 +23,8 @@ use Rattle.decoding.specs.TurnedWalk.{walked-turned}
 use Rattle.decoding.specs.AllOnes.{allOnes, turns-ones, needed-negated, all-ones-word}
 
 -- ---- Demand 3: readings negated where a word c of the set has 1
--- Both searches are tied, with the same penalty; or both answer, with the same penalty and gap, and the second's bits and word are the first's plus c's, modulo 2.
+-- Both searches are tied, with the same penalty; or both answer, with the same penalty and gap,
+-- and the second's bits and word are the first's plus c's, modulo 2.
 pub data Together (bits c : List ℕ) : Answer → Answer → Type 0 where
   both-tied : (penalty visits visits′ : ℕ) → Together bits c (tied penalty visits) (tied penalty visits′)
   both-found : (b x : List ℕ) (penalty gap visits visits′ : ℕ)
@@ -100,7 +101,8 @@ module _ (m : ℕ) (ks : List ℕ) (l : List ℤ) (c : List ℕ) (g : length ks 
 
   pub demand-3 : Demand3 m ks l c (w .bits)
   demand-3 =
-      let visits : NeverZero m l ks [] 0 start → needed m ks (turns c l) ≡ needed m ks l = λ never. ap (λ (s : State). s .visits) (walked-turned m ks l c g e w never) in
+      let visits : NeverZero m l ks [] 0 start → needed m ks (turns c l) ≡ needed m ks l =
+      λ never. ap (λ (s : State). s .visits) (walked-turned m ks l c g e w never) in
       record {
         same-length = length-turns c l (word-length m ks c g w ∙ sym e);
         readings-allowed = λ largest h. within-turns largest c l h;
@@ -121,7 +123,8 @@ module _ (r m : ℕ) (l : List ℤ) (e : length l ≡ 2 ^ m) where
   demand-3-code c w = demand-3 m (kinds r m) l c (length-kinds r m) e w
 
   -- all readings negated: every RM(r,m) has the all-ones word
-  pub demand-3-negated : (allowed : ℕ) → answer m (kinds r m) (map negℤ l) allowed ≡ plusWord (all-ones-word r m .bits) (allOnes m) (answer m (kinds r m) l allowed)
+  pub demand-3-negated : (allowed : ℕ)
+      → answer m (kinds r m) (map negℤ l) allowed ≡ plusWord (all-ones-word r m .bits) (allOnes m) (answer m (kinds r m) l allowed)
   demand-3-negated allowed =
       ap (λ (k : List ℤ). answer m (kinds r m) k allowed) (sym (turns-ones (2 ^ m) l e))
       ∙ demand-3-all-ones m (kinds r m) l (length-kinds r m) e (all-ones-word r m) allowed

@@ -1,12 +1,13 @@
 -- Laws of the quick reading, for any row of kinds: its word is a word of the code, its bits encode to it, and its penalty is at least the least.
-use mathlib.Core.Path.{_≡_, refl, ap, sym, _∙_, subst}
+use mathlib.Core.Path.{_≡_, refl, ap, ap₂, sym, _∙_, subst}
 use mathlib.Core.Logic.{⊎-elim}
 use mathlib.Core.List.{List, _++_}
 use Prim.Native.Nat.{ℕ, zero, suc, _+_, _-_, _^_, _≤_, _<_}
 use native.Mathlib.Omega.{arith}
 use native.Mathlib.Nat.{two-pow-succ}
 use lib.ListN.{length, getD, take, drop, length-append, List·getD-append}
-use lib.Seq.{take-at, drop-at, getD-take, getD-drop, getD-append-add}
+use lib.Seq.{take-at, drop-at, getD-take, getD-drop, getD-append-add, length-take-le, take-append-le, take-append-add}
+use borrow.Author.Tests.{lt-ltb, le-ltb}
 use lib.IntN.{ℤ, pos}
 use Rattle.numbers.specs.Choice.{lt-or-le}
 use Rattle.numbers.specs.Sums.{sum}
@@ -17,6 +18,7 @@ use Rattle.words.specs.Rows.{Frozen}
 use Rattle.words.specs.TransformLaws.{length-xors, xors-twice, bits-xors, bits-append, length-transform, bits-transform, transform-xors, transform-twice}
 use Rattle.words.specs.FillLaws.{length-pick, bits-pick, fill-pick}
 use Rattle.decoding.specs.Quick.{lowerRow, upperRow, decide, quickWord, quickBits, quickPenalty}
+use Rattle.decoding.specs.Walk.{value}
 use Rattle.decoding.specs.Best.{leastPenalty}
 use Rattle.decoding.specs.BestLaws.{none-less}
 use Rattle.decoding.specs.PathLaws.{hard-bit}
@@ -110,3 +112,49 @@ module _ (m : ℕ) (ks : List ℕ) (l : List ℤ) (e : length ks ≡ 2 ^ m) (h :
   pub quick-least : leastPenalty m ks l ≤ quickPenalty m ks l
   unfolding quickPenalty
   quick-least = rw encoded-quick at (none-less m ks l (quickBits m ks l) length-quickBits bits-quickBits)
+
+-- ---- at each index it takes the bit that the walk looks at first
+-- a value in the lower half and in the upper half
+value-lower : (m : ℕ) (l : List ℤ) (w : List ℕ) → length w < 2 ^ m → value (suc m) l w ≡ value m (lowerRow (2 ^ m) l) w
+unfolding value
+value-lower m l w h = rw (lt-ltb (length w) (2 ^ m) h)
+
+value-upper : (m : ℕ) (l : List ℤ) (u w : List ℕ) → length u ≡ 2 ^ m → value (suc m) l (u ++ w) ≡ value m (upperRow (2 ^ m) l (transform m u)) w
+unfolding value
+value-upper m l u w e =
+    rw (le-ltb (length (u ++ w)) (2 ^ m) (rw (length-append u w) (omega arith)), take-at u w (2 ^ m) e, drop-at u w (2 ^ m) e)
+
+-- the bit that the value after its own choices speaks for, or 0 where the index is frozen
+pub quick-chooses : (m : ℕ) (ks : List ℕ) (l : List ℤ) (i : ℕ) → i < 2 ^ m
+    → getD (transform m (quickWord m ks l)) i 0 ≡ decide (getD ks i 0) (value m l (take i (transform m (quickWord m ks l))))
+unfolding quickWord transform value
+quick-chooses zero ks l zero h = refl
+quick-chooses zero ks l (suc i) h = absurd (omega arith)
+quick-chooses (suc m) ks l i h =
+    let n = 2 ^ m in
+    let ks1 = take n ks in
+    let ks2 = drop n ks in
+    let low = lowerRow n l in
+    let a = quickWord m ks1 low in
+    let high = upperRow n l a in
+    let b = quickWord m ks2 high in
+    let u = transform m a in
+    let v = transform m b in
+    let length-a = length-quick m ks1 low in
+    let length-u = length-transform m a length-a in
+    let j = i - n in
+    rw (row-of-halves m a b length-a (length-quick m ks2 high) (bits-quick m ks1 low))
+    (⊎-elim
+    (λ k.
+    List·getD-append u v 0 i (omega arith) ∙ quick-chooses m ks1 low i k
+    ∙ ap₂ decide (getD-take n ks i 0 k) (sym (value-lower m l (take i u) (rw (length-take-le i u (omega arith)) k))
+    ∙ ap (value (suc m) l) (sym (take-append-le i u v (omega arith)))))
+    (λ k.
+    let place : i ≡ length u + j = omega arith in
+    let kind : n + j ≡ i = omega arith in
+    ap (λ (x : ℕ). getD (u ++ v) x 0) place ∙ getD-append-add u v j 0 ∙ quick-chooses m ks2 high j (omega (arith, two-pow-succ m))
+    ∙ ap₂ decide (getD-drop n ks j 0 ∙ ap (λ (x : ℕ). getD ks x 0) kind)
+    (ap (λ (c : List ℕ). value m (upperRow n l c) (take j v)) (sym (transform-twice m a length-a (bits-quick m ks1 low)))
+    ∙ sym (value-upper m l u (take j v) length-u)
+    ∙ ap (value (suc m) l) (sym (ap (λ (x : ℕ). take x (u ++ v)) place ∙ take-append-add u v j))))
+    (lt-or-le i n))

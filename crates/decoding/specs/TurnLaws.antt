@@ -54,7 +54,8 @@ within-turns largest (b ∷ c) [] h i = omega arith
 within-turns largest (b ∷ c) (r ∷ l) h zero = omega (arith, size-turn b r, h 0)
 within-turns largest (b ∷ c) (r ∷ l) h (suc i) = within-turns largest c l (λ j. h (suc j)) i
 
-pub penalty-turns : (c : List ℕ) (l : List ℤ) (x : List ℕ) → length c ≡ length l → length x ≡ length l → Bits c → Bits x → penalty (turns c l) (xors x c) ≡ penalty l x
+pub penalty-turns : (c : List ℕ) (l : List ℤ) (x : List ℕ) → length c ≡ length l → length x ≡ length l → Bits c → Bits x
+    → penalty (turns c l) (xors x c) ≡ penalty l x
 unfolding penalty
 penalty-turns [] [] x e f h k = refl
 penalty-turns [] (r ∷ l) x e f h k = absurd (suc-ne-zero (length l) (sym e))
@@ -118,8 +119,8 @@ lowers-turns (p ∷ a) (q ∷ b) (z ∷ x) [] e f g h k = absurd (suc-ne-zero (l
 lowers-turns (p ∷ a) (q ∷ b) (z ∷ x) (w ∷ y) e f g h k =
     ap₂ _∷_ (lower-turn p q z w (h 0) (k 0)) (lowers-turns a b x y (suc-inj e) (suc-inj f) (suc-inj g) (λ i. h (suc i)) (λ i. k (suc i)))
 
-uppers-turns : (a b c : List ℕ) (x y : List ℤ) → length x ≡ length y → length a ≡ length x → length b ≡ length x → length c ≡ length x → Bits a → Bits b → Bits c
-    → uppers (turns (xors a b) x) (turns b y) (xors c a) ≡ turns b (uppers x y c)
+uppers-turns : (a b c : List ℕ) (x y : List ℤ) → length x ≡ length y → length a ≡ length x → length b ≡ length x → length c ≡ length x
+    → Bits a → Bits b → Bits c → uppers (turns (xors a b) x) (turns b y) (xors c a) ≡ turns b (uppers x y c)
 uppers-turns [] [] c x y e f g i h k l = refl
 uppers-turns [] (q ∷ b) c x y e f g i h k l = absurd (suc-ne-zero (length b) (g ∙ sym f))
 uppers-turns (p ∷ a) [] c x y e f g i h k l = absurd (suc-ne-zero (length a) (f ∙ sym g))

@@ -84,7 +84,8 @@ module _ (m : ℕ) (l : List ℤ) (v : List ℕ) (e : length l ≡ 2 ^ m) (f : l
       let same-bit : 0 ≡ (0 + getD v (length u) 0) % 2 = omega (arith, rw add-zero at (frozen 0 refl)) in
       ap (λ (b′ : ℕ). extend (walk m l′ ks) (value m l′ (changed u v)) (changed u v) p b′ (rowAdded v s)) same-bit
       ∙ extend-turned (walk m l ks) (walk m l′ ks) u p 0 s (omega arith) h (omega arith)
-      (λ z. walk-turned ks (u ++ 0 ∷ []) (p + loss (value m l u) 0) (visited s) (omega (arith, length-more u 0)) (bits-more u 0 h (omega arith)) (later v u 0 0 ks frozen) (never z))
+      (λ z. walk-turned ks (u ++ 0 ∷ []) (p + loss (value m l u) 0) (visited s) (omega (arith, length-more u 0)) (bits-more u 0 h (omega arith))
+      (later v u 0 0 ks frozen) (never z))
   walk-turned (suc k ∷ ks) u p s g h frozen never =
       let a = getD v (length u) 0 in
       let x = value m l u in
@@ -96,7 +97,8 @@ module _ (m : ℕ) (l : List ℤ) (v : List ℕ) (e : length l ≡ 2 ^ m) (f : l
       let go : (b : ℕ) → b < 2 → (t : State) → (dropped (t .held) (p + loss x b) ≡ false → NeverZero m l ks (u ++ b ∷ []) (p + loss x b) (visited t))
       → extend (walk m l′ ks) x′ (changed u v) p ((b + a) % 2) (rowAdded v t) ≡ rowAdded v (extend (walk m l ks) x u p b t) =
       λ b j t n. extend-turned (walk m l ks) (walk m l′ ks) u p b t (omega arith) h j
-      (λ z. walk-turned ks (u ++ b ∷ []) (p + loss x b) (visited t) (omega (arith, length-more u b)) (bits-more u b h j) (later v u b (suc k) ks frozen) (n z)) in
+      (λ z. walk-turned ks (u ++ b ∷ []) (p + loss x b) (visited t) (omega (arith, length-more u b)) (bits-more u b h j)
+      (later v u b (suc k) ks frozen) (n z)) in
       ap₂ (λ (b : ℕ) (t : State). extend (walk m l′ ks) x′ (changed u v) p b t) second
       (ap (λ (b : ℕ). extend (walk m l′ ks) x′ (changed u v) p b (rowAdded v s)) first ∙ go (hard x) (hard-bit x) s (never .1))
       ∙ go (1 - hard x) (omega arith) s1 (never .2)
