@@ -163,14 +163,14 @@ module _ (m : ℕ) (l : List ℤ) (v : List ℕ) (e : length l ≡ 2 ^ suc m) (f
       drop-turns (2 ^ m) (transform (suc m) v) l (length-transform (suc m) v f ∙ sym e)
       ∙ ap (λ (c : List ℕ). turns c (drop (2 ^ m) l)) (drop-at (xors a b) b (2 ^ m) length-a+b)
 
-  pub lowerRow-turned : lowerRow (2 ^ m) (turns (transform (suc m) v) l) ≡ turns (transform m (take (2 ^ m) v)) (lowerRow (2 ^ m) l)
+  lowerRow-turned : lowerRow (2 ^ m) (turns (transform (suc m) v) l) ≡ turns (transform m (take (2 ^ m) v)) (lowerRow (2 ^ m) l)
   lowerRow-turned =
       let x = length-first m l e in
       ap₂ lowers first-turned second-turned
       ∙ lowers-turns (transform m (take (2 ^ m) v)) (transform m (drop (2 ^ m) v)) (take (2 ^ m) l) (drop (2 ^ m) l)
       (x ∙ sym (length-second m l e)) (length-a ∙ sym x) (length-b ∙ sym x) bits-a bits-b
 
-  pub upperRow-turned : (c : List ℕ) → length c ≡ 2 ^ m → Bits c
+  upperRow-turned : (c : List ℕ) → length c ≡ 2 ^ m → Bits c
       → upperRow (2 ^ m) (turns (transform (suc m) v) l) (xors c (transform m (take (2 ^ m) v))) ≡ turns (transform m (drop (2 ^ m) v)) (upperRow (2 ^ m) l c)
   upperRow-turned c length-c bits-c =
       let a = transform m (take (2 ^ m) v) in
@@ -184,7 +184,7 @@ module _ (m : ℕ) (l : List ℤ) (v : List ℕ) (e : length l ≡ 2 ^ suc m) (f
 abbrev pub changed : List ℕ → List ℕ → List ℕ
 changed u v = xors u (take (length u) v)
 
-pub length-changed : (u v : List ℕ) → length u ≤ length v → length (changed u v) ≡ length u
+length-changed : (u v : List ℕ) → length u ≤ length v → length (changed u v) ≡ length u
 length-changed u v h = length-xors u (take (length u) v) (sym (length-take-le (length u) v h))
 
 pub changed-more : (u v : List ℕ) (b : ℕ) → length u < length v → changed (u ++ b ∷ []) v ≡ changed u v ++ ((b + getD v (length u) 0) % 2) ∷ []

@@ -75,7 +75,7 @@ module _ (m : ℕ) (l : List ℤ) (v : List ℕ) (e : length l ≡ 2 ^ m) (f : l
       (cond-two (λ (y z : State). y ≡ rowAdded v z) (dropped (s .held) (p + loss x b)) _ _ _ _ (λ z. refl) below)
 
   -- from the path u on, where the row v is zero at the frozen indices that are still to come
-  pub walk-turned : (ks u : List ℕ) (p : ℕ) (s : State) → length u + length ks ≡ 2 ^ m → Bits u
+  walk-turned : (ks u : List ℕ) (p : ℕ) (s : State) → length u + length ks ≡ 2 ^ m → Bits u
       → ((i : ℕ) → getD ks i 0 ≡ 0 → getD v (length u + i) 0 ≡ 0) → NeverZero m l ks u p s
       → walk m l′ ks (changed u v) p (rowAdded v s) ≡ rowAdded v (walk m l ks u p s)
   unfolding walk NeverZero
