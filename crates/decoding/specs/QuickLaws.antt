@@ -111,7 +111,7 @@ module _ (m : ℕ) (ks : List ℕ) (l : List ℤ) (e : length ks ≡ 2 ^ m) (h :
   -- no better than the best word
   pub quick-least : leastPenalty m ks l ≤ quickPenalty m ks l
   unfolding quickPenalty
-  quick-least = rw encoded-quick at (none-less m ks l (quickBits m ks l) length-quickBits bits-quickBits)
+  quick-least = rw encoded-quick at (none-less m ks l (quickBits m ks l) (length-quickBits, bits-quickBits))
 
 -- ---- at each index it takes the bit that the walk looks at first
 -- a value in the lower half and in the upper half

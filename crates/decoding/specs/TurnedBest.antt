@@ -94,7 +94,7 @@ module _ (m : ℕ) (ks : List ℕ) (l : List ℤ) (c : List ℕ) (g : length ks 
       let long = length-best m ks l in
       sym
       (best-only m ks (turns c l) (gap-information m ks l above) (rw gap-turned above) (xors b (w .bits))
-      (length-xors b (w .bits) (long ∙ sym (w .long)) ∙ long) (bits-xors b (w .bits))
+      (length-xors b (w .bits) (long ∙ sym (w .long)) ∙ long, bits-xors b (w .bits))
       (penalty-added b long (bits-best m ks l) ∙ best-attains m ks l ∙ sym least-turned))
 
   -- and the best word with c added

@@ -4,7 +4,8 @@ use mathlib.Core.Path.{_≡_, refl, ap, ap₂, sym, _∙_}
 use mathlib.Core.Logic.{⊎-elim, _⊎_, inl, inr}
 use mathlib.Core.Bool.{false}
 use mathlib.Core.List.{List, [], _∷_, _++_, append-nil, append-assoc, map, map-map}
-use mathlib.Core.List.{List·Memᴰ, List·Memᴰ·head, List·Memᴰ·not-nil, List·Memᴰ·append-cases, List·Memᴰ·eq-of-singleton, Memᴰ·map, Memᴰ·of-map, Memᴰ·append-left, Memᴰ·append-right, Memᴰ·cast}
+use mathlib.Core.List.{List·Memᴰ, List·Memᴰ·head, List·Memᴰ·not-nil, List·Memᴰ·append-cases, List·Memᴰ·eq-of-singleton}
+use mathlib.Core.List.{Memᴰ·map, Memᴰ·of-map, Memᴰ·append-left, Memᴰ·append-right, Memᴰ·cast}
 use Prim.Native.Nat.{ℕ, zero, suc, _+_, _-_, _^_, _≤_, _<_}
 use native.Mathlib.Omega.{arith}
 use native.Mathlib.Nat.{le-refl, le-trans, le-add-right, add-comm}
@@ -25,10 +26,10 @@ use Rattle.words.specs.TransformLaws.{bits-more}
 use Rattle.words.specs.FillLaws.{fill-allBits, of-rowsOf, fill-pick, length-pick, bits-pick}
 use Rattle.decoding.specs.Readings.{loss, penalty}
 use Rattle.decoding.specs.Quick.{hard}
-use Rattle.decoding.specs.Best.{penalties, leastPenalty, gap, bestBits, bestWord}
+use Rattle.decoding.specs.Best.{penaltyOf, penalties, leastPenalty, gap, bestBits, bestWord}
 use Rattle.decoding.specs.Walk.{value, addedBy, pathPenalty, Full, Held, none, two, State, start, dropped, visited, extend, walk, walked}
 use Rattle.decoding.specs.PathLaws.{path-more, path-full, hard-bit}
-use Rattle.decoding.specs.BestLaws.{two-penalties, next-penalty, best-only}
+use Rattle.decoding.specs.BestLaws.{InformationBits, two-penalties, next-penalty, best-only}
 use Rattle.decoding.specs.OfferLaws.{penaltiesOf, pathsOf, offers, offers-append, offers-dropped, two-held, offers-least, offers-each, offers-apart}
 
 -- ---- all full paths below the path u of penalty p, in the walk's order
@@ -193,6 +194,16 @@ pub record WalkEnd (m : ℕ) (ks : List ℕ) (l : List ℤ) (best second : Full)
   pub next-least : second .penalty ≡ leastPenalty m ks l + gap m ks l
   pub differ : best .path ≡ second .path → ⊥
 
+-- two different rows of k bits whose words have the least penalty and the next
+pub record BestTwo (m : ℕ) (ks : List ℕ) (l : List ℤ) : Type 0 where
+  pub first : List ℕ
+  pub second : List ℕ
+  pub first-bits : InformationBits ks first
+  pub second-bits : InformationBits ks second
+  pub differ : first ≡ second → ⊥
+  pub first-has : penaltyOf m ks l first ≡ leastPenalty m ks l
+  pub second-has : penaltyOf m ks l second ≡ leastPenalty m ks l + gap m ks l
+
 module _ (m : ℕ) (ks : List ℕ) (l : List ℤ) (e : length l ≡ 2 ^ m) (f : length ks ≡ 2 ^ m) (kinds : Bits ks) (information : 1 ≤ sum ks) where
   all-fulls : Reordered (penaltiesOf (fulls m l ks [] 0)) (penalties m ks l)
   unfolding addedBy penalties
@@ -233,6 +244,29 @@ module _ (m : ℕ) (ks : List ℕ) (l : List ℤ) (e : length l ≡ 2 ^ m) (f : 
       let r = two-held all (rw many (two-penalties m ks l information)) in
       (r .0, r .1, walk-offers m l ks [] 0 start refl ∙ r .2)
 
+  -- so two different rows of bits have words with the least penalty and the next
+  pub best-two : BestTwo m ks l
+  best-two =
+      let r = walked-two in
+      let end = walked-end (r .0) (r .1) (r .2) in
+      let a = end .best-path in
+      let b = end .second-path in
+      let u = r .0 .path in
+      let v = r .1 .path in
+      let long-u : length u ≡ length ks = a .long ∙ sym f in
+      let long-v : length v ≡ length ks = b .long ∙ sym f in
+      let row-u : fill ks (pick ks u) ≡ u = fill-pick ks u (a .frozen) long-u in
+      let row-v : fill ks (pick ks v) ≡ v = fill-pick ks v (b .frozen) long-v in
+      record {
+        first = pick ks u;
+        second = pick ks v;
+        first-bits = (length-pick ks u kinds long-u, bits-pick ks u (a .are-bits));
+        second-bits = (length-pick ks v kinds long-v, bits-pick ks v (b .are-bits));
+        differ = λ z. end .differ (sym row-u ∙ ap (fill ks) z ∙ row-v);
+        first-has = ap (λ (x : List ℕ). penalty l (transform m x)) row-u ∙ sym (a .has) ∙ end .least-penalty;
+        second-has = ap (λ (x : List ℕ). penalty l (transform m x)) row-v ∙ sym (b .has) ∙ end .next-least;
+      }
+
   -- with a gap above 0 the best path is the best word's
   module _ (a b : Full) (end : WalkEnd m ks l a b) (above : 0 < gap m ks l) where
     filled : fill ks (pick ks (a .path)) ≡ a .path
@@ -240,7 +274,7 @@ module _ (m : ℕ) (ks : List ℕ) (l : List ℤ) (e : length l ≡ 2 ^ m) (f : 
 
     pub best-bits : pick ks (a .path) ≡ bestBits m ks l
     best-bits =
-        best-only m ks l information above (pick ks (a .path)) (length-pick ks (a .path) kinds (end .best-path .long ∙ sym f)) (bits-pick ks (a .path) (end .best-path .are-bits))
+        best-only m ks l information above (pick ks (a .path)) (length-pick ks (a .path) kinds (end .best-path .long ∙ sym f), bits-pick ks (a .path) (end .best-path .are-bits))
         (ap (λ (x : List ℕ). penalty l (transform m x)) filled ∙ sym (end .best-path .has) ∙ end .least-penalty)
 
     pub best-row : a .path ≡ fill ks (bestBits m ks l)
