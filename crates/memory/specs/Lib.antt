@@ -2,3 +2,6 @@ pub mod Memory
 pub mod MemoryLaws
 pub mod Ready
 pub mod PathLaws
+pub mod StandsLaws
+pub mod MakeLaws
+pub mod ValueLaws

@@ -1,21 +1,20 @@
 -- Laws of the walk's memory: the path that the bytes hold, by halves; what the value at its end is, and what the rows stand for.
-use mathlib.Core.Path.{_≡_, refl, ap, ap₂, sym, _∙_, subst}
-use mathlib.Core.List.{List, [], _∷_, _++_, append-nil, append-assoc}
+use mathlib.Core.Path.{_≡_, refl, sym, _∙_, subst}
+use mathlib.Core.List.{List, [], _++_, append-nil}
 use mathlib.Core.Logic.{⊎-elim}
-use Prim.Native.Nat.{ℕ, zero, suc, _+_, _-_, _^_, _≤_, _<_}
+use Prim.Native.Nat.{ℕ, zero, suc, _-_, _^_, _≤_, _<_}
 use native.Mathlib.Omega.{arith}
 use native.Mathlib.Nat.{two-pow-succ}
-use lib.IntN.{ℤ}
 use lib.ListN.{length, take, drop, length-append}
-use lib.Seq.{take-all, take-at, drop-at, length-take-le}
+use lib.Seq.{take-all, length-take-le}
 use lib.Pow.{pow-pos}
 use borrow.Author.Tests.{lt-ltb, le-ltb}
 use Rattle.numbers.specs.Choice.{lt-or-le}
 use Rattle.numbers.specs.Halves.{length-first, length-second}
-use Rattle.words.specs.Bits.{Bits, xors}
+use Rattle.words.specs.Bits.{Bits}
 use Rattle.words.specs.Word.{transform}
 use Rattle.words.specs.TransformLaws.{length-transform, bits-transform, bits-take, bits-drop, bits-append}
-use Rattle.memory.specs.Memory.{pathOf, Stands}
+use Rattle.memory.specs.Memory.{pathOf}
 
 -- ---- the path by halves
 pub path-lower : (m i : ℕ) (x : List ℕ) → i < 2 ^ m → pathOf (suc m) i x ≡ pathOf m i (take (2 ^ m) x)

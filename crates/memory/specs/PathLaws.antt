@@ -7,14 +7,14 @@ use native.Mathlib.Nat.{two-pow-succ, suc-ne-zero}
 use lib.ListN.{length, take, drop, set, length-append, length-drop, take-append-drop}
 use lib.Seq.{take-at, drop-at, length-take-le, take-append-add}
 use borrow.Rule.Slice.PartMut.{midOf, putMid, same-len-mid}
-use Rattle.numbers.specs.Halves.{Halved, halved, length-first, length-second}
+use Rattle.numbers.specs.Halves.{halved}
 use Rattle.numbers.specs.Lent.{lent-to, back-to, lent-from, back-from}
 use Rattle.words.specs.Bits.{Bits, xors}
 use Rattle.words.specs.Word.{transform}
 use Rattle.words.specs.TransformLaws.{length-xors, length-transform, transform-xors, xors-twice, bits-transform, bits-take, bits-drop, bits-append, bits-xors}
 use Rattle.half.specs.Fold.{folded}
 use Rattle.memory.specs.Memory.{pathOf}
-use Rattle.memory.specs.MemoryLaws.{path-first, path-upper, path-full, length-path}
+use Rattle.memory.specs.MemoryLaws.{path-first, path-upper, path-full}
 use Rattle.memory.specs.Ready.{PathReady, BitPut, BitBack}
 
 -- ---- one byte

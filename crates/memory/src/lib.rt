@@ -4,8 +4,9 @@ ghost use mathlib.Core.List.{_++_, _∷_, []};
 ghost use Prim.Native.Nat.{ℕ, _+_, _^_, _≤_, _<_};
 ghost use lib.ListN.{length, take};
 ghost use Rattle.words.specs.Bits.{Bits};
-ghost use Rattle.memory.specs.Memory.{pathOf};
-ghost use Rattle.memory.specs.Ready.{PathReady, BitPut, BitBack};
+ghost use Rattle.memory.specs.Memory.{pathOf, Stands};
+ghost use Rattle.decoding.specs.Walk.{value};
+ghost use Rattle.memory.specs.Ready.{PathReady, BitPut, BitBack, RowReady, RowsMade, TopReady, ValueReady};
 
 fn length(m: usize) -> usize
     requires { ⌜ m ≤ 8 ⌝ }
@@ -100,4 +101,78 @@ pub fn take_back(half: &mut [u8; 256], m: usize, i: usize)
         × Bits (now (half .exit)) ⌝ }
 {
     take_back_front(half, m, i);
+}
+
+// Makes the rows below the row of 2^m sums stand for index i of the path in it.
+fn make_rows(rows: &mut [i32], half: &[u8], m: usize, i: usize)
+    requires { ⌜ RowReady m i (now rows) (now half) ⌝ }
+    ensures { λ _. ⌜ RowsMade m (pathOf m i (now (half .entry))) (now (rows .entry)) (now (rows .exit)) ⌝ }
+{
+    if m == 0 {
+        return;
+    }
+    let h = half.len() / 2;
+    if i < h {
+        rows::lower_row(rows, h);
+        make_rows(rows, &half[0..h], m - 1, i);
+        return;
+    }
+    rows::upper_row(rows, h, half);
+    make_rows(rows, &half[h..], m - 1, i - h);
+}
+
+// Makes all rows stand for index i of the path.
+fn make_all(readings: &[i16], rows: &mut [i32], half: &[u8], m: usize, i: usize)
+    requires { ⌜ TopReady m i (now readings) (now rows) (now half) ⌝ }
+    ensures { λ _. ⌜ Stands m (now (readings .entry)) (pathOf m i (take (2 ^ m) (now (half .entry)))) (take (2 ^ m) (now (rows .exit))) ⌝ }
+{
+    let n = readings.len();
+    let h = n / 2;
+    if i < h {
+        rows::lower_top(readings, rows, h);
+        make_rows(rows, &half[0..h], m - 1, i);
+        return;
+    }
+    rows::upper_top(readings, rows, h, half);
+    make_rows(rows, &half[h..n], m - 1, i - h);
+}
+
+fn value_front(
+    readings: &[i16],
+    rows: &mut [i32],
+    half: &[u8],
+    m: usize,
+    fresh: bool,
+    i: usize,
+) -> i32
+    requires { ⌜ ValueReady (now readings) m fresh i (now rows) (now half)
+        × (length (now rows) ≡ 256) × (length (now half) ≡ 256) ⌝ }
+    ensures { λ r. ⌜
+        (r ≡ value m (now (readings .entry)) (pathOf m i (take (2 ^ m) (now (half .entry)))))
+        × Stands m (now (readings .entry)) (pathOf m i (take (2 ^ m) (now (half .entry))))
+        (take (2 ^ m) (now (rows .exit))) ⌝ }
+{
+    if m == 0 {
+        return readings[0] as i32;
+    }
+    make_all(readings, rows, half, m, i);
+    rows[1]
+}
+
+// The value at index i of the path that half holds. Where fresh, the rows stand for the index before.
+pub fn value(
+    readings: &[i16],
+    rows: &mut [i32; 256],
+    half: &[u8; 256],
+    m: usize,
+    fresh: bool,
+    i: usize,
+) -> i32
+    requires { ⌜ ValueReady (now readings) m fresh i (now rows) (now half) ⌝ }
+    ensures { λ r. ⌜
+        (r ≡ value m (now (readings .entry)) (pathOf m i (take (2 ^ m) (now (half .entry)))))
+        × Stands m (now (readings .entry)) (pathOf m i (take (2 ^ m) (now (half .entry))))
+        (take (2 ^ m) (now (rows .exit))) ⌝ }
+{
+    value_front(readings, rows, half, m, fresh, i)
 }

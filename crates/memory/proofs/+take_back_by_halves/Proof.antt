@@ -1,6 +1,5 @@
 -- The measure is m. What is asked and learnt at each call follows from the laws of a path in bytes that are lent by halves.
-use mathlib.Core.Path.{ap, sym, _∙_, subst}
-use mathlib.Core.List.{List}
+use mathlib.Core.Path.{_∙_}
 use Prim.Native.Nat.{ℕ, _<_, _-_, _/_}
 use lib.ListN.{length}
 use borrow.Rule.Slice.PartMut.{same-len-mid}

@@ -1,0 +1,60 @@
+-- `value_front`: one reading is its own value; of more the value is the row of one sum.
+use Prim.Native.Nat.{_^_}
+use lib.IntN.{pos}
+use lib.ListN.{getD, take}
+use Rattle.rows.specs.RowLaws.{reading-fits}
+use Rattle.memory.specs.Memory.{pathOf}
+use Rattle.memory.specs.ValueLaws.{single, last-row, top-ready}
+use native.Mathlib.Omega.{arith}
+use borrow.Author.Needs.{needs}
+use Rattle.memory.proofs.value_front.Statement.{statement}
+use Rattle.memory.proofs.value_front.Tie as tie
+
+shared-slice-copy-out-result : tie.Need-shared-slice-copy-out-result
+shared-slice-copy-out-result c = search needs
+
+cast-result : tie.Need-cast-result
+cast-result c = reading-fits {z = getD (c .before .before .before .args .readings .now) 0 (pos 0)} (record { sfits = c .result .given })
+
+returns : tie.Need-returns
+returns c =
+    let g = c .before .before .before in
+    let l = g .args .readings .now in
+    let s = g .args .rows .now in
+    let y = g .args .half .now in
+    single (g .args .m) l (pathOf (g .args .m) (g .args .i) (take (2 ^ g .args .m) y)) (take (2 ^ g .args .m) s) (c .before .if1 .taken) (record { sfits = c .result .given })
+
+make-all-requires : tie.Need-make-all-requires
+make-all-requires c κs =
+    let g = c .before .before .before in
+    let l = g .args .readings .now in
+    let s = g .args .rows .now in
+    let y = g .args .half .now in
+    top-ready l (g .args .m) (g .args .fresh) (g .args .i) s y (g .pre .0) (g .pre .1) (g .pre .2) (λ e. omega arith)
+
+slice-copy-out-result : tie.Need-slice-copy-out-result
+slice-copy-out-result c = search needs
+
+same-length : tie.Need-same-length
+same-length c = search needs
+
+returns-2 : tie.Need-returns-2
+returns-2 c =
+    let g = c .before .before .before .before .before .before in
+    let l = g .args .readings .now in
+    let s = g .args .rows .now in
+    let y = g .args .half .now in
+    let a = c .before .before .make-all in
+    last-row (g .args .m) l (pathOf (g .args .m) (g .args .i) (take (2 ^ g .args .m) y)) (a .last .1 .0) (λ e. omega arith) (g .pre .0 .small) (a .ensures)
+
+pub value-front-spec : {M : Type 1} → statement M
+value-front-spec =
+    tie.close
+    (tie.spec
+    shared-slice-copy-out-result
+    cast-result
+    returns
+    make-all-requires
+    slice-copy-out-result
+    same-length
+    returns-2)
