@@ -51,7 +51,8 @@ module _ (allowed : ℕ) where
   extend-within onward within v u p b s grows below =
       ⊎-elim
       (λ k. rw (lt-ltb (s .visits) allowed k)
-      (cond-two (λ (x : Limited) (y : State). x ≡ seen y) (dropped (s .held) (p + loss v b)) _ _ _ _ (λ e. sym (seen-ended (visited s) (omega arith))) (λ e. below (omega arith))))
+      (cond-two (λ (x : Limited) (y : State). x ≡ seen y) (dropped (s .held) (p + loss v b)) _ _ _ _
+      (λ e. sym (seen-ended (visited s) (omega arith))) (λ e. below (omega arith))))
       (λ k. rw (le-ltb (s .visits) allowed k) (sym (seen-out (extend onward v u p b s) (omega arith))))
       (lt-or-le (s .visits) allowed)
 
@@ -60,7 +61,8 @@ module _ (allowed : ℕ) where
   walk-within m l [] u p s h = sym (seen-ended (finished u p s) h)
   walk-within m l (zero ∷ ks) u p s h =
       let v = value m l u in
-      extend-within (walk m l ks) (walkWithin allowed m l ks) v u p 0 s (extend-visits (walk m l ks) v u p 0 s (walk-visits m l ks (u ++ 0 ∷ []) (p + loss v 0) (visited s)))
+      extend-within (walk m l ks) (walkWithin allowed m l ks) v u p 0 s
+      (extend-visits (walk m l ks) v u p 0 s (walk-visits m l ks (u ++ 0 ∷ []) (p + loss v 0) (visited s)))
       (walk-within m l ks (u ++ 0 ∷ []) (p + loss v 0) (visited s))
   walk-within m l (suc k ∷ ks) u p s h =
       let v = value m l u in
@@ -72,7 +74,9 @@ module _ (allowed : ℕ) where
       let first : State = extend (walk m l ks) v u p (hard v) s in
       ap (λ (x : Limited). andThen x second) (go (hard v) s)
       ∙ ⊎-elim
-      (λ i. ap (λ (x : Limited). andThen x second) (seen-out first i) ∙ sym (seen-out (extend (walk m l ks) v u p (1 - hard v) first) (omega (arith, grows (1 - hard v) first))))
+      (λ i.
+      ap (λ (x : Limited). andThen x second) (seen-out first i)
+      ∙ sym (seen-out (extend (walk m l ks) v u p (1 - hard v) first) (omega (arith, grows (1 - hard v) first))))
       (λ i. ap (λ (x : Limited). andThen x second) (seen-ended first i) ∙ go (1 - hard v) first)
       (lt-or-le allowed (first .visits))
 

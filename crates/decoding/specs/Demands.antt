@@ -98,7 +98,9 @@ module _ (m : ℕ) (ks : List ℕ) (l : List ℤ) (e : length l ≡ 2 ^ m) (f : 
       let best = bestBits m ks l in
       let own : penaltyOf m ks l b ≡ p = ap (penalty l) (r .gives) ∙ r .has in
       ⊎-elim
-      (λ h. absurd (omega (arith, r .others best (best-bits-are m ks l) (λ z. omega (arith, own, ap (penaltyOf m ks l) z, best-attains m ks l)), best-attains m ks l)))
+      (λ h.
+      let other : best ≡ b → ⊥ = λ z. omega (arith, own, ap (penaltyOf m ks l) z, best-attains m ks l) in
+      absurd (omega (arith, r .others best (best-bits-are m ks l) other, best-attains m ks l)))
       (λ h. omega (arith, none-less m ks l b (r .information), own))
       (lt-or-le (leastPenalty m ks l) p)
 
@@ -134,9 +136,11 @@ module _ (m : ℕ) (ks : List ℕ) (l : List ℤ) (e : length l ≡ 2 ^ m) (f : 
   tied-only allowed p visits in-time r same =
       let p-is : p ≡ leastPenalty m ks l =
       omega (arith, r .none-less (bestBits m ks l) (best-bits-are m ks l), best-attains m ks l, none-less m ks l (r .first) (r .first-bits), r .first-has) in
+      let only : 0 < gap m ks l → (c : List ℕ) → InformationBits ks c → penaltyOf m ks l c ≡ p → c ≡ bestBits m ks l = λ h c i z.
+      best-only m ks l information h c i (z ∙ p-is) in
       let none : gap m ks l ≡ 0 =
       ⊎-elim
-      (λ h. absurd (r .differ (best-only m ks l information h (r .first) (r .first-bits) (r .first-has ∙ p-is) ∙ sym (best-only m ks l information h (r .second) (r .second-bits) (r .second-has ∙ p-is)))))
+      (λ h. absurd (r .differ (only h (r .first) (r .first-bits) (r .first-has) ∙ sym (only h (r .second) (r .second-bits) (r .second-has)))))
       (λ h. omega arith)
       (lt-or-le 0 (gap m ks l)) in
       rw (p-is, same) (answer-tied m ks l allowed in-time none)

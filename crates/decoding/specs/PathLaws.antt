@@ -45,7 +45,8 @@ module _ (m : ℕ) (l : List ℤ) where
   unfolding addedBy
   added-append u [] w = rw (append-nil u) (sym (zero-add (addedBy m l u w)))
   added-append u (b ∷ v) w =
-      rw (added-append (u ++ b ∷ []) v w, append-assoc u (b ∷ []) v) (sym (add-assoc (loss (value m l u) b) (addedBy m l (u ++ b ∷ []) v) (addedBy m l (u ++ b ∷ v) w)))
+      rw (added-append (u ++ b ∷ []) v w, append-assoc u (b ∷ []) v)
+      (sym (add-assoc (loss (value m l u) b) (addedBy m l (u ++ b ∷ []) v) (addedBy m l (u ++ b ∷ v) w)))
 
   -- a path that is extended by one bit
   pub path-more : (u : List ℕ) (b : ℕ) → pathPenalty m l (u ++ b ∷ []) ≡ pathPenalty m l u + loss (value m l u) b
@@ -103,9 +104,12 @@ halves-more (suc m) l u b e h =
     let v = u ++ b ∷ [] in
     let a = transform m (take n u) in
     ⊎-elim
-    (λ k.
-    rw (lt-ltb (length u) n k, take-all n v (rw (length-more u b) (omega arith)), drop-of-length-le v {i = n} (rw (length-more u b) (omega arith)), take-all n u (le-of-lt k), drop-of-length-le u {i = n} (le-of-lt k))
-    (omega (arith, halves-more m (lowerRow n l) u b (long-lowerRow m l e) k, halves-nil m (upperRow n l (transform m v)), halves-nil m (upperRow n l (transform m u)))))
+    (λ (k : length u < 2 ^ m).
+    let inside : length v ≤ n = rw (length-more u b) (omega arith) in
+    let nil-v = halves-nil m (upperRow n l (transform m v)) in
+    let nil-u = halves-nil m (upperRow n l (transform m u)) in
+    rw (lt-ltb (length u) n k, take-all n v inside, drop-of-length-le v {i = n} inside, take-all n u (le-of-lt k), drop-of-length-le u {i = n} (le-of-lt k))
+    (omega (arith, halves-more m (lowerRow n l) u b (long-lowerRow m l e) k, nil-v, nil-u)))
     (λ k.
     let up : length (upperRow n l a) ≡ n = long-upperRow m l e a (length-transform m (take n u) (length-take-le n u k)) in
     rw (le-ltb (length u) n k, take-append-le n u (b ∷ []) k, drop-append-le n u (b ∷ []) k)

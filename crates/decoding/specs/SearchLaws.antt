@@ -64,8 +64,10 @@ module _ (m : ℕ) (ks : List ℕ) (l : List ℤ) (e : length l ≡ 2 ^ m) (f : 
       let margin : b .penalty - a .penalty ≡ gap m ks l = omega (arith, end .least-penalty, end .next-least) in
       let visits : s .visits ≡ needed m ks l = ap (λ (t : State). t .visits) (sym (ran .same)) in
       ⊎-elim
-      (λ z. rw (margin, end .least-penalty, visits, ne-eqb (gap m ks l) 0 (λ i. omega arith), best-bits m ks l e f kinds information a b end z, best-word m ks l e f kinds information a b end z)
-      (answer-found m ks l allowed (ran .in-time) z))
+      (λ z.
+      let bits = best-bits m ks l e f kinds information a b end z in
+      let word = best-word m ks l e f kinds information a b end z in
+      rw (margin, end .least-penalty, visits, ne-eqb (gap m ks l) 0 (λ i. omega arith), bits, word) (answer-found m ks l allowed (ran .in-time) z))
       (λ z.
       let none : gap m ks l ≡ 0 = omega arith in
       rw (margin, end .least-penalty, visits, eq-eqb (gap m ks l) 0 none) (answer-tied m ks l allowed (ran .in-time) none))

@@ -113,6 +113,9 @@ module _ (m : ℕ) (l : List ℤ) where
       ⊎-elim (go (hard v) (bit-cases v)) (go (1 - hard v) other)
       (List·Memᴰ·append-cases (fulls m l ks (u ++ hard v ∷ []) (p + loss v (hard v))) i)
 
+  extended : (u : List ℕ) (p b : ℕ) → p ≡ pathPenalty m l u → p + loss (value m l u) b ≡ pathPenalty m l (u ++ b ∷ [])
+  extended u p b e = ap (λ (n : ℕ). n + loss (value m l u) b) e ∙ sym (path-more m l u b)
+
   -- their penalties are those of the paths
   fulls-penalty : (ks u : List ℕ) (p : ℕ) (f : Full) → p ≡ pathPenalty m l u → List·Memᴰ f (fulls m l ks u p) → f .penalty ≡ pathPenalty m l (f .path)
   unfolding fulls
@@ -120,11 +123,11 @@ module _ (m : ℕ) (l : List ℤ) where
       let z = List·Memᴰ·eq-of-singleton i in
       ap (λ (g : Full). g .penalty) z ∙ e ∙ sym (ap (λ (g : Full). pathPenalty m l (g .path)) z)
   fulls-penalty (zero ∷ ks) u p f e i =
-      fulls-penalty ks (u ++ 0 ∷ []) (p + loss (value m l u) 0) f (ap (λ (n : ℕ). n + loss (value m l u) 0) e ∙ sym (path-more m l u 0)) i
+      fulls-penalty ks (u ++ 0 ∷ []) (p + loss (value m l u) 0) f (extended u p 0 e) i
   fulls-penalty (suc k ∷ ks) u p f e i =
       let v = value m l u in
       let go : (b : ℕ) → List·Memᴰ f (fulls m l ks (u ++ b ∷ []) (p + loss v b)) → f .penalty ≡ pathPenalty m l (f .path) = λ b j.
-      fulls-penalty ks (u ++ b ∷ []) (p + loss v b) f (ap (λ (n : ℕ). n + loss v b) e ∙ sym (path-more m l u b)) j in
+      fulls-penalty ks (u ++ b ∷ []) (p + loss v b) f (extended u p b e) j in
       ⊎-elim (go (hard v)) (go (1 - hard v)) (List·Memᴰ·append-cases (fulls m l ks (u ++ hard v ∷ []) (p + loss v (hard v))) i)
 
   -- no path twice: those of the two branches differ at the index where they part
@@ -165,14 +168,14 @@ module _ (m : ℕ) (l : List ℤ) (e : length l ≡ 2 ^ m) where
       rw (append-nil u) (ap (λ (n : ℕ). sum (g n ∷ [])) (f ∙ path-full m l e u (omega arith) k))
   fulls-reordered (zero ∷ ks) u p f h k g =
       rw (branch u 0 (rowsOf ks))
-      (fulls-reordered ks (u ++ 0 ∷ []) (p + loss (value m l u) 0) (ap (λ (n : ℕ). n + loss (value m l u) 0) f ∙ sym (path-more m l u 0)) (omega (arith, length-more u 0)) (bits-more u 0 k (omega arith)) g)
+      (fulls-reordered ks (u ++ 0 ∷ []) (p + loss (value m l u) 0) (extended m l u p 0 f) (omega (arith, length-more u 0)) (bits-more u 0 k (omega arith)) g)
   fulls-reordered (suc j ∷ ks) u p f h k g =
       let v = value m l u in
       let rows = rowsOf ks in
       let below : ℕ → List Full = λ b. fulls m l ks (u ++ b ∷ []) (p + loss v b) in
       let sums : ℕ → ℕ = λ b. sum (map g (map (rowPenalty (u ++ b ∷ [])) rows)) in
       let go : (b : ℕ) → b < 2 → sum (map g (penaltiesOf (below b))) ≡ sums b = λ b c.
-      fulls-reordered ks (u ++ b ∷ []) (p + loss v b) (ap (λ (n : ℕ). n + loss v b) f ∙ sym (path-more m l u b)) (omega (arith, length-more u b)) (bits-more u b k c) g in
+      fulls-reordered ks (u ++ b ∷ []) (p + loss v b) (extended m l u p b f) (omega (arith, length-more u b)) (bits-more u b k c) g in
       let left : sum (map g (penaltiesOf (below (hard v) ++ below (1 - hard v)))) ≡ sums (hard v) + sums (1 - hard v) =
       sum-mapped g (λ (w : Full). w .penalty) (below (hard v)) (below (1 - hard v)) ∙ ap₂ _+_ (go (hard v) (hard-bit v)) (go (1 - hard v) (omega arith)) in
       let right : sum (map g (map (rowPenalty u) (map (λ r. 0 ∷ r) rows ++ map (λ r. 1 ∷ r) rows))) ≡ sums 0 + sums 1 =
@@ -209,7 +212,8 @@ module _ (m : ℕ) (ks : List ℕ) (l : List ℤ) (e : length l ≡ 2 ^ m) (f : 
   unfolding addedBy penalties
   all-fulls g =
       fulls-reordered m l e ks [] 0 refl (omega arith) (λ i. omega arith) g
-      ∙ ap (λ (x : List ℕ). sum (map g x)) (ap (map (λ r. penalty l (transform m r))) (sym (fill-allBits ks kinds)) ∙ map-map (λ r. penalty l (transform m r)) (fill ks) (allBits (sum ks)))
+      ∙ ap (λ (x : List ℕ). sum (map g x))
+      (ap (map (λ r. penalty l (transform m r))) (sym (fill-allBits ks kinds)) ∙ map-map (λ r. penalty l (transform m r)) (fill ks) (allBits (sum ks)))
 
   code-path : (w : Full) → List·Memᴰ w (fulls m l ks [] 0) → CodePath m ks l w
   unfolding addedBy
@@ -240,7 +244,8 @@ module _ (m : ℕ) (ks : List ℕ) (l : List ℤ) (e : length l ≡ 2 ^ m) (f : 
   unfolding walked
   walked-two =
       let all = fulls m l ks [] 0 in
-      let many : length all ≡ length (penalties m ks l) = sym (length-map all (λ (w : Full). w .penalty)) ∙ length-reordered (penaltiesOf all) (penalties m ks l) all-fulls in
+      let many : length all ≡ length (penalties m ks l) =
+      sym (length-map all (λ (w : Full). w .penalty)) ∙ length-reordered (penaltiesOf all) (penalties m ks l) all-fulls in
       let r = two-held all (rw many (two-penalties m ks l information)) in
       (r .0, r .1, walk-offers m l ks [] 0 start refl ∙ r .2)
 
@@ -274,7 +279,8 @@ module _ (m : ℕ) (ks : List ℕ) (l : List ℤ) (e : length l ≡ 2 ^ m) (f : 
 
     pub best-bits : pick ks (a .path) ≡ bestBits m ks l
     best-bits =
-        best-only m ks l information above (pick ks (a .path)) (length-pick ks (a .path) kinds (end .best-path .long ∙ sym f), bits-pick ks (a .path) (end .best-path .are-bits))
+        best-only m ks l information above (pick ks (a .path))
+        (length-pick ks (a .path) kinds (end .best-path .long ∙ sym f), bits-pick ks (a .path) (end .best-path .are-bits))
         (ap (λ (x : List ℕ). penalty l (transform m x)) filled ∙ sym (end .best-path .has) ∙ end .least-penalty)
 
     pub best-row : a .path ≡ fill ks (bestBits m ks l)
