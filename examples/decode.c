@@ -1,0 +1,16 @@
+/* Decodes one word: readings in, information bits, penalty and gap out. */
+#include "../include/cinorbis.h"
+#include <stdio.h>
+
+int main(void) {
+    const int16_t readings[4] = {5, -2, 3, 1};
+    uint8_t bits[3], word[4];
+    cinorbis_answer a = cinorbis_search(1, 2, readings, 4, bits, 3, word, 4);
+    if (a.refusal != CINORBIS_DONE) {
+        printf("refused %u\n", (unsigned)a.refusal);
+        return 1;
+    }
+    printf("bits %d%d%d, penalty %u, gap %u, visits %u\n", bits[0], bits[1], bits[2], (unsigned)a.penalty, (unsigned)a.gap,
+           (unsigned)a.visits);
+    return 0;
+}
