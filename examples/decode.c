@@ -5,9 +5,10 @@
 int main(void) {
     const int16_t readings[4] = {5, -2, 3, 1};
     uint8_t bits[3], word[4];
-    cinorbis_answer a = cinorbis_search(1, 2, readings, 4, bits, 3, word, 4);
-    if (a.refusal != CINORBIS_DONE) {
-        printf("refused %u\n", (unsigned)a.refusal);
+    cinorbis_numbers a;
+    uint32_t refusal = cinorbis_search(1, 2, readings, 4, bits, 3, word, 4, &a);
+    if (refusal != CINORBIS_DONE) {
+        printf("refused %u\n", (unsigned)refusal);
         return 1;
     }
     printf("bits %d%d%d, penalty %u, gap %u, visits %u\n", bits[0], bits[1], bits[2], (unsigned)a.penalty, (unsigned)a.gap,

@@ -42,52 +42,51 @@ enum cinorbis_refusal {
     CINORBIS_PAD = 9            /* record: a pad bit is 1 */
 };
 
-/* What a call answers. Numbers that the call or the refusal does not carry are 0. */
+/* The numbers of an answer, written by every call, refused ones too. Those that the call or its refusal does not carry are 0. */
 typedef struct {
-    uint32_t refusal; /* enum cinorbis_refusal */
-    uint32_t penalty; /* of the word found: the sum of the sizes of the readings that it contradicts */
-    uint32_t gap;     /* to the next best word's penalty */
-    uint32_t visits;  /* extensions that the walk looked at */
+    uint64_t penalty; /* of the word found: the sum of the sizes of the readings that it contradicts; the least one under 7 */
+    uint64_t gap;     /* to the next best word's penalty */
+    uint64_t visits;  /* extensions that the walk looked at; the allowance under 6 */
     uint64_t place;   /* under 4 and 5 */
-} cinorbis_answer;
+} cinorbis_numbers;
 
-/* The code of a record and the length of its packed part, which starts at the record's second byte. */
+/* The record that some bytes begin with. All 0 when refused, but for the place under 4. */
 typedef struct {
-    uint32_t refusal; /* 1, 8, 9 or 4 */
-    uint32_t r;
-    uint32_t m;
-    uint32_t length; /* of the packed part; the next record starts at 1 + length. 0 when refused */
+    uint64_t r;
+    uint64_t m;
+    uint64_t length; /* of the packed part, which starts at the record's second byte; the next record starts at 1 + length */
     uint64_t place;  /* under 4: the number of the reading */
 } cinorbis_part;
 
+/* Each call returns 0 when done, or the number of its refusal. */
+
 /* The word of k information bits. Done: word holds it. Refuses 1, 2, 3, 4. Promise: encode. */
-cinorbis_answer cinorbis_encode(uint32_t r, uint32_t m, const uint8_t *bits, size_t bits_length,
-                                uint8_t *word, size_t word_length);
+uint32_t cinorbis_encode(uint32_t r, uint32_t m, const uint8_t *bits, size_t bits_length, uint8_t *word, size_t word_length,
+                         cinorbis_numbers *numbers);
 
 /* The information bits of a word. Done: bits holds them. Refuses 1, 2, 3, 4, 5. Promise: inverse. */
-cinorbis_answer cinorbis_inverse(uint32_t r, uint32_t m, const uint8_t *word, size_t word_length,
-                                 uint8_t *bits, size_t bits_length);
+uint32_t cinorbis_inverse(uint32_t r, uint32_t m, const uint8_t *word, size_t word_length, uint8_t *bits, size_t bits_length,
+                          cinorbis_numbers *numbers);
 
-/* The quick reading, which may miss the best word. Done: bits, word, and its penalty. Refuses 1, 2, 3, 4. Promise: quick. */
-cinorbis_answer cinorbis_quick(uint32_t r, uint32_t m, const int16_t *readings, size_t readings_length,
-                               uint8_t *bits, size_t bits_length, uint8_t *word, size_t word_length);
+/* The quick reading, which may miss the best word. Done: bits, word and penalty. Refuses 1, 2, 3, 4. Promise: quick. */
+uint32_t cinorbis_quick(uint32_t r, uint32_t m, const int16_t *readings, size_t readings_length, uint8_t *bits, size_t bits_length,
+                        uint8_t *word, size_t word_length, cinorbis_numbers *numbers);
 
 /* The search for the best word with the default allowance. Done: bits, word, penalty, gap (above 0) and visits.
  * Refuses 1, 2, 3, 4, 6, 7. Promise: search. */
-cinorbis_answer cinorbis_search(uint32_t r, uint32_t m, const int16_t *readings, size_t readings_length,
-                                uint8_t *bits, size_t bits_length, uint8_t *word, size_t word_length);
+uint32_t cinorbis_search(uint32_t r, uint32_t m, const int16_t *readings, size_t readings_length, uint8_t *bits, size_t bits_length,
+                         uint8_t *word, size_t word_length, cinorbis_numbers *numbers);
 
 /* The same with an allowance of visits, any number. Promise: search_within. */
-cinorbis_answer cinorbis_search_within(uint32_t r, uint32_t m, uint32_t allowed, const int16_t *readings,
-                                       size_t readings_length, uint8_t *bits, size_t bits_length,
-                                       uint8_t *word, size_t word_length);
+uint32_t cinorbis_search_within(uint32_t r, uint32_t m, uint32_t allowed, const int16_t *readings, size_t readings_length,
+                                uint8_t *bits, size_t bits_length, uint8_t *word, size_t word_length, cinorbis_numbers *numbers);
 
-/* The record that the bytes begin with. Refuses 1, 8, 9, 4. Promise: packed, header. */
-cinorbis_part cinorbis_record(const uint8_t *bytes, size_t bytes_length);
+/* The record that the bytes begin with: its code and its packed part. Refuses 1, 8, 9, 4. Promise: header, packed. */
+uint32_t cinorbis_record(const uint8_t *bytes, size_t bytes_length, cinorbis_part *part);
 
 /* The search of the record that the bytes begin with. Refuses 1, 8, 9, 3, 4, 6, 7. Promise: search_record. */
-cinorbis_answer cinorbis_search_record(uint32_t allowed, const uint8_t *bytes, size_t bytes_length,
-                                       uint8_t *bits, size_t bits_length, uint8_t *word, size_t word_length);
+uint32_t cinorbis_search_record(uint32_t allowed, const uint8_t *bytes, size_t bytes_length, uint8_t *bits, size_t bits_length,
+                                uint8_t *word, size_t word_length, cinorbis_numbers *numbers);
 
 #ifdef __cplusplus
 }

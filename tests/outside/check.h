@@ -3,6 +3,7 @@
 #define CHECK_H
 
 #include <inttypes.h>
+#include <stdarg.h>
 #include <stdint.h>
 #include <stdio.h>
 #include <string.h>
@@ -10,9 +11,9 @@
 static unsigned long cases_passed, cases_failed, case_checks, case_faults;
 static char case_name[128];
 
-static void begin(const char *format, ...) __attribute__((format(printf, 1, 2)));
-#include <stdarg.h>
-static void begin(const char *format, ...) {
+static inline void begin(const char *format, ...) __attribute__((format(printf, 1, 2)));
+
+static inline void begin(const char *format, ...) {
     va_list a;
     va_start(a, format);
     vsnprintf(case_name, sizeof case_name, format, a);
@@ -21,7 +22,7 @@ static void begin(const char *format, ...) {
 }
 
 /* a case that checked nothing is a failure */
-static void end(void) {
+static inline void end(void) {
     if (case_checks == 0 || case_faults > 0) {
         cases_failed++;
         printf("%s: %lu of %lu checks failed\n", case_name, case_faults, case_checks);
@@ -42,23 +43,23 @@ static void end(void) {
         }                                                                        \
     } while (0)
 
-static int finish(void) {
+static inline int finish(void) {
     printf("%lu passed, %lu failed\n", cases_passed, cases_failed);
     return cases_failed != 0 || cases_passed == 0;
 }
 
 static uint64_t random_state = 0x9e3779b97f4a7c15u;
 
-static uint64_t random64(void) {
+static inline uint64_t random64(void) {
     random_state ^= random_state << 13;
     random_state ^= random_state >> 7;
     random_state ^= random_state << 17;
     return random_state;
 }
 
-static int random_below(int n) { return (int)(random64() % (uint64_t)n); }
+static inline int random_below(int n) { return (int)(random64() % (uint64_t)n); }
 
-static int random_between(int a, int b) { return a + random_below(b - a + 1); }
+static inline int random_between(int a, int b) { return a + random_below(b - a + 1); }
 
 /* a buffer with 32 guard bytes on each side, and a copy of what it held */
 #define GUARD 32
@@ -66,18 +67,18 @@ typedef struct {
     uint8_t all[GUARD + 1024 + GUARD], before[GUARD + 1024 + GUARD];
 } guarded;
 
-static uint8_t *contents(guarded *g) { return g->all + GUARD; }
+static inline uint8_t *contents(guarded *g) { return g->all + GUARD; }
 
 /* fills guards and contents with arbitrary bytes and keeps a copy */
-static void arm(guarded *g) {
+static inline void arm(guarded *g) {
     for (size_t i = 0; i < sizeof g->all; i++) g->all[i] = (uint8_t)random64();
     memcpy(g->before, g->all, sizeof g->all);
 }
 
-static int untouched(const guarded *g) { return memcmp(g->before, g->all, sizeof g->all) == 0; }
+static inline int untouched(const guarded *g) { return memcmp(g->before, g->all, sizeof g->all) == 0; }
 
 /* nothing but the first n bytes of the contents has changed */
-static int only_first(const guarded *g, size_t n) {
+static inline int only_first(const guarded *g, size_t n) {
     return memcmp(g->before, g->all, GUARD) == 0 &&
            memcmp(g->before + GUARD + n, g->all + GUARD + n, sizeof g->all - GUARD - n) == 0;
 }

@@ -1,22 +1,22 @@
 /* The library against brute force over all words (codes with k <= 12) and against the walk by its text (all codes), on random readings
  * with zeros, ties and rims among them; demand 3 on the library itself; encode and inverse; small cases exhaustively. */
-#include "../../include/cinorbis.h"
+#include "call.h"
 #include "check.h"
 #include "reference.h"
 
 typedef struct {
-    cinorbis_answer a;
+    answer a;
     uint8_t bits[256], word[256];
 } answered;
 
 /* the search, with guards around both outputs and its buffers compared when it refuses */
-static answered search(int r, int m, uint32_t allowed, const int16_t *l) {
+static answered run(int r, int m, uint32_t allowed, const int16_t *l) {
     static guarded gb, gw;
     answered s;
     size_t n = (size_t)1 << m, k = (size_t)ref_k(r, m);
     arm(&gb);
     arm(&gw);
-    s.a = cinorbis_search_within((uint32_t)r, (uint32_t)m, allowed, l, n, contents(&gb), k, contents(&gw), n);
+    s.a = search_within((uint32_t)r, (uint32_t)m, allowed, l, n, contents(&gb), k, contents(&gw), n);
     if (s.a.refusal)
         CHECK(untouched(&gb) && untouched(&gw), "a refusal %u wrote", s.a.refusal);
     else
@@ -48,7 +48,7 @@ static void make_readings(int r, int m, int kind, int16_t *l) {
 static void against_brute_force(int r, int m, const int16_t *l) {
     int n = 1 << m, k = ref_k(r, m);
     ref_best_t b = ref_best(r, m, l);
-    answered s = search(r, m, UINT32_MAX, l);
+    answered s = run(r, m, UINT32_MAX, l);
     if (b.least == b.next) {
         CHECK(s.a.refusal == 7 && s.a.penalty == b.least && s.a.gap == 0, "refusal %u, penalty %u of %ld", s.a.refusal, s.a.penalty, b.least);
         return;
@@ -64,11 +64,11 @@ static void against_walk(int r, int m, const int16_t *l, unsigned long long limi
     int n = 1 << m;
     ref_walk(&w, r, m, l, limit);
     if (w.out) {
-        answered s = search(r, m, (uint32_t)limit, l);
+        answered s = run(r, m, (uint32_t)limit, l);
         CHECK(s.a.refusal == 6 && s.a.visits == limit && s.a.penalty == 0 && s.a.gap == 0, "refusal %u", s.a.refusal);
         return;
     }
-    answered s = search(r, m, (uint32_t)w.visits, l), t = search(r, m, (uint32_t)w.visits - 1, l);
+    answered s = run(r, m, (uint32_t)w.visits, l), t = run(r, m, (uint32_t)w.visits - 1, l);
     CHECK(t.a.refusal == 6 && t.a.visits == w.visits - 1, "one less: refusal %u", t.a.refusal);
     if (w.best_penalty == w.second_penalty) {
         CHECK(s.a.refusal == 7 && s.a.penalty == w.best_penalty && s.a.visits == w.visits, "refusal %u", s.a.refusal);
@@ -89,15 +89,15 @@ static void quick_and_encode(int r, int m, const int16_t *l) {
     arm(&gb);
     arm(&gw);
     arm(&back);
-    cinorbis_answer a = cinorbis_quick((uint32_t)r, (uint32_t)m, l, n, contents(&gb), k, contents(&gw), n);
+    answer a = quick((uint32_t)r, (uint32_t)m, l, n, contents(&gb), k, contents(&gw), n);
     ref_quick(r, m, l, bits, word);
     CHECK(a.refusal == 0 && a.penalty == ref_penalty((int)n, l, word) && a.gap == 0 && a.visits == 0, "refusal %u", a.refusal);
     CHECK(memcmp(contents(&gb), bits, k) == 0 && memcmp(contents(&gw), word, n) == 0, "another word");
     CHECK(only_first(&gb, k) && only_first(&gw, n), "wrote outside");
     arm(&gw);
-    a = cinorbis_encode((uint32_t)r, (uint32_t)m, bits, k, contents(&gw), n);
+    a = encode((uint32_t)r, (uint32_t)m, bits, k, contents(&gw), n);
     CHECK(a.refusal == 0 && memcmp(contents(&gw), word, n) == 0 && only_first(&gw, n), "encode");
-    a = cinorbis_inverse((uint32_t)r, (uint32_t)m, word, n, contents(&back), k);
+    a = inverse((uint32_t)r, (uint32_t)m, word, n, contents(&back), k);
     CHECK(a.refusal == 0 && memcmp(contents(&back), bits, k) == 0 && only_first(&back, k), "inverse");
     /* any row of bits: refused as 5 at the lowest frozen index that is 1 */
     uint8_t u[256], x[256];
@@ -107,9 +107,9 @@ static void quick_and_encode(int r, int m, const int16_t *l) {
     for (size_t i = n; i-- > 0;)
         if (u[i] && !ref_is_information(r, m, (int)i)) frozen = i;
     arm(&back);
-    a = cinorbis_inverse((uint32_t)r, (uint32_t)m, x, n, contents(&back), k);
+    a = inverse((uint32_t)r, (uint32_t)m, x, n, contents(&back), k);
     if (frozen < n)
-        CHECK(a.refusal == 5 && a.place == frozen && untouched(&back), "refusal %u at %" PRIu64, a.refusal, a.place);
+        CHECK(a.refusal == 5 && a.place == frozen && untouched(&back), "refusal %u at %u", a.refusal, a.place);
     else
         CHECK(a.refusal == 0, "refusal %u", a.refusal);
 }
@@ -124,7 +124,7 @@ static void negated(int r, int m, const int16_t *l) {
     for (int i = 0; i < k; i++) bits[i] = (uint8_t)(all_ones ? i == k - 1 : random_below(2));
     ref_encode(r, m, bits, c);
     for (int j = 0; j < n; j++) turned[j] = (int16_t)(c[j] ? -l[j] : l[j]);
-    answered s = search(r, m, 200000, l), t = search(r, m, 200000, turned);
+    answered s = run(r, m, 200000, l), t = run(r, m, 200000, turned);
     if (s.a.refusal != 6 && t.a.refusal != 6) {
         CHECK(s.a.refusal == t.a.refusal && s.a.penalty == t.a.penalty && s.a.gap == t.a.gap, "%u, %u", s.a.refusal, t.a.refusal);
         if (s.a.refusal == 0) {
@@ -160,7 +160,7 @@ static void exhaustive(int r, int m, int size) {
 /* an allowance as large as the whole tree is never too small */
 static void whole_tree(int r, int m, const int16_t *l) {
     if (ref_tree(r, m) <= UINT32_MAX && ref_k(r, m) <= 16)
-        CHECK(search(r, m, (uint32_t)ref_tree(r, m), l).a.refusal != 6, "whole tree of %llu", ref_tree(r, m));
+        CHECK(run(r, m, (uint32_t)ref_tree(r, m), l).a.refusal != 6, "whole tree of %llu", ref_tree(r, m));
 }
 
 int main(void) {

@@ -1,5 +1,5 @@
 /* Every bench figure of document 01, those that are proved as well, run through the library. */
-#include "../../include/cinorbis.h"
+#include "call.h"
 #include "check.h"
 #include "reference.h"
 
@@ -20,9 +20,9 @@ static void to_row(const char *text, uint8_t *row) {
     for (size_t i = 0; text[i]; i++) row[i] = (uint8_t)(text[i] - '0');
 }
 
-static cinorbis_answer search(uint32_t r, uint32_t m, uint32_t allowed, const int16_t *l) {
+static answer run(uint32_t r, uint32_t m, uint32_t allowed, const int16_t *l) {
     wipe();
-    return cinorbis_search_within(r, m, allowed, l, 1u << m, bits, (size_t)ref_k((int)r, (int)m), word, 1u << m);
+    return search_within(r, m, allowed, l, 1u << m, bits, (size_t)ref_k((int)r, (int)m), word, 1u << m);
 }
 
 static void encodes(uint32_t r, uint32_t m, const char *information, const char *expected) {
@@ -30,9 +30,9 @@ static void encodes(uint32_t r, uint32_t m, const char *information, const char 
     begin("RM(%u,%u), bits %s give %s", r, m, information, expected);
     to_row(information, given);
     wipe();
-    cinorbis_answer a = cinorbis_encode(r, m, given, strlen(information), word, 1u << m);
+    answer a = encode(r, m, given, strlen(information), word, 1u << m);
     CHECK(a.refusal == 0 && is(word, expected), "refusal %u", a.refusal);
-    cinorbis_answer b = cinorbis_inverse(r, m, word, 1u << m, bits, strlen(information));
+    answer b = inverse(r, m, word, 1u << m, bits, strlen(information));
     CHECK(b.refusal == 0 && is(bits, information), "refusal %u", b.refusal);
     end();
 }
@@ -41,15 +41,15 @@ static void encodes(uint32_t r, uint32_t m, const char *information, const char 
 static void dimension(uint32_t r, uint32_t m, size_t k) {
     uint8_t given[CINORBIS_LARGEST_N] = {0};
     begin("k of RM(%u,%u) is %zu", r, m, k);
-    CHECK(cinorbis_encode(r, m, given, k, word, 1u << m).refusal == 0, "k");
-    CHECK(cinorbis_encode(r, m, given, k - 1, word, 1u << m).refusal == 2, "k - 1");
-    CHECK(cinorbis_encode(r, m, given, k + 1, word, 1u << m).refusal == 2, "k + 1");
+    CHECK(encode(r, m, given, k, word, 1u << m).refusal == 0, "k");
+    CHECK(encode(r, m, given, k - 1, word, 1u << m).refusal == 2, "k - 1");
+    CHECK(encode(r, m, given, k + 1, word, 1u << m).refusal == 2, "k + 1");
     end();
 }
 
 int main(void) {
     const int16_t sample[4] = {5, -2, 3, 1}, negated[4] = {-5, 2, -3, -1}, three[1] = {3}, zero[1] = {0};
-    cinorbis_answer a;
+    answer a;
 
     dimension(0, 0, 1);
     dimension(1, 2, 3);
@@ -66,7 +66,7 @@ int main(void) {
         uint8_t u[8] = {0}, x[8];
         u[i] = 1;
         ref_word(3, u, x);
-        a = cinorbis_inverse(1, 3, x, 8, bits, 4);
+        a = inverse(1, 3, x, 8, bits, 4);
         int information = i == 3 || i == 5 || i == 6 || i == 7;
         CHECK(information ? a.refusal == 0 : a.refusal == 5 && a.place == (uint64_t)i, "index %d", i);
     }
@@ -74,36 +74,36 @@ int main(void) {
 
     begin("RM(1,2), word 1000 is refused as 5 at index 0");
     to_row("1000", word);
-    a = cinorbis_inverse(1, 2, word, 4, bits, 3);
+    a = inverse(1, 2, word, 4, bits, 3);
     CHECK(a.refusal == 5 && a.place == 0 && a.penalty == 0 && a.gap == 0 && a.visits == 0, "%u", a.refusal);
     end();
 
     begin("RM(1,2), readings 5 -2 3 1");
-    a = search(1, 2, 1000000, sample);
+    a = run(1, 2, 1000000, sample);
     CHECK(a.refusal == 0 && is(bits, "011") && is(word, "0101"), "%u", a.refusal);
     CHECK(a.penalty == 1 && a.gap == 1 && a.visits == 9 && a.place == 0, "%u %u %u", a.penalty, a.gap, a.visits);
-    a = search(1, 2, 9, sample);
+    a = run(1, 2, 9, sample);
     CHECK(a.refusal == 0 && a.visits == 9, "allowance 9: %u", a.refusal);
-    a = search(1, 2, 8, sample);
+    a = run(1, 2, 8, sample);
     CHECK(a.refusal == 6 && a.visits == 8 && a.penalty == 0 && a.gap == 0, "allowance 8: %u", a.refusal);
     CHECK(bits[0] == 7 && word[0] == 7, "written under 6");
-    a = search(1, 2, 0, sample);
+    a = run(1, 2, 0, sample);
     CHECK(a.refusal == 6 && a.visits == 0, "allowance 0: %u", a.refusal);
-    a = search(1, 2, UINT32_MAX, sample);
+    a = run(1, 2, UINT32_MAX, sample);
     CHECK(a.refusal == 0 && a.visits == 9, "largest allowance: %u", a.refusal);
     end();
 
     begin("the same negated");
-    a = search(1, 2, 1000000, negated);
+    a = run(1, 2, 1000000, negated);
     CHECK(a.refusal == 0 && is(bits, "010") && is(word, "1010") && a.penalty == 1 && a.gap == 1, "%u", a.refusal);
     end();
 
     begin("RM(0,0), reading 3 and reading 0");
-    a = search(0, 0, 2, three);
+    a = run(0, 0, 2, three);
     CHECK(a.refusal == 0 && bits[0] == 0 && word[0] == 0 && a.penalty == 0 && a.gap == 3 && a.visits == 2, "%u", a.refusal);
-    a = search(0, 0, 2, zero);
+    a = run(0, 0, 2, zero);
     CHECK(a.refusal == 7 && a.penalty == 0 && a.gap == 0 && a.visits == 2 && bits[0] == 7 && word[0] == 7, "%u", a.refusal);
-    a = search(0, 0, 1, zero);
+    a = run(0, 0, 1, zero);
     CHECK(a.refusal == 6 && a.visits == 1, "%u", a.refusal);
     end();
 
@@ -111,7 +111,7 @@ int main(void) {
     for (uint32_t m = 0; m <= 8; m++)
         for (uint32_t r = 0; r <= m; r++) {
             int16_t l[256] = {0};
-            a = search(r, m, 1000000, l);
+            a = run(r, m, 1000000, l);
             CHECK(a.refusal == 7 && a.penalty == 0 && a.visits == (1u << m) + (unsigned)ref_k((int)r, (int)m), "RM(%u,%u)", r, m);
         }
     end();
@@ -120,34 +120,34 @@ int main(void) {
     for (int edge = 2046; edge <= 2049; edge++)
         for (int sign = -1; sign <= 1; sign += 2) {
             int16_t l[4] = {1, 1, (int16_t)(sign * edge), 1};
-            a = search(1, 2, 1000, l);
+            a = run(1, 2, 1000, l);
             CHECK(edge <= 2047 ? a.refusal != 4 : a.refusal == 4 && a.place == 2, "%d", sign * edge);
         }
     int16_t least[1] = {INT16_MIN}, largest[1] = {INT16_MAX};
-    CHECK(search(0, 0, 10, least).refusal == 4, "-32768");
-    CHECK(search(0, 0, 10, largest).refusal == 4, "32767");
+    CHECK(run(0, 0, 10, least).refusal == 4, "-32768");
+    CHECK(run(0, 0, 10, largest).refusal == 4, "32767");
     int16_t many[512];
     for (int i = 0; i < 512; i++) many[i] = 1;
-    CHECK(cinorbis_search(8, 8, many, 256, bits, 256, word, 256).refusal == 0, "m = 8, r = 8");
-    CHECK(cinorbis_search(8, 9, many, 512, bits, 256, word, 256).refusal == 1, "m = 9");
-    CHECK(cinorbis_search(3, 2, many, 4, bits, 4, word, 4).refusal == 1, "r = m + 1");
-    CHECK(cinorbis_search(UINT32_MAX, UINT32_MAX, many, 4, bits, 4, word, 4).refusal == 1, "largest r and m");
-    CHECK(cinorbis_search(0, UINT32_MAX, many, 4, bits, 4, word, 4).refusal == 1, "largest m");
+    CHECK(search(8, 8, many, 256, bits, 256, word, 256).refusal == 0, "m = 8, r = 8");
+    CHECK(search(8, 9, many, 512, bits, 256, word, 256).refusal == 1, "m = 9");
+    CHECK(search(3, 2, many, 4, bits, 4, word, 4).refusal == 1, "r = m + 1");
+    CHECK(search(UINT32_MAX, UINT32_MAX, many, 4, bits, 4, word, 4).refusal == 1, "largest r and m");
+    CHECK(search(0, UINT32_MAX, many, 4, bits, 4, word, 4).refusal == 1, "largest m");
     end();
 
     begin("slips of a fitter");
     const int16_t slip[2] = {-1, 1};
-    a = search(1, 1, 1000, slip);
+    a = run(1, 1, 1000, slip);
     CHECK(a.refusal == 0 && is(word, "10"), "RM(1,1), readings -1 1");
-    a = cinorbis_quick(1, 1, slip, 2, bits, 2, word, 2);
+    a = quick(1, 1, slip, 2, bits, 2, word, 2);
     CHECK(a.refusal == 0 && is(word, "10"), "the quick reading too");
     const int16_t pair[8] = {1, 1, 0, -1, 0, 0, 1, 0};
-    a = search(1, 3, 1000, pair);
+    a = run(1, 3, 1000, pair);
     CHECK(a.refusal == 0 && is(bits, "1100") && a.penalty == 0 && a.gap == 1 && a.visits == 21, "a better one after the first equal pair");
     const int16_t missed[8] = {0, 0, 0, -1, 1, 1, 1, 0};
-    a = cinorbis_quick(1, 3, missed, 8, bits, 4, word, 8);
+    a = quick(1, 3, missed, 8, bits, 4, word, 8);
     CHECK(a.refusal == 0 && is(word, "00000000") && a.penalty == 1, "the quick reading may miss");
-    a = search(1, 3, 1000, missed);
+    a = run(1, 3, 1000, missed);
     CHECK(a.refusal == 0 && is(word, "11110000") && a.penalty == 0 && a.gap == 1 && a.visits == 21, "the search does not");
     end();
 
@@ -156,8 +156,8 @@ int main(void) {
     int16_t second[8];
     const char *c = "11001100";
     for (int j = 0; j < 8; j++) second[j] = (int16_t)(c[j] == '1' ? -first[j] : first[j]);
-    CHECK(search(1, 3, 1000, first).visits == 25, "%u", search(1, 3, 1000, first).visits);
-    CHECK(search(1, 3, 1000, second).visits == 21, "%u", search(1, 3, 1000, second).visits);
+    CHECK(run(1, 3, 1000, first).visits == 25, "%u", run(1, 3, 1000, first).visits);
+    CHECK(run(1, 3, 1000, second).visits == 21, "%u", run(1, 3, 1000, second).visits);
     end();
     return finish();
 }

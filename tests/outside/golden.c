@@ -1,5 +1,5 @@
 /* Words and nearest words made by GAP's package GUAVA (tests/golden/guava.txt): encode, inverse, and the search of hard readings. */
-#include "../../include/cinorbis.h"
+#include "call.h"
 #include "check.h"
 #include "reference.h"
 
@@ -23,8 +23,8 @@ int main(int argc, char **argv) {
         row(b, y);
         if (strcmp(kind, "enc") == 0) {
             CHECK(strlen(a) == k && strlen(b) == n, "lengths");
-            CHECK(cinorbis_encode(r, m, x, k, word, n).refusal == 0 && memcmp(word, y, n) == 0, "encode");
-            CHECK(cinorbis_inverse(r, m, y, n, bits, k).refusal == 0 && memcmp(bits, x, k) == 0, "inverse");
+            CHECK(encode(r, m, x, k, word, n).refusal == 0 && memcmp(word, y, n) == 0, "encode");
+            CHECK(inverse(r, m, y, n, bits, k).refusal == 0 && memcmp(bits, x, k) == 0, "inverse");
         } else {
             int16_t l[256];
             unsigned errors = 0;
@@ -33,7 +33,7 @@ int main(int argc, char **argv) {
                 l[j] = x[j] ? -1 : 1;
                 errors += x[j] != y[j];
             }
-            cinorbis_answer s = cinorbis_search_within(r, m, UINT32_MAX, l, n, bits, k, word, n);
+            answer s = search_within(r, m, UINT32_MAX, l, n, bits, k, word, n);
             CHECK(s.refusal == 0 && memcmp(word, y, n) == 0 && s.penalty == errors, "search: %u, penalty %u of %u", s.refusal, s.penalty, errors);
         }
         end();

@@ -8,22 +8,22 @@
 
 #define REF_N 256
 
-static int ref_ones(unsigned i) {
+static inline int ref_ones(unsigned i) {
     int c = 0;
     for (; i; i >>= 1) c += i & 1;
     return c;
 }
 
-static int ref_is_information(int r, int m, int i) { return ref_ones((unsigned)i) >= m - r; }
+static inline int ref_is_information(int r, int m, int i) { return ref_ones((unsigned)i) >= m - r; }
 
-static int ref_k(int r, int m) {
+static inline int ref_k(int r, int m) {
     int k = 0;
     for (int i = 0; i < 1 << m; i++) k += ref_is_information(r, m, i);
     return k;
 }
 
 /* x_j is the sum modulo 2 of all u_i where every one-bit of j is also a one-bit of i */
-static void ref_word(int m, const uint8_t *u, uint8_t *x) {
+static inline void ref_word(int m, const uint8_t *u, uint8_t *x) {
     for (int j = 0; j < 1 << m; j++) {
         int s = 0;
         for (int i = 0; i < 1 << m; i++)
@@ -32,24 +32,24 @@ static void ref_word(int m, const uint8_t *u, uint8_t *x) {
     }
 }
 
-static void ref_fill(int r, int m, const uint8_t *bits, uint8_t *u) {
+static inline void ref_fill(int r, int m, const uint8_t *bits, uint8_t *u) {
     int at = 0;
     for (int i = 0; i < 1 << m; i++) u[i] = ref_is_information(r, m, i) ? bits[at++] : 0;
 }
 
-static void ref_pick(int r, int m, const uint8_t *u, uint8_t *bits) {
+static inline void ref_pick(int r, int m, const uint8_t *u, uint8_t *bits) {
     int at = 0;
     for (int i = 0; i < 1 << m; i++)
         if (ref_is_information(r, m, i)) bits[at++] = u[i];
 }
 
-static void ref_encode(int r, int m, const uint8_t *bits, uint8_t *x) {
+static inline void ref_encode(int r, int m, const uint8_t *bits, uint8_t *x) {
     uint8_t u[REF_N];
     ref_fill(r, m, bits, u);
     ref_word(m, u, x);
 }
 
-static long ref_penalty(int n, const int16_t *l, const uint8_t *x) {
+static inline long ref_penalty(int n, const int16_t *l, const uint8_t *x) {
     long p = 0;
     for (int j = 0; j < n; j++) {
         if (l[j] > 0 && x[j] == 1) p += l[j];
@@ -64,7 +64,7 @@ typedef struct {
 } ref_best_t;
 
 /* over all 2^k words */
-static ref_best_t ref_best(int r, int m, const int16_t *l) {
+static inline ref_best_t ref_best(int r, int m, const int16_t *l) {
     ref_best_t b = {-1, -1, {0}, {0}};
     int n = 1 << m, k = ref_k(r, m);
     for (unsigned long w = 0; w < 1ul << k; w++) {
@@ -85,13 +85,13 @@ static ref_best_t ref_best(int r, int m, const int16_t *l) {
 }
 
 /* smaller size, sign of the product */
-static long ref_lower(long x, long y) {
+static inline long ref_lower(long x, long y) {
     long a = x < 0 ? -x : x, b = y < 0 ? -y : y, s = a < b ? a : b;
     return (x < 0) != (y < 0) ? -s : s;
 }
 
 /* the value at index i after the choices u_0 .. u_(i-1) */
-static long ref_value(int m, const long *l, const uint8_t *u, int i) {
+static inline long ref_value(int m, const long *l, const uint8_t *u, int i) {
     if (m == 0) return l[0];
     int h = 1 << (m - 1);
     long row[REF_N];
@@ -106,7 +106,7 @@ static long ref_value(int m, const long *l, const uint8_t *u, int i) {
 }
 
 /* the quick reading: each index takes the bit that its value speaks for, a frozen one 0 */
-static void ref_quick(int r, int m, const int16_t *readings, uint8_t *bits, uint8_t *word) {
+static inline void ref_quick(int r, int m, const int16_t *readings, uint8_t *bits, uint8_t *word) {
     long l[REF_N];
     uint8_t u[REF_N];
     int n = 1 << m;
@@ -125,9 +125,9 @@ typedef struct {
     int out, met_zero;
 } ref_walk_t;
 
-static void ref_walk_from(ref_walk_t *w, int i, long p);
+static inline void ref_walk_from(ref_walk_t *w, int i, long p);
 
-static void ref_extend(ref_walk_t *w, int i, long v, int bit, long p) {
+static inline void ref_extend(ref_walk_t *w, int i, long v, int bit, long p) {
     if (w->out) return;
     if (w->visits == w->limit) {
         w->out = 1;
@@ -141,7 +141,7 @@ static void ref_extend(ref_walk_t *w, int i, long v, int bit, long p) {
     ref_walk_from(w, i + 1, p);
 }
 
-static void ref_walk_from(ref_walk_t *w, int i, long p) {
+static inline void ref_walk_from(ref_walk_t *w, int i, long p) {
     int n = 1 << w->m;
     if (i == n) {
         if (w->held == 0 || p < w->best_penalty) {
@@ -168,7 +168,7 @@ static void ref_walk_from(ref_walk_t *w, int i, long p) {
 }
 
 /* the walk within a limit of visits; the best word is ref_word of `best` */
-static void ref_walk(ref_walk_t *w, int r, int m, const int16_t *readings, unsigned long long limit) {
+static inline void ref_walk(ref_walk_t *w, int r, int m, const int16_t *readings, unsigned long long limit) {
     memset(w, 0, sizeof *w);
     w->r = r;
     w->m = m;
@@ -178,7 +178,7 @@ static void ref_walk(ref_walk_t *w, int r, int m, const int16_t *readings, unsig
 }
 
 /* the whole tree: the sum over i of 2 to the number of information indices up to i; at most 2^62, else that */
-static unsigned long long ref_tree(int r, int m) {
+static inline unsigned long long ref_tree(int r, int m) {
     unsigned long long t = 0, paths = 1;
     for (int i = 0; i < 1 << m; i++) {
         if (ref_is_information(r, m, i)) paths *= 2;

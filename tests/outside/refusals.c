@@ -1,5 +1,5 @@
 /* Refusals and their order, with several faults at once; on refusal every buffer keeps its bytes, and the answer carries just what 01 says. */
-#include "../../include/cinorbis.h"
+#include "call.h"
 #include "check.h"
 #include "reference.h"
 
@@ -11,8 +11,8 @@ static void arm_both(void) {
 }
 
 /* only the refusal and the place are given, and nothing was written */
-static void refused(cinorbis_answer a, uint32_t number, uint64_t place) {
-    CHECK(a.refusal == number && a.place == place, "%u at %" PRIu64 ", not %u at %" PRIu64, a.refusal, a.place, number, place);
+static void refused(answer a, uint32_t number, uint64_t place) {
+    CHECK(a.refusal == number && a.place == place, "%u at %u, not %u at %" PRIu64, a.refusal, a.place, number, place);
     CHECK(a.penalty == 0 && a.gap == 0 && (a.visits == 0 || number == 6), "%u %u %u", a.penalty, a.gap, a.visits);
     CHECK(untouched(&gb) && untouched(&gw), "wrote");
 }
@@ -56,19 +56,19 @@ static void codes_and_lengths(void) {
                                 uint32_t e = expected(code, off[in], off[ob] || off[ow], entry);
                                 if (e) {
                                     arm_both();
-                                    refused(cinorbis_search_within(R, M, UINT32_MAX, l, ni, contents(&gb), nb, contents(&gw), nw), e, e == 4 ? at : 0);
-                                    refused(cinorbis_search(R, M, l, ni, contents(&gb), nb, contents(&gw), nw), e, e == 4 ? at : 0);
-                                    refused(cinorbis_quick(R, M, l, ni, contents(&gb), nb, contents(&gw), nw), e, e == 4 ? at : 0);
+                                    refused(search_within(R, M, UINT32_MAX, l, ni, contents(&gb), nb, contents(&gw), nw), e, e == 4 ? at : 0);
+                                    refused(search(R, M, l, ni, contents(&gb), nb, contents(&gw), nw), e, e == 4 ? at : 0);
+                                    refused(quick(R, M, l, ni, contents(&gb), nb, contents(&gw), nw), e, e == 4 ? at : 0);
                                 }
                                 e = expected(code, off[in], off[ow], entry);
                                 if (e) {
                                     arm_both();
-                                    refused(cinorbis_encode(R, M, given, k + (size_t)off[in], contents(&gw), nw), e, e == 4 ? at_bits : 0);
+                                    refused(encode(R, M, given, k + (size_t)off[in], contents(&gw), nw), e, e == 4 ? at_bits : 0);
                                 }
                                 e = expected(code, off[in], off[ob], entry);
                                 if (e) {
                                     arm_both();
-                                    refused(cinorbis_inverse(R, M, x, ni, contents(&gb), nb), e, e == 4 ? at : 0);
+                                    refused(inverse(R, M, x, ni, contents(&gb), nb), e, e == 4 ? at : 0);
                                 }
                             }
     end();
@@ -82,15 +82,15 @@ static void bytes_of_bits(void) {
             x[at] = (uint8_t)b;
             x[3] = (uint8_t)b;
             arm_both();
-            refused(cinorbis_inverse(1, 2, x, 4, contents(&gb), 3), 4, (uint64_t)at);
-            if (at < 3) refused(cinorbis_encode(1, 2, x, 3, contents(&gw), 4), 4, (uint64_t)at);
+            refused(inverse(1, 2, x, 4, contents(&gb), 3), 4, (uint64_t)at);
+            if (at < 3) refused(encode(1, 2, x, 3, contents(&gw), 4), 4, (uint64_t)at);
         }
     end();
     begin("empty buffers where none may be empty");
     arm_both();
-    refused(cinorbis_encode(1, 2, contents(&gb), 0, contents(&gw), 0), 2, 0);
-    refused(cinorbis_encode(3, 2, contents(&gb), 0, contents(&gw), 0), 1, 0);
-    refused(cinorbis_inverse(1, 2, contents(&gw), 0, contents(&gb), 0), 2, 0);
+    refused(encode(1, 2, contents(&gb), 0, contents(&gw), 0), 2, 0);
+    refused(encode(3, 2, contents(&gb), 0, contents(&gw), 0), 1, 0);
+    refused(inverse(1, 2, contents(&gw), 0, contents(&gb), 0), 2, 0);
     end();
 }
 
@@ -99,7 +99,7 @@ static void search_refusals(void) {
     const int16_t zeros[4] = {0, 0, 0, 0};
     for (uint32_t allowed = 0; allowed < 12; allowed++) {
         arm_both();
-        cinorbis_answer a = cinorbis_search_within(1, 2, allowed, zeros, 4, contents(&gb), 3, contents(&gw), 4);
+        answer a = search_within(1, 2, allowed, zeros, 4, contents(&gb), 3, contents(&gw), 4);
         CHECK(untouched(&gb) && untouched(&gw), "wrote");
         if (allowed < 7)
             CHECK(a.refusal == 6 && a.visits == allowed && a.penalty == 0 && a.gap == 0 && a.place == 0, "%u", a.refusal);
@@ -108,9 +108,9 @@ static void search_refusals(void) {
     }
     const int16_t tied[2] = {3, 3}; /* RM(0,1) with readings 3, -3 is tied at 3 */
     const int16_t even[2] = {3, -3};
-    cinorbis_answer a = cinorbis_search(0, 1, even, 2, contents(&gb), 1, contents(&gw), 2);
+    answer a = search(0, 1, even, 2, contents(&gb), 1, contents(&gw), 2);
     CHECK(a.refusal == 7 && a.penalty == 3 && a.gap == 0 && untouched(&gb) && untouched(&gw), "%u %u", a.refusal, a.penalty);
-    a = cinorbis_search(0, 1, tied, 2, contents(&gb), 1, contents(&gw), 2);
+    a = search(0, 1, tied, 2, contents(&gb), 1, contents(&gw), 2);
     CHECK(a.refusal == 0 && a.penalty == 0 && a.gap == 6, "%u %u %u", a.refusal, a.penalty, a.gap);
     end();
     begin("the short call allows 1,000,000 visits");
@@ -119,7 +119,7 @@ static void search_refusals(void) {
     for (int t = 0; t < 3; t++) {
         for (int j = 0; j < 256; j++) l[j] = (int16_t)random_between(-2047, 2047);
         arm_both();
-        a = cinorbis_search(4, 8, l, 256, contents(&gb), 163, contents(&gw), 256);
+        a = search(4, 8, l, 256, contents(&gb), 163, contents(&gw), 256);
         if (a.refusal == 6) {
             met++;
             CHECK(a.visits == 1000000 && untouched(&gb) && untouched(&gw), "%u", a.visits);
@@ -158,18 +158,20 @@ static void records(void) {
                 size_t n = (size_t)1 << m, k = (size_t)ref_k(r, m);
                 int after_nine = pad;
                 arm_both();
-                cinorbis_answer a = cinorbis_search_record(UINT32_MAX, bytes, given, contents(&gb), k + (size_t)bad_out, contents(&gw), n);
+                answer a = search_record(UINT32_MAX, bytes, given, contents(&gb), k + (size_t)bad_out, contents(&gw), n);
                 uint32_t e = bad_code ? 1 : torn ? 8 : after_nine ? 9 : bad_out ? 3 : rail ? 4 : 0;
                 if (e) refused(a, e, e == 4 ? (uint64_t)at : 0);
-                cinorbis_part p = cinorbis_record(bytes, given);
+                cinorbis_part p;
+                memset(&p, 0xA5, sizeof p);
+                uint32_t part_refusal = cinorbis_record(bytes, given, &p);
                 e = bad_code ? 1 : torn ? 8 : after_nine ? 9 : rail ? 4 : 0;
-                CHECK(p.refusal == e && p.place == (e == 4 ? (uint64_t)at : 0), "part: %u, not %u", p.refusal, e);
-                CHECK(e ? p.length == 0 && p.r == 0 && p.m == 0 : p.length == size - 1 && p.r == (uint32_t)r && p.m == (uint32_t)m, "part of %u", p.length);
+                CHECK(part_refusal == e && p.place == (e == 4 ? (uint64_t)at : 0), "part: %u, not %u", part_refusal, e);
+                CHECK(e ? p.length == 0 && p.r == 0 && p.m == 0 : p.length == size - 1 && p.r == (uint64_t)r && p.m == (uint64_t)m, "part of %" PRIu64, p.length);
                 if (!e && !bad_out) {
                     int16_t l[8];
                     uint8_t bits[256], word[256];
                     for (size_t j = 0; j < n; j++) l[j] = (int16_t)field[j];
-                    cinorbis_answer b = cinorbis_search_within((uint32_t)r, (uint32_t)m, UINT32_MAX, l, n, bits, k, word, n);
+                    answer b = search_within((uint32_t)r, (uint32_t)m, UINT32_MAX, l, n, bits, k, word, n);
                     CHECK(a.refusal == b.refusal && a.penalty == b.penalty && a.gap == b.gap && a.visits == b.visits && a.place == b.place, "as the search");
                     if (!b.refusal)
                         CHECK(memcmp(contents(&gb), bits, k) == 0 && memcmp(contents(&gw), word, n) == 0 && only_first(&gb, k) && only_first(&gw, n), "as the search");
@@ -181,11 +183,11 @@ static void records(void) {
     begin("records: no byte at all is 8, a lone 90 or 12 is 1, a lone 21 is 8, 00 80 01 is 9");
     const uint8_t none[1] = {0}, m9[1] = {0x90}, r2[1] = {0x12}, lone[1] = {0x21}, padded[3] = {0x00, 0x80, 0x01};
     arm_both();
-    refused(cinorbis_search_record(9, none, 0, contents(&gb), 1, contents(&gw), 1), 8, 0);
-    refused(cinorbis_search_record(9, m9, 1, contents(&gb), 1, contents(&gw), 1), 1, 0);
-    refused(cinorbis_search_record(9, r2, 1, contents(&gb), 1, contents(&gw), 1), 1, 0);
-    refused(cinorbis_search_record(9, lone, 1, contents(&gb), 1, contents(&gw), 1), 8, 0);
-    refused(cinorbis_search_record(9, padded, 3, contents(&gb), 9, contents(&gw), 9), 9, 0);
+    refused(search_record(9, none, 0, contents(&gb), 1, contents(&gw), 1), 8, 0);
+    refused(search_record(9, m9, 1, contents(&gb), 1, contents(&gw), 1), 1, 0);
+    refused(search_record(9, r2, 1, contents(&gb), 1, contents(&gw), 1), 1, 0);
+    refused(search_record(9, lone, 1, contents(&gb), 1, contents(&gw), 1), 8, 0);
+    refused(search_record(9, padded, 3, contents(&gb), 9, contents(&gw), 9), 9, 0);
     end();
 }
 

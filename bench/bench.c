@@ -1,0 +1,256 @@
+/* Times the library beside plain C (plain.h) in one run: each figure is the least of several alternating rounds, and what counts is
+ * the ratio. Both sides must agree in every result, or the bench fails. `bench grow` prints visits and time per word over all codes
+ * and three noise levels instead. */
+#define _POSIX_C_SOURCE 199309L
+#include "../include/cinorbis.h"
+#include "plain.h"
+#include <math.h>
+#include <stdio.h>
+#include <stdlib.h>
+#include <time.h>
+
+#define SETS 64
+#define ROUNDS 9
+
+static int16_t readings[SETS][256];
+static uint8_t information[SETS][256];
+static uint64_t state = 0x2545f4914f6cdd1du, sum_library, sum_plain;
+
+static uint64_t random64(void) {
+    state ^= state << 13;
+    state ^= state >> 7;
+    state ^= state << 17;
+    return state;
+}
+
+/* a normal number from twelve uniform ones */
+static double normal(void) {
+    double s = -6;
+    for (int i = 0; i < 12; i++) s += (double)(random64() >> 11) / 9007199254740992.0;
+    return s;
+}
+
+static double now(void) {
+    struct timespec t;
+    clock_gettime(CLOCK_PROCESS_CPUTIME_ID, &t);
+    return (double)t.tv_sec * 1e9 + (double)t.tv_nsec;
+}
+
+static size_t dimension(uint32_t r, uint32_t m) {
+    uint8_t kinds[256];
+    return (size_t)plain_kinds(r, m, kinds);
+}
+
+/* noise < 0: readings of no word at all; else a word's signs of size 400 with normal noise of that many times 400 */
+static void make(uint32_t r, uint32_t m, double noise) {
+    size_t n = (size_t)1 << m, k = dimension(r, m);
+    for (int t = 0; t < SETS; t++) {
+        uint8_t word[256];
+        for (size_t i = 0; i < k; i++) information[t][i] = random64() >> 40 & 1;
+        plain_encode(r, m, information[t], k, word, n);
+        for (size_t j = 0; j < n; j++) {
+            double x = noise < 0 ? (double)(random64() >> 20 & 4095) - 2047.5 : 400 * (word[j] ? -1 : 1) + 400 * noise * normal();
+            if (x > 2047) x = 2047;
+            if (x < -2047) x = -2047;
+            readings[t][j] = (int16_t)lrint(x);
+        }
+    }
+}
+
+typedef struct {
+    uint32_t r, m, allowed;
+    int repeats;
+} work;
+
+/* each returns the number of units done: words, or visits */
+static double library_encode(work w) {
+    uint8_t word[256];
+    cinorbis_numbers n;
+    size_t k = dimension(w.r, w.m);
+    for (int i = 0; i < w.repeats; i++)
+        for (int t = 0; t < SETS; t++) {
+            cinorbis_encode(w.r, w.m, information[t], k, word, (size_t)1 << w.m, &n);
+            sum_library += word[t & ((1 << w.m) - 1)];
+        }
+    return (double)w.repeats * SETS;
+}
+
+static double c_encode(work w) {
+    uint8_t word[256];
+    size_t k = dimension(w.r, w.m);
+    for (int i = 0; i < w.repeats; i++)
+        for (int t = 0; t < SETS; t++) {
+            plain_encode(w.r, w.m, information[t], k, word, (size_t)1 << w.m);
+            sum_plain += word[t & ((1 << w.m) - 1)];
+        }
+    return (double)w.repeats * SETS;
+}
+
+static double library_quick(work w) {
+    uint8_t word[256], bits[256];
+    cinorbis_numbers n;
+    size_t k = dimension(w.r, w.m), l = (size_t)1 << w.m;
+    for (int i = 0; i < w.repeats; i++)
+        for (int t = 0; t < SETS; t++) {
+            cinorbis_quick(w.r, w.m, readings[t], l, bits, k, word, l, &n);
+            sum_library += n.penalty + bits[0];
+        }
+    return (double)w.repeats * SETS;
+}
+
+static double c_quick(work w) {
+    uint8_t word[256], bits[256];
+    uint32_t penalty = 0;
+    size_t k = dimension(w.r, w.m), l = (size_t)1 << w.m;
+    for (int i = 0; i < w.repeats; i++)
+        for (int t = 0; t < SETS; t++) {
+            plain_quick(w.r, w.m, readings[t], l, bits, k, word, l, &penalty);
+            sum_plain += penalty + bits[0];
+        }
+    return (double)w.repeats * SETS;
+}
+
+static double library_search(work w) {
+    uint8_t word[256], bits[256];
+    cinorbis_numbers n;
+    double visits = 0;
+    size_t k = dimension(w.r, w.m), l = (size_t)1 << w.m;
+    for (int i = 0; i < w.repeats; i++)
+        for (int t = 0; t < SETS; t++) {
+            uint32_t refusal = cinorbis_search_within(w.r, w.m, w.allowed, readings[t], l, bits, k, word, l, &n);
+            visits += (double)n.visits;
+            sum_library += refusal == 0 ? n.penalty * 3 + n.gap + bits[0] : refusal;
+        }
+    return visits;
+}
+
+static double c_search(work w) {
+    uint8_t word[256], bits[256];
+    plain_state s = {0, 0, 0, 0, 0};
+    double visits = 0;
+    size_t k = dimension(w.r, w.m), l = (size_t)1 << w.m;
+    for (int i = 0; i < w.repeats; i++)
+        for (int t = 0; t < SETS; t++) {
+            uint32_t refusal = (uint32_t)plain_search(w.r, w.m, w.allowed, readings[t], l, bits, k, word, l, &s);
+            visits += s.visits;
+            sum_plain += refusal == 0 ? (uint64_t)s.best * 3 + (s.second - s.best) + bits[0] : refusal;
+        }
+    return visits;
+}
+
+static double once(double (*f)(work), work w, double *units) {
+    double start = now();
+    *units = f(w);
+    return now() - start;
+}
+
+static int disagreed;
+
+/* both sides in alternating rounds; the least time of each */
+static void compare(const char *name, const char *unit, work w, double (*library)(work), double (*plain)(work)) {
+    double least_library = 1e300, least_plain = 1e300, units_library = 0, units_plain = 0;
+    sum_library = sum_plain = 0;
+    for (int i = 0; i < ROUNDS; i++) {
+        double a = once(library, w, &units_library), b = once(plain, w, &units_plain);
+        if (a < least_library) least_library = a;
+        if (b < least_plain) least_plain = b;
+    }
+    if (sum_library != sum_plain || units_library != units_plain) {
+        printf("%s: the two sides disagree\n", name);
+        disagreed = 1;
+    }
+    double a = least_library / units_library, b = least_plain / units_plain;
+    printf("| %s | %.1f | %.1f | %.2f |\n", name, a, b, a / b);
+    (void)unit;
+}
+
+static void search_figures(uint32_t r, uint32_t m, double noise, const char *kind) {
+    char name[80];
+    snprintf(name, sizeof name, "search RM(%u,%u), %s, per visit", (unsigned)r, (unsigned)m, kind);
+    make(r, m, noise);
+    work w = {r, m, 20000, 1};
+    compare(name, "visit", w, library_search, c_search);
+    if (noise >= 0) {
+        snprintf(name, sizeof name, "search RM(%u,%u), %s, per word", (unsigned)r, (unsigned)m, kind);
+        double words = (double)SETS, units, least_library = 1e300, least_plain = 1e300;
+        for (int i = 0; i < ROUNDS; i++) {
+            double a = once(library_search, w, &units), b = once(c_search, w, &units);
+            if (a < least_library) least_library = a;
+            if (b < least_plain) least_plain = b;
+        }
+        printf("| %s | %.0f | %.0f | %.2f |\n", name, least_library / words, least_plain / words, least_library / least_plain);
+    }
+}
+
+/* records of RM(2,5): packed once, then searched */
+static void record_figures(void) {
+    static uint8_t bytes[SETS][CINORBIS_LARGEST_RECORD];
+    uint8_t bits[256], word[256];
+    cinorbis_numbers n;
+    make(2, 5, 0.4);
+    for (int t = 0; t < SETS; t++) {
+        bytes[t][0] = 0x52;
+        for (int j = 0; j < 32; j += 2) {
+            unsigned a = (unsigned)readings[t][j] & 0xfff, b = (unsigned)readings[t][j + 1] & 0xfff;
+            uint8_t *at = bytes[t] + 1 + j / 2 * 3;
+            at[0] = (uint8_t)(a >> 4);
+            at[1] = (uint8_t)((a & 15) << 4 | b >> 8);
+            at[2] = (uint8_t)b;
+        }
+    }
+    double least = 1e300;
+    for (int i = 0; i < ROUNDS; i++) {
+        double start = now();
+        for (int repeat = 0; repeat < 20; repeat++)
+            for (int t = 0; t < SETS; t++) cinorbis_search_record(1000000, bytes[t], 49, bits, 16, word, 32, &n);
+        double taken = (now() - start) / (20.0 * SETS);
+        if (taken < least) least = taken;
+    }
+    printf("\nrecords of RM(2,5), noise 0.4: %.0f per second\n", 1e9 / least);
+}
+
+static void grow(void) {
+    static const double noise[3] = {0.3, 0.5, 0.8};
+    puts("r m k noise visits ns refused");
+    for (uint32_t m = 0; m <= 8; m++)
+        for (uint32_t r = 0; r <= m; r++)
+            for (int level = 0; level < 3; level++) {
+                make(r, m, noise[level]);
+                uint8_t bits[256], word[256];
+                cinorbis_numbers n;
+                size_t k = dimension(r, m), l = (size_t)1 << m;
+                double visits = 0, start = now();
+                int out = 0;
+                for (int t = 0; t < SETS; t++) {
+                    out += cinorbis_search_within(r, m, 200000, readings[t], l, bits, k, word, l, &n) == 6;
+                    visits += (double)n.visits;
+                }
+                printf("%u %u %zu %.1f %.1f %.0f %d\n", (unsigned)r, (unsigned)m, k, noise[level], visits / SETS, (now() - start) / SETS, out);
+            }
+}
+
+int main(int argc, char **argv) {
+    if (argc == 2 && strcmp(argv[1], "grow") == 0) {
+        grow();
+        return 0;
+    }
+    puts("| what | library, ns | plain C, ns | ratio |");
+    puts("|---|---|---|---|");
+    make(4, 8, -1);
+    work e = {4, 8, 0, 200}, q = {4, 8, 0, 60}, e5 = {2, 5, 0, 1000}, q5 = {2, 5, 0, 500};
+    compare("encode RM(4,8)", "word", e, library_encode, c_encode);
+    compare("quick reading RM(4,8)", "word", q, library_quick, c_quick);
+    make(2, 5, -1);
+    compare("encode RM(2,5)", "word", e5, library_encode, c_encode);
+    compare("quick reading RM(2,5)", "word", q5, library_quick, c_quick);
+    search_figures(4, 8, -1, "random");
+    search_figures(3, 8, -1, "random");
+    search_figures(2, 8, -1, "random");
+    search_figures(2, 5, -1, "random");
+    search_figures(4, 8, 0.35, "noisy");
+    search_figures(3, 8, 0.5, "noisy");
+    search_figures(2, 8, 0.7, "noisy");
+    search_figures(2, 5, 0.5, "noisy");
+    record_figures();
+    return disagreed;
+}
