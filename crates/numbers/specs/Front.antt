@@ -4,8 +4,8 @@ use mathlib.Core.List.{List, [], _∷_, _++_}
 use Prim.Native.Nat.{ℕ, zero, suc, _≤_, _<_}
 use native.Mathlib.Nat.{not-suc-le-zero, le-of-suc-le-suc}
 use native.Mathlib.Omega.{arith}
-use lib.ListN.{length, getD, take, drop, set, drop-of-length-le, take-append-drop, length-append, length-drop}
-use lib.Seq.{take-at, length-take-le, drop-length}
+use lib.ListN.{length, getD, take, drop, set, drop-of-length-le, take-append-drop}
+use lib.Seq.{drop-length}
 
 module _ {A : Type 0} where
   abbrev pub front : List A → List A → ℕ → List A
@@ -46,10 +46,3 @@ module _ {A : Type 0} where
 
   pub front-all : (d x : List A) → length d ≡ length x → front d x (length x) ≡ x
   front-all d x e = front-done d x (length x) (omega arith) (drop-length x)
-
-  -- what is replaced
-  pub front-whole : (d x : List A) (j : ℕ) → j ≤ length x → take j (front d x j) ≡ take j x
-  front-whole d x j h = take-at (take j x) (drop j d) j (length-take-le j x h)
-
-  pub length-front : (d x : List A) (j : ℕ) → j ≤ length d → j ≤ length x → length (front d x j) ≡ length d
-  length-front d x j h k = simp (length-append, length-drop) (omega (arith, length-take-le j x k))

@@ -40,18 +40,27 @@ counted allowed w =
 abbrev pub drops : Progress → ℕ → Bool
 drops w p = cond (ltb (w .held) 2) false (leb (w .second) p)
 
--- what each step asks: the path u of i choices has penalty p and is not dropped; where fresh the rows stand for the index before
-pub record Ready (m : ℕ) (l : List ℤ) (kinds : List ℕ) (rows : List ℤ) (half : List ℕ) (fresh : Bool) (i p : ℕ) (w : Progress) : Type 0 where
-  pub m-small : m ≤ 8
+-- what the walk asks: 2^m readings whose sizes add up to less than 2^31, and a row of kinds
+pub record Walkable (m : ℕ) (l : List ℤ) (kinds : List ℕ) : Type 0 where
+  pub most : m ≤ 8
   pub long : length l ≡ 2 ^ m
   pub long-kinds : length kinds ≡ 2 ^ m
-  pub within : i ≤ 2 ^ m
   pub small : sizes l < 2 ^ 31
+
+-- what each step asks: the path u of i choices has penalty p and is not dropped; where fresh the rows stand for the index before
+pub record Ready (m : ℕ) (l : List ℤ) (kinds : List ℕ) (rows : List ℤ) (half : List ℕ) (fresh : Bool) (i p : ℕ) (w : Progress) : Type 0 where
+  pub most : m ≤ 8
+  pub long : length l ≡ 2 ^ m
+  pub long-kinds : length kinds ≡ 2 ^ m
+  pub small : sizes l < 2 ^ 31
+  pub inside : i ≤ 2 ^ m
   pub bits : Bits half
+  pub long-path : length (pathOf m i (take (2 ^ m) half)) ≡ i
+  pub bits-path : Bits (pathOf m i (take (2 ^ m) half))
   pub penalty : p ≡ pathPenalty m l (pathOf m i (take (2 ^ m) half))
   pub going : w .out ≡ false
   pub kept : drops w p ≡ false
-  pub stands : fresh ≡ true → Stands m l (take (i - 1) (pathOf m i (take (2 ^ m) half))) (take (2 ^ m) rows)
+  pub stands : fresh ≡ true → 0 < i → Stands m l (take (i - 1) (pathOf m i (take (2 ^ m) half))) (take (2 ^ m) rows)
 
 -- what each step gives: the walk from the path u on, and that path in memory as before
 pub record Stepped (allowed m : ℕ) (l : List ℤ) (kinds : List ℕ) (i p : ℕ) (w : Progress) (half best second : List ℕ) (w′ : Progress) (half′ best′ second′ : List ℕ) : Type 0 where

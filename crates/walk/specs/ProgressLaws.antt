@@ -7,7 +7,6 @@ use native.Mathlib.Omega.{arith}
 use lib.ListN.{length, take, drop}
 use lib.Dec.{ltb, leb}
 use borrow.Author.Tests.{lt-ltb, le-ltb}
-use Rattle.numbers.specs.Front.{front, front-whole}
 use Rattle.words.specs.Word.{transform}
 use Rattle.decoding.specs.Walk.{Full, Held, none, one, two, State, dropped, finished, hold, visited}
 use Rattle.decoding.specs.Allowance.{Limited, ended, out}
@@ -20,23 +19,23 @@ hold-more zero a b f h = absurd (h refl)
 hold-more (suc zero) a b f h = refl
 hold-more (suc (suc k)) a b f h = refl
 
-module _ (m n p : ℕ) (w : Progress) (half best second best′ second′ : List ℕ) (e : n ≡ 2 ^ m) (going : w .out ≡ false) (long : n ≤ length half) where
+module _ (m n p : ℕ) (w : Progress) (half best second best′ second′ : List ℕ) (e : n ≡ 2 ^ m) (going : w .out ≡ false) where
   abbrev pub nowHeld : Limited
   nowHeld = ended (finished (transform m (take (2 ^ m) half)) p (stateOf m w best second))
 
   abbrev pub with : ℕ → ℕ → ℕ → Progress
   with k b s = record { held = k; best = b; second = s; visits = w .visits; out = w .out }
 
-  pub first-held : w .held ≡ 0 → best′ ≡ front best half n → limitedOf m (with 1 p (w .second)) best′ second ≡ nowHeld
-  first-held z b = rw (going, z, b, ← e, front-whole best half n long)
+  pub first-held : w .held ≡ 0 → take n best′ ≡ take n half → limitedOf m (with 1 p (w .second)) best′ second ≡ nowHeld
+  first-held z b = rw (going, z, ← e, b)
 
-  pub held-as-best : (w .held ≡ 0 → ⊥) → p < w .best → n ≤ length best → second′ ≡ front second best n → best′ ≡ front best half n
+  pub held-as-best : (w .held ≡ 0 → ⊥) → p < w .best → take n second′ ≡ take n best → take n best′ ≡ take n half
       → limitedOf m (with 2 p (w .best)) best′ second′ ≡ nowHeld
-  held-as-best z h k s b =
+  held-as-best z h s b =
       let more = hold-more (w .held) (fullOf m best (w .best)) (fullOf m second (w .second)) (record { path = transform m (take (2 ^ m) half); penalty = p }) z in
-      rw (going, more, lt-ltb p (w .best) h, b, s, ← e, front-whole best half n long, front-whole second best n k)
+      rw (going, more, lt-ltb p (w .best) h, ← e, s, b)
 
-  pub held-as-second : (w .held ≡ 0 → ⊥) → w .best ≤ p → second′ ≡ front second half n → limitedOf m (with 2 (w .best) p) best second′ ≡ nowHeld
+  pub held-as-second : (w .held ≡ 0 → ⊥) → w .best ≤ p → take n second′ ≡ take n half → limitedOf m (with 2 (w .best) p) best second′ ≡ nowHeld
   held-as-second z h s =
       let more = hold-more (w .held) (fullOf m best (w .best)) (fullOf m second (w .second)) (record { path = transform m (take (2 ^ m) half); penalty = p }) z in
-      rw (going, more, le-ltb p (w .best) h, s, ← e, front-whole second half n long)
+      rw (going, more, le-ltb p (w .best) h, ← e, s)

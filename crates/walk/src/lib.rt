@@ -3,16 +3,17 @@ ghost use mathlib.Core.Path.{_≡_};
 ghost use mathlib.Core.Bool.{Bool, true, false};
 ghost use mathlib.Core.List.{List, [], _∷_, _++_};
 ghost use Prim.Native.Nat.{ℕ, _+_, _-_, _*_, _^_, _≤_, _<_};
-ghost use lib.ListN.{length, take, drop};
+ghost use lib.ListN.{length, getD, take, drop};
 ghost use lib.IntN.{natAbs};
 ghost use Rattle.words.specs.Bits.{Bits};
 ghost use Rattle.decoding.specs.Readings.{loss};
 ghost use Rattle.decoding.specs.Quick.{hard};
 ghost use Rattle.words.specs.Word.{transform};
-ghost use Rattle.numbers.specs.Front.{front};
-ghost use Rattle.decoding.specs.Walk.{start, finished};
+ghost use Rattle.decoding.specs.Walk.{start, finished, value};
+ghost use Rattle.memory.specs.Memory.{pathOf, Stands};
+ghost use Rattle.memory.specs.Ready.{ValueReady};
 ghost use Rattle.decoding.specs.Allowance.{walkWithin, ended};
-ghost use Rattle.walk.specs.Progress.{Ready, Stepped, stateOf, limitedOf, counted, drops};
+ghost use Rattle.walk.specs.Progress.{Walkable, Ready, Stepped, stateOf, limitedOf, counted, drops};
 
 // What the walk holds: penalties of the full paths, visits. The full paths stand beside it, as words.
 pub struct Progress {
@@ -72,16 +73,19 @@ fn cost(v: i32, bit: u8) -> u32
     v as u32
 }
 
+fn copy_front(from: &[u8], to: &mut [u8], n: usize)
+    requires { ⌜ (n ≤ length (now from)) × (n ≤ length (now to)) ⌝ }
+    ensures { λ _. ⌜ take n (now (to .exit)) ≡ take n (now (from .entry)) ⌝ }
+{
+    half::copy(&from[0..n], &mut to[0..n]);
+}
+
 // The first n bytes.
 fn copy(from: &[u8; 256], to: &mut [u8; 256], n: usize)
-    requires { ⌜ (n ≤ 256) × (length (now from) ≡ 256) × (length (now to) ≡ 256) ⌝ }
-    ensures { λ _. ⌜ now (to .exit) ≡ front (now (to .entry)) (now (from .entry)) n ⌝ }
+    requires { ⌜ n ≤ 256 ⌝ }
+    ensures { λ _. ⌜ take n (now (to .exit)) ≡ take n (now (from .entry)) ⌝ }
 {
-    let mut j = 0;
-    while j < n {
-        to[j] = from[j];
-        j += 1;
-    }
+    copy_front(from, to, n);
 }
 
 // A full path is held: as best, when the old best becomes second, or as second.
@@ -94,8 +98,6 @@ fn finish(
     w: Progress,
 ) -> Progress
     requires { ⌜ (n ≤ 256) × (w .out ≡ false) ⌝ }
-    requires { ⌜ (length (now half) ≡ 256) × (length (now best) ≡ 256) × (length (now second) ≡ 256) ⌝ }
-    ensures { λ r. ⌜ (length (now (best .exit)) ≡ 256) × (length (now (second .exit)) ≡ 256) ⌝ }
     ensures { λ r. ⌜ ((m : ℕ) → n ≡ 2 ^ m → limitedOf m r (now (best .exit)) (now (second .exit)) ≡ ended (finished (transform m (take (2 ^ m) (now (half .entry)))) p (stateOf m w (now (best .entry)) (now (second .entry))))) ⌝ }
 {
     if w.held == 0 {
