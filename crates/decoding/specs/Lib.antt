@@ -21,5 +21,6 @@ pub mod AllOnes
 pub mod AnswerLaws
 pub mod SearchLaws
 pub mod Demands
+pub mod DemandsMet
 pub mod QuickLaws
 pub mod Examples
