@@ -9,9 +9,7 @@ ghost use Rattle.words.specs.Bits.{Bits};
 ghost use Rattle.decoding.specs.Readings.{loss};
 ghost use Rattle.decoding.specs.Quick.{hard};
 ghost use Rattle.words.specs.Word.{transform};
-ghost use Rattle.decoding.specs.Walk.{start, finished, value};
-ghost use Rattle.memory.specs.Memory.{pathOf, Stands};
-ghost use Rattle.memory.specs.Ready.{ValueReady};
+ghost use Rattle.decoding.specs.Walk.{start, finished};
 ghost use Rattle.decoding.specs.Allowance.{walkWithin, ended};
 ghost use Rattle.walk.specs.Progress.{Walkable, Ready, Stepped, stateOf, limitedOf, counted, drops};
 
@@ -124,4 +122,180 @@ fn finish(
         second: p,
         ..w
     }
+}
+
+// The path goes on at index i, with penalty p: it is full, or two extensions follow, or one.
+fn frozen_step(
+    readings: &[i16],
+    kinds: &[u8],
+    rows: &mut [i32; 256],
+    half: &mut [u8; 256],
+    best: &mut [u8; 256],
+    second: &mut [u8; 256],
+    m: usize,
+    allowed: u32,
+    fresh: bool,
+    i: usize,
+    p: u32,
+    w: Progress,
+) -> Progress
+    requires { ⌜ Ready m (now readings) (now kinds) (now rows) (now half) fresh i p w ⌝ }
+    ensures { λ r. ⌜ Stepped allowed m (now (readings .entry)) (now (kinds .entry)) i p w (now (half .entry)) (now (best .entry)) (now (second .entry)) r (now (half .exit)) (now (best .exit)) (now (second .exit)) ⌝ }
+{
+    if i == readings.len() {
+        return finish(half, best, second, i, p, w);
+    }
+    if kinds[i] != 0 {
+        return info_step(
+            readings,
+            kinds,
+            rows,
+            half,
+            best,
+            second,
+            m,
+            allowed,
+            fresh,
+            i,
+            p,
+            w,
+        );
+    }
+    let y = visit(w, allowed);
+    if y.out {
+        return y;
+    }
+    let v = memory::value(readings, rows, half, m, fresh, i);
+    let q = p + cost(v, 0);
+    if dropped(y, q) {
+        return y;
+    }
+    memory::put(half, m, i, 0);
+    let z = frozen_step(
+        readings,
+        kinds,
+        rows,
+        half,
+        best,
+        second,
+        m,
+        allowed,
+        true,
+        i + 1,
+        q,
+        y,
+    );
+    memory::take_back(half, m, i);
+    z
+}
+
+// Both extensions at an information index i: first the bit that the value speaks for, which adds
+// nothing, so that it is not dropped; when everything under it is done, the other.
+fn info_step(
+    readings: &[i16],
+    kinds: &[u8],
+    rows: &mut [i32; 256],
+    half: &mut [u8; 256],
+    best: &mut [u8; 256],
+    second: &mut [u8; 256],
+    m: usize,
+    allowed: u32,
+    fresh: bool,
+    i: usize,
+    p: u32,
+    w: Progress,
+) -> Progress
+    requires { ⌜ Ready m (now readings) (now kinds) (now rows) (now half) fresh i p w ⌝ }
+    requires { ⌜ (i < 2 ^ m) × (getD (now kinds) i 0 ≡ 0 → ⊥) ⌝ }
+    ensures { λ r. ⌜ Stepped allowed m (now (readings .entry)) (now (kinds .entry)) i p w (now (half .entry)) (now (best .entry)) (now (second .entry)) r (now (half .exit)) (now (best .exit)) (now (second .exit)) ⌝ }
+{
+    let y = visit(w, allowed);
+    if y.out {
+        return y;
+    }
+    let v = memory::value(readings, rows, half, m, fresh, i);
+    let first = first_bit(v);
+    let other = 1 - first;
+    let q = p + cost(v, other);
+    memory::put(half, m, i, first);
+    let z = frozen_step(
+        readings,
+        kinds,
+        rows,
+        half,
+        best,
+        second,
+        m,
+        allowed,
+        true,
+        i + 1,
+        p,
+        y,
+    );
+    memory::take_back(half, m, i);
+    if z.out {
+        return z;
+    }
+    let x = visit(z, allowed);
+    if x.out {
+        return x;
+    }
+    if dropped(x, q) {
+        return x;
+    }
+    memory::put(half, m, i, other);
+    let last = frozen_step(
+        readings,
+        kinds,
+        rows,
+        half,
+        best,
+        second,
+        m,
+        allowed,
+        false,
+        i + 1,
+        q,
+        x,
+    );
+    memory::take_back(half, m, i);
+    last
+}
+
+// The whole walk under an allowance. The words of the full paths that it holds are in best and
+// second.
+pub fn walk(
+    readings: &[i16],
+    kinds: &[u8],
+    m: usize,
+    allowed: u32,
+    best: &mut [u8; 256],
+    second: &mut [u8; 256],
+) -> Progress
+    requires { ⌜ Walkable m (now readings) (now kinds) ⌝ }
+    ensures { λ r. ⌜ limitedOf m r (now (best .exit)) (now (second .exit)) ≡ walkWithin allowed m (now (readings .entry)) (now (kinds .entry)) [] 0 start ⌝ }
+{
+    let mut rows = [0i32; 256];
+    let mut half = [0u8; 256];
+    let none = Progress {
+        held: 0,
+        best: 0,
+        second: 0,
+        visits: 0,
+        out: false,
+    };
+    frozen_step(
+        readings,
+        kinds,
+        &mut rows,
+        &mut half,
+        best,
+        second,
+        m,
+        allowed,
+        false,
+        0,
+        0,
+        none,
+    )
 }
