@@ -2,3 +2,4 @@ pub mod Layout
 pub mod LayoutLaws
 pub mod Reader
 pub mod ReaderLaws
+pub mod Accepted

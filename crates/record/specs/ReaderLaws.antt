@@ -4,16 +4,15 @@ use mathlib.Core.List.{List, [], _∷_}
 use mathlib.Core.Logic.{⊎-elim}
 use Prim.Native.Nat.{ℕ, zero, suc, _+_, _-_, _/_, _%_, _^_, _≤_, _<_, min}
 use native.Mathlib.Omega.{arith}
-use lib.Pow.{pow-mono}
 use lib.IntN.{ℤ}
 use lib.ListN.{length, getD, take, drop, drop-of-length-le, length-drop}
 use lib.Seq.{take-at, take-all, take-length, length-take-le, drop-length, getD-take, getD-drop}
 use borrow.Author.Tests.{lt-ltb, le-ltb, eq-eqb, ne-eqb}
 use Rattle.numbers.specs.Choice.{lt-or-le}
 use Rattle.numbers.specs.Front.{front}
-use Rattle.code.specs.Sound.{Sound, largestM, largestReading, made}
+use Rattle.code.specs.Sound.{Sound, largestReading}
 use Rattle.code.specs.Entries.{firstBadReading}
-use Rattle.code.specs.SoundLaws.{made-large, made-crossed, made-good}
+use Rattle.code.specs.SoundLaws.{made-of, length-most}
 use Rattle.code.specs.declared.Code.{Code}
 use Rattle.code.specs.declared.Made.{Made}
 use Rattle.code.specs.declared.Made.the-variants.{Good, Bad}
@@ -24,27 +23,10 @@ use Rattle.record.specs.Layout.{partLength, padOf}
 use Rattle.record.specs.LayoutLaws.{length-readings}
 use Rattle.record.specs.Reader.{codeOf, partOf, readingsOf, framedBy, frameOf, railedBy, headerOf, laidOver}
 
--- what is told of a code that was made
-pub made-sound : (r m : ℕ) (c : Code) → made r m ≡ Good c → Sound c
-made-sound r m c e =
-    ⊎-elim
-    (λ k. let z : _≡_ {A = ℕ} 0 1 = cc (made-large r m k) in absurd (omega arith))
-    (λ k.
-    ⊎-elim
-    (λ n. let z : _≡_ {A = ℕ} 0 1 = cc (made-crossed r m k n) in absurd (omega arith))
-    (λ n.
-    let same : record { r = r; m = m } ≡ c = cc (made-good r m k n) in
-    record { r-small = omega (arith, ap (λ (c : Code). c .r) same, ap (λ (c : Code). c .m) same); m-small = omega (arith, ap (λ (c : Code). c .m) same) })
-    (lt-or-le m r))
-    (lt-or-le largestM m)
-
--- n is at most 256
-pub length-small : (c : Code) → Sound c → 2 ^ c .m ≤ 256
-length-small c s = pow-mono (s .m-small)
-
+-- the packed part has at most 384 bytes
 pub part-small : (c : Code) → Sound c → partLength (c .m) ≤ 384
 unfolding partLength
-part-small c s = omega (arith, length-small c s)
+part-small c s = omega (arith, length-most s)
 
 -- the three answers of a frame, by its tests
 module _ (c : Code) (s : List ℕ) where
@@ -91,7 +73,7 @@ framed-by first s c (Good d) q e =
     (λ n.
     let z : padOf (d .m) (partOf d t) ≡ 0 = omega arith in
     let same : d ≡ c = cc (frame-whole d t k z) in
-    subst (Framed t) same (record { said = q; sound = made-sound (first % 16) (first / 16) d q; whole = omega arith; clear = z }))
+    subst (Framed t) same (record { said = q; sound = made-of (first % 16) (first / 16) d q .sound; whole = omega arith; clear = z }))
     (lt-or-le 0 (padOf (d .m) (partOf d t))))
     (lt-or-le (length t - 1) (partLength (d .m)))
 

@@ -6,7 +6,8 @@ ghost use lib.ListN.{length, getD};
 ghost use Rattle.code.specs.Sound.{Sound, largestReading};
 ghost use Rattle.code.specs.Entries.{firstBadReading};
 ghost use Rattle.record.specs.Layout.{reading, unpacked, partLength};
-ghost use Rattle.record.specs.Reader.{codeOf, lengthBy, framedBy, frameOf, railedBy, headerOf, partBy, laidOver};
+ghost use Rattle.record.specs.Reader.{codeOf, lengthBy, framedBy, frameOf};
+ghost use Rattle.record.specs.Reader.{railedBy, headerOf, partBy, laidOver};
 use code::Code;
 use code::Made;
 use code::Refusal;
@@ -121,7 +122,8 @@ pub fn unpack(part: &[u8], readings: &mut [i16])
     }
 }
 
-// The lowest place of a reading beyond the largest in a packed part of n readings, or n where there is none.
+// The lowest place of a reading beyond the largest in a packed part of n readings, or n where
+// there is none.
 fn first_rail(part: &[u8], n: usize) -> usize
     requires { ⌜ (n ≤ 256) × (length (unpacked (now part)) ≡ n) ⌝ }
     ensures { λ place. ⌜ place ≡ firstBadReading largestReading (unpacked (now (part .entry))) ⌝ }
@@ -155,7 +157,8 @@ pub fn header_of(s: &[u8]) -> Header
     }
 }
 
-// The part of the bytes that holds the packed values: all of the record's bytes after its first. Empty on refusal.
+// The part of the bytes that holds the packed values: all of the record's bytes after its first.
+// Empty on refusal.
 pub fn packed(s: &[u8]) -> &[u8]
     ensures { λ part. ⌜ now part ≡ partBy (headerOf (now (s .entry))) (now (s .entry)) ⌝ }
 {

@@ -35,7 +35,8 @@ returns c =
     let g = c .before .before .before .before .before .before .before in
     let u = c .before .before .before .before .unpack in
     let here : take (g .args .n - 0) (drop 0 (u .last .1 .0)) ≡ unpacked (g .args .part .now) =
-    ap (λ (l : List ℤ). take (g .args .n - 0) (drop 0 l)) (u .ensures) ∙ first-laid (g .args .n) (unpacked (g .args .part .now)) (replicate 256 (pos 0)) (g .pre .0) (g .pre .1) in
+    ap (λ (l : List ℤ). take (g .args .n - 0) (drop 0 l)) (u .ensures)
+    ∙ first-laid (g .args .n) (unpacked (g .args .part .now)) (replicate 256 (pos 0)) (g .pre .0) (g .pre .1) in
     c .first-bad-reading .ensures ∙ ap (firstBadReading largestReading) here
 
 pub first-rail-spec : {M : Type 1} → statement M

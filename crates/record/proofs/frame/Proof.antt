@@ -6,7 +6,8 @@ use borrow.Author.Needs.{needs}
 use lib.ListN.{getD}
 use Rattle.code.specs.declared.Made.the-variants.{Good, Bad}
 use Rattle.record.specs.Reader.{codeOf}
-use Rattle.record.specs.ReaderLaws.{made-sound, frame-empty, frame-by}
+use Rattle.code.specs.SoundLaws.{made-of}
+use Rattle.record.specs.ReaderLaws.{frame-empty, frame-by}
 use Rattle.record.proofs.frame.Statement.{statement}
 use Rattle.record.proofs.frame.Tie as tie
 
@@ -25,7 +26,7 @@ enum-known-code c = search needs
 framed-requires : tie.Need-framed-requires
 framed-requires c κs =
     let first = getD (c .before .before .before .before .before .before .before .args .s .now) 0 0 in
-    (made-sound (first % 16) (first / 16) _ (sym (c .before .before .before .code-of .ensures) ∙ c .before .code .given .1), omega arith)
+    (made-of (first % 16) (first / 16) _ (sym (c .before .before .before .code-of .ensures) ∙ c .before .code .given .1) .sound, omega arith)
 
 enum-told : tie.Need-enum-told
 enum-told c = search needs
@@ -33,7 +34,8 @@ enum-told c = search needs
 returns-2 : tie.Need-returns-2
 returns-2 c =
     let s = c .before .before .before .before .before .before .before .before .args .s .now in
-    let is : codeOf (getD s 0 0) ≡ Good (c .before .before .code .given .0 .0) = sym (c .before .before .before .before .code-of .ensures) ∙ c .before .before .code .given .1 in
+    let is : codeOf (getD s 0 0) ≡ Good (c .before .before .code .given .0 .0) =
+    sym (c .before .before .before .before .code-of .ensures) ∙ c .before .before .code .given .1 in
     c .framed .ensures ∙ sym (frame-by s _ (c .before .before .before .before .before .before .if1 .left) is)
 
 returns-3 : tie.Need-returns-3

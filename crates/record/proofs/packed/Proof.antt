@@ -44,7 +44,8 @@ slice-aggregate-result c = search needs
 returns : tie.Need-returns
 returns c =
     let s = c .before .before .before .before .before .before .before .args .s .now in
-    part-taken (c .before .before .before .code .given .0 .0) s _ (c .before .part-length .ensures) ∙ ap (λ (h : Header). partBy h s) (sym (sym (c .before .before .before .before .before .header-of .ensures) ∙ c .before .before .before .code .given .1))
+    part-taken (c .before .before .before .code .given .0 .0) s _ (c .before .part-length .ensures)
+    ∙ ap (λ (h : Header). partBy h s) (sym (sym (c .before .before .before .before .before .header-of .ensures) ∙ c .before .before .before .code .given .1))
 
 returns-2 : tie.Need-returns-2
 returns-2 c =

@@ -4,7 +4,7 @@ use mathlib.Core.Path.{ap}
 use Prim.Native.Nat.{ℕ, _+_, _*_, _/_}
 use borrow.Author.Needs.{needs}
 use Rattle.record.specs.Layout.{partLength}
-use Rattle.record.specs.ReaderLaws.{length-small}
+use Rattle.code.specs.SoundLaws.{length-most}
 use Rattle.record.proofs.part_length.Statement.{statement}
 use Rattle.record.proofs.part_length.Tie as tie
 
@@ -12,10 +12,10 @@ length-requires : tie.Need-length-requires
 length-requires c κs = search needs
 
 mul-result : tie.Need-mul-result
-mul-result c = omega (arith, length-small (c .before .args .code) (c .before .pre))
+mul-result c = omega (arith, length-most (c .before .pre))
 
 add-result : tie.Need-add-result
-add-result c = omega (arith, length-small (c .before .args .code) (c .before .pre))
+add-result c = omega (arith, length-most (c .before .pre))
 
 returns : tie.Need-returns
 unfolding partLength

@@ -5,10 +5,12 @@ use mathlib.Core.List.{List}
 use Prim.Native.Nat.{ℕ}
 use lib.ListN.{length}
 use Rattle.code.specs.Sound.{largestReading}
+use Rattle.code.specs.declared.Code.{Code}
 use Rattle.code.specs.Entries.{firstBadReading}
 use Rattle.record.specs.Layout.{unpacked}
 use Rattle.record.specs.Reader.{readingsOf}
-use Rattle.record.specs.ReaderLaws.{length-small, part-taken, length-readings-of, rail-found, rail-none}
+use Rattle.code.specs.SoundLaws.{length-most}
+use Rattle.record.specs.ReaderLaws.{part-taken, length-readings-of, rail-found, rail-none}
 use borrow.Author.Needs.{needs}
 use Rattle.record.proofs.railed.Statement.{statement}
 use Rattle.record.proofs.railed.Tie as tie
@@ -36,27 +38,37 @@ first-rail-requires c κs =
     let g = c .before .before .before .before in
     let code = g .args .code in
     let s = g .args .s .now in (
-      omega (arith, length-small code (g .pre .0)),
+      omega (arith, length-most (g .pre .0)),
       ap (λ (p : List ℕ). length (unpacked p)) (part-taken code s _ (c .before .part-length .ensures))
           ∙ length-readings-of code s (g .pre .1)
           ∙ sym (c .before .before .length .ensures),
     )
 
--- what the call found, and n
-found : (c : tie.After-first-rail) → let g = c .before .before .before .before .before in c .first-rail .result ≡ firstBadReading largestReading (readingsOf (g .args .code) (g .args .s .now))
-found c =
-    let g = c .before .before .before .before .before in
-    c .first-rail .ensures ∙ ap (λ (p : List ℕ). firstBadReading largestReading (unpacked p)) (part-taken (g .args .code) (g .args .s .now) _ (c .before .before .part-length .ensures))
+-- what the call found, and how many readings there are
+module _ (c : tie.After-first-rail) where
+  abbrev code : Code
+  code = c .before .before .before .before .before .args .code
+
+  abbrev s : List ℕ
+  s = c .before .before .before .before .before .args .s .now
+
+  found : c .first-rail .result ≡ firstBadReading largestReading (readingsOf code s)
+  found =
+      c .first-rail .ensures
+      ∙ ap (λ (p : List ℕ). firstBadReading largestReading (unpacked p)) (part-taken code s _ (c .before .before .part-length .ensures))
+
+  count : length (readingsOf code s) ≡ c .before .before .before .length .result
+  count = length-readings-of code s (c .before .before .before .before .before .pre .1) ∙ sym (c .before .before .before .length .ensures)
 
 returns : tie.Need-returns
 returns c =
-    let g = c .before .before .before .before .before .before in
-    sym (rail-found (g .args .code) (g .args .s .now) _ _ (found (c .before)) (length-readings-of (g .args .code) (g .args .s .now) (g .pre .1) ∙ sym (c .before .before .before .before .length .ensures)) (c .if1 .taken))
+    let g = c .before .before .before .before .before .before .args in
+    sym (rail-found (g .code) (g .s .now) _ _ (found (c .before)) (count (c .before)) (c .if1 .taken))
 
 returns-2 : tie.Need-returns-2
 returns-2 c =
-    let g = c .before .before .before .before .before .before in
-    sym (rail-none (g .args .code) (g .args .s .now) _ _ (found (c .before)) (length-readings-of (g .args .code) (g .args .s .now) (g .pre .1) ∙ sym (c .before .before .before .before .length .ensures)) (c .if1 .left))
+    let g = c .before .before .before .before .before .before .args in
+    sym (rail-none (g .code) (g .s .now) _ _ (found (c .before)) (count (c .before)) (c .if1 .left))
 
 pub railed-spec : {M : Type 1} → statement M
 railed-spec =

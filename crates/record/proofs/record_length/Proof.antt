@@ -5,7 +5,8 @@ use native.Mathlib.Omega.{arith}
 use native.Mathlib.Numerals.{one-add}
 use Rattle.code.specs.Sound.{Sound}
 use Rattle.record.specs.Reader.{lengthBy}
-use Rattle.record.specs.ReaderLaws.{made-sound, part-small}
+use Rattle.code.specs.SoundLaws.{made-of}
+use Rattle.record.specs.ReaderLaws.{part-small}
 use borrow.Author.Needs.{needs}
 use Rattle.record.proofs.record_length.Statement.{statement}
 use Rattle.record.proofs.record_length.Tie as tie
@@ -20,7 +21,7 @@ enum-known-code c = search needs
 sound : (c : tie.After-known-told) → Sound (c .before .code .given .0 .0)
 sound c =
     let first = c .before .before .before .before .args .first in
-    made-sound (first % 16) (first / 16) _ (sym (c .before .before .before .code-of .ensures) ∙ c .before .code .given .1)
+    made-of (first % 16) (first / 16) _ (sym (c .before .before .before .code-of .ensures) ∙ c .before .code .given .1) .sound
 
 part-length-requires : tie.Need-part-length-requires
 part-length-requires c κs = sound c

@@ -54,7 +54,8 @@ loop-again c =
     let g = c .before .before .before .before .before .args in
     let o = c .before .before .loop in
     let x = unpacked (g .part .now) in
-    let stored : toZ w16 (ofZ w16 (c .reading-at .result)) ≡ getD x (o .j) (pos 0) = toZ-ofZ (record { sfits = c .reading-at .ok }) ∙ c .reading-at .ensures in (
+    let stored : toZ w16 (ofZ w16 (c .reading-at .result)) ≡ getD x (o .j) (pos 0) =
+    toZ-ofZ (record { sfits = c .reading-at .ok }) ∙ c .reading-at .ensures in (
       o .inv .0,
       omega arith,
       rw (stored, add-one, o .inv .2) (front-suc (g .readings .now) x (o .j) (pos 0) (omega arith) (omega arith)),
