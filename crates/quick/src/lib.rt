@@ -1,1 +1,74 @@
 // The public call: the quick reading.
+ghost use mathlib.Core.Path.{_≡_};
+ghost use mathlib.Core.List.{_++_};
+ghost use Prim.Native.Nat.{_-_, _^_, _≤_};
+ghost use lib.ListN.{take, drop};
+ghost use Rattle.decoding.specs.Quick.{decide, quickWord};
+ghost use Rattle.rows.specs.Rows.{rowOf};
+ghost use Rattle.quick.specs.Engine.{Sized, Ready, HalfReady};
+
+// At one position: 0 at a frozen index, else the bit that the value speaks for.
+fn decide(kind: u8, value: i32) -> u8
+    ensures { λ b. ⌜ b ≡ decide kind value ⌝ }
+{
+    if kind == 0 {
+        return 0;
+    }
+    if value < 0 { 1 } else { 0 }
+}
+
+// The word of a row of 2^m sums, down to a single one.
+fn quick_row(rows: &mut [i32], kinds: &[u8], word: &mut [u8], m: usize)
+    requires { ⌜ Ready m (now rows) (now kinds) (now word) ⌝ }
+    ensures { λ _. ⌜ now (word .exit) ≡ quickWord m (now (kinds .entry)) (rowOf (2 ^ m) (now (rows .entry))) ⌝ }
+{
+    if m == 0 {
+        word[0] = decide(kinds[0], rows[1]);
+        return;
+    }
+    let h = word.len() / 2;
+    rows::lower_row(rows, h);
+    first_half(rows, kinds, word, m);
+    rows::upper_row(rows, h, word);
+    second_half(rows, kinds, word, m);
+    half::fold(word, h);
+}
+
+// The first half of the word, from the half's row; the sums behind that row are kept.
+fn first_half(rows: &mut [i32], kinds: &[u8], word: &mut [u8], m: usize)
+    requires { ⌜ HalfReady m (now rows) (now kinds) (now word) ⌝ }
+    ensures { λ _. ⌜ (drop (2 ^ m) (now (rows .exit)) ≡ drop (2 ^ m) (now (rows .entry)))
+        × (now (word .exit) ≡ quickWord (m - 1) (take (2 ^ (m - 1)) (now (kinds .entry))) (rowOf (2 ^ (m - 1)) (now (rows .entry))) ++ drop (2 ^ (m - 1)) (now (word .entry))) ⌝ }
+{
+    let n = word.len();
+    let h = n / 2;
+    quick_row(&mut rows[0..n], &kinds[0..h], &mut word[0..h], m - 1);
+}
+
+// The second half of the word, from the half's row.
+fn second_half(rows: &mut [i32], kinds: &[u8], word: &mut [u8], m: usize)
+    requires { ⌜ HalfReady m (now rows) (now kinds) (now word) ⌝ }
+    ensures { λ _. ⌜ now (word .exit) ≡ take (2 ^ (m - 1)) (now (word .entry)) ++ quickWord (m - 1) (drop (2 ^ (m - 1)) (now (kinds .entry))) (rowOf (2 ^ (m - 1)) (now (rows .entry))) ⌝ }
+{
+    let n = word.len();
+    let h = n / 2;
+    quick_row(&mut rows[0..n], &kinds[h..], &mut word[h..], m - 1);
+}
+
+// The word of 2^m readings. The running sums of all rows stand in one array.
+fn quick_word(readings: &[i16], kinds: &[u8], word: &mut [u8], m: usize)
+    requires { ⌜ (m ≤ 8) × Sized m (now kinds) (now word) (now readings) ⌝ }
+    ensures { λ _. ⌜ now (word .exit) ≡ quickWord m (now (kinds .entry)) (now (readings .entry)) ⌝ }
+{
+    if m == 0 {
+        word[0] = decide(kinds[0], readings[0] as i32);
+        return;
+    }
+    let mut rows = [0i32; 256];
+    let h = word.len() / 2;
+    rows::lower_top(readings, &mut rows, h);
+    first_half(&mut rows, kinds, word, m);
+    rows::upper_top(readings, &mut rows, h, word);
+    second_half(&mut rows, kinds, word, m);
+    half::fold(word, h);
+}
