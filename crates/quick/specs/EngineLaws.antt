@@ -11,7 +11,7 @@ use mir.Syntax.{w32}
 use mir.Val.{toZ, ofZ}
 use mir.Facts.{toZ-ofZ}
 use borrow.Rule.Slice.PartMut.{midOf, putMid}
-use Rattle.numbers.specs.Halves.{Halved, halved, drop-take}
+use Rattle.numbers.specs.Halves.{Halved, halved}
 use Rattle.numbers.specs.Lent.{lent-to, back-to, lent-from, back-from}
 use Rattle.numbers.specs.PartsLaws.{fits-size}
 use Rattle.words.specs.Bits.{Bits, xors}
@@ -55,12 +55,12 @@ module _ (m : ℕ) (rows : List ℤ) (kinds word : List ℕ) (r : HalfReady m ro
       record {
         long-rows = long;
         sized =
-          record {
-            long-kinds = e ∙ lengths .half;
-            long-word = f ∙ lengths .half;
-            long-row = length-rowOf (2 ^ (m - 1)) (midOf 0 (length word - 0) rows) (omega (arith, long));
-            small = rw same-row (r .small);
-          };
+            record {
+              long-kinds = e ∙ lengths .half;
+              long-word = f ∙ lengths .half;
+              long-row = length-rowOf (2 ^ (m - 1)) (midOf 0 (length word - 0) rows) (omega (arith, long));
+              small = rw same-row (r .small);
+            };
       }
 
   pub first-ready : Ready (m - 1) (midOf 0 (length word - 0) rows) (midOf 0 (length word / 2 - 0) kinds) (midOf 0 (length word / 2 - 0) word)
@@ -240,9 +240,9 @@ module _ (m : ℕ) (rows : List ℤ) (kinds word : List ℕ) (r : Ready m rows k
           record {
             long-rows = long ∙ ap length is ∙ length-withRow h rows x fits long-x;
             row =
-              ap (λ (k : ℕ). rowOf k q) whole
-              ∙ ap (take (2 ^ m)) (behind ∙ ap (drop (2 ^ m)) is ∙ ap (λ (k : ℕ). drop k (withRow h rows x)) (sym whole) ∙ behind-withRow h rows x fits long-x)
-              ∙ ap (λ (k : ℕ). take (2 ^ m) (drop k rows)) whole;
+                ap (λ (k : ℕ). rowOf k q) whole
+                ∙ ap (take (2 ^ m)) (behind ∙ ap (drop (2 ^ m)) is ∙ ap (λ (k : ℕ). drop k (withRow h rows x)) (sym whole) ∙ behind-withRow h rows x fits long-x)
+                ∙ ap (λ (k : ℕ). take (2 ^ m) (drop k rows)) whole;
             long = f;
             lower = lower-back m kinds word (rowOf (2 ^ m) rows) (r .sized) more rows room s lower-is w e;
           }

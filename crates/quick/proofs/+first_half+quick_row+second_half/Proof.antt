@@ -1,17 +1,15 @@
-use mathlib.Core.Path.{_≡_, ap, sym, _∙_}
-use lib.IntN.{pos}
-use lib.ListN.{length, getD, take}
-use lib.Pow.{pow-pos}
-use borrow.Rule.Slice.PartMut.{same-len-mid}
-use Rattle.decoding.specs.Quick.{decide}
-use Rattle.rows.specs.Rows.{rowOf}
-use Rattle.quick.specs.Engine.{Sized, Ready, HalfReady}
-use Rattle.quick.specs.EngineLaws.{one-word, first-ready, second-ready, behind-kept, first-back, second-back, Foldable, FirstRead, one-value, lower-asked, first-asked, first-read, upper-row-asked, second-asked, second-read}
-use native.Mathlib.Omega.{arith}
-use lib.ListN.{length-set}
+-- The recursion meets its contracts. What the three functions ask of each other falls: a row of 2^m sums counts 2m + 1, a half of it 2m.
+use mathlib.Core.Path.{_≡_, ap, _∙_}
 use Prim.Native.Nat.{ℕ, _+_, _-_, _*_, _/_, _^_, _<_}
+use native.Mathlib.Omega.{arith}
+use lib.Pow.{pow-pos}
+use lib.ListN.{length, getD, length-set}
+use borrow.Rule.Slice.PartMut.{same-len-mid}
 use borrow.Fn.Kinds.{In}
 use borrow.Fn.PlainCycle.{Measures, is, falls, and}
+use Rattle.decoding.specs.Quick.{decide}
+use Rattle.rows.specs.Rows.{rowOf}
+use Rattle.quick.specs.EngineLaws.{one-word, first-ready, second-ready, behind-kept, first-back, second-back, Foldable, FirstRead, one-value, lower-asked, first-asked, first-read, upper-row-asked, second-asked, second-read}
 use Rattle.quick.proofs.first_half.Reads as first-half
 use Rattle.quick.proofs.first_half.Kinds as first-half-kinds
 use Rattle.quick.proofs.+first_half+quick_row+second_half.Lts-first_half as first-half-lts
