@@ -1,3 +1,5 @@
 pub mod Outcome
 pub mod OutcomeLaws
+pub mod OnlyOutcome
 pub mod WorkLaws
+pub mod RoundTrip
