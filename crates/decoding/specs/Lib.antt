@@ -5,6 +5,7 @@ pub mod Walk
 pub mod Allowance
 pub mod Answer
 pub mod BenchFigures
+pub mod Examples
 pub mod StepLaws
 pub mod PathLaws
 pub mod BestLaws
@@ -23,4 +24,3 @@ pub mod SearchLaws
 pub mod Demands
 pub mod DemandsMet
 pub mod QuickLaws
-pub mod Examples
