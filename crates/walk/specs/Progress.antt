@@ -1,7 +1,7 @@
 -- What the walk's struct and its two kept words stand for, and what its steps ask and give.
 use mathlib.Core.Path.{_≡_}
 use mathlib.Core.Bool.{Bool, true, false, cond}
-use mathlib.Core.List.{List}
+use mathlib.Core.List.{List, []}
 use Prim.Native.Nat.{ℕ, zero, suc, _+_, _-_, _^_, _≤_, _<_}
 use lib.IntN.{ℤ}
 use lib.ListN.{length, take, drop}
@@ -9,7 +9,7 @@ use lib.Dec.{ltb, leb}
 use Rattle.words.specs.Bits.{Bits}
 use Rattle.words.specs.Word.{transform}
 use Rattle.decoding.specs.Readings.{sizes}
-use Rattle.decoding.specs.Walk.{Full, Held, none, one, two, State, pathPenalty}
+use Rattle.decoding.specs.Walk.{Full, Held, none, one, two, State, start, finished, pathPenalty}
 use Rattle.decoding.specs.Allowance.{Limited, ended, out, walkWithin}
 use Rattle.memory.specs.Memory.{pathOf, Stands}
 use Rattle.walk.specs.declared.Progress.{Progress}
@@ -40,21 +40,38 @@ counted allowed w =
 abbrev pub drops : Progress → ℕ → Bool
 drops w p = cond (ltb (w .held) 2) false (leb (w .second) p)
 
--- what the walk asks: 2^m readings whose sizes add up to less than 2^31, and a row of kinds
-pub record Walkable (m : ℕ) (l : List ℤ) (kinds : List ℕ) : Type 0 where
+-- the bytes for both words hold bits
+pub record AreWords (m : ℕ) (best second : List ℕ) : Type 0 where
+  pub best-bits : Bits (take (2 ^ m) best)
+  pub second-bits : Bits (take (2 ^ m) second)
+
+-- what the walk asks: 2^m readings whose sizes add up to less than 2^31, a row of kinds, and bits in the bytes for both words
+pub record Walkable (m : ℕ) (l : List ℤ) (kinds best second : List ℕ) : Type 0 where
   pub most : m ≤ 8
   pub long : length l ≡ 2 ^ m
   pub long-kinds : length kinds ≡ 2 ^ m
   pub small : sizes l < 2 ^ 31
+  pub words : AreWords m best second
+
+-- what the walk gives: its end, as the written walk has it
+pub record Walked (allowed m : ℕ) (l : List ℤ) (kinds : List ℕ) (w : Progress) (best second : List ℕ) : Type 0 where
+  pub walks : limitedOf m w best second ≡ walkWithin allowed m l kinds [] 0 start
+  pub words : AreWords m best second
+
+-- what a full path gives: it is held
+pub record Finished (m p : ℕ) (w : Progress) (half best second : List ℕ) (w′ : Progress) (best′ second′ : List ℕ) : Type 0 where
+  pub holds : limitedOf m w′ best′ second′ ≡ ended (finished (transform m (take (2 ^ m) half)) p (stateOf m w best second))
+  pub words : Bits (take (2 ^ m) half) → AreWords m best second → AreWords m best′ second′
 
 -- what each step asks: the path u of i choices has penalty p and is not dropped; where fresh the rows stand for the index before
-pub record Ready (m : ℕ) (l : List ℤ) (kinds : List ℕ) (rows : List ℤ) (half : List ℕ) (fresh : Bool) (i p : ℕ) (w : Progress) : Type 0 where
+pub record Ready (m : ℕ) (l : List ℤ) (kinds : List ℕ) (rows : List ℤ) (half best second : List ℕ) (fresh : Bool) (i p : ℕ) (w : Progress) : Type 0 where
   pub most : m ≤ 8
   pub long : length l ≡ 2 ^ m
   pub long-kinds : length kinds ≡ 2 ^ m
   pub small : sizes l < 2 ^ 31
   pub inside : i ≤ 2 ^ m
   pub bits : Bits half
+  pub words : AreWords m best second
   pub long-path : length (pathOf m i (take (2 ^ m) half)) ≡ i
   pub bits-path : Bits (pathOf m i (take (2 ^ m) half))
   pub penalty : p ≡ pathPenalty m l (pathOf m i (take (2 ^ m) half))
@@ -67,3 +84,4 @@ pub record Stepped (allowed m : ℕ) (l : List ℤ) (kinds : List ℕ) (i p : �
   pub walks : limitedOf m w′ best′ second′ ≡ walkWithin allowed m l (drop i kinds) (pathOf m i (take (2 ^ m) half)) p (stateOf m w best second)
   pub path-stays : pathOf m i (take (2 ^ m) half′) ≡ pathOf m i (take (2 ^ m) half)
   pub bits-stay : Bits half′
+  pub words : AreWords m best′ second′

@@ -25,7 +25,7 @@ use Rattle.memory.specs.Memory.{pathOf, Stands}
 use Rattle.memory.specs.MemoryLaws.{path-none}
 use Rattle.memory.specs.Ready.{ValueReady}
 use Rattle.walk.specs.declared.Progress.{Progress}
-use Rattle.walk.specs.Progress.{fullOf, heldBy, stateOf, limitedOf, drops, counted, Walkable, Ready, Stepped}
+use Rattle.walk.specs.Progress.{fullOf, heldBy, stateOf, limitedOf, drops, counted, AreWords, Walkable, Ready, Stepped}
 
 -- ---- one extension
 pub true-false : {A : Type 0} → true ≡ false → A
@@ -118,8 +118,8 @@ module _ (allowed m : ℕ) (l : List ℤ) (kinds : List ℕ) (i : ℕ) (u : List
       rw (add-one i, drop-cons kinds i 0 h, z)
 
 -- ---- what a step asks, and the next one
-module _ {m : ℕ} {l : List ℤ} {kinds : List ℕ} {rows : List ℤ} {half : List ℕ} {fresh : Bool} {i p : ℕ} {w : Progress}
-    (r : Ready m l kinds rows half fresh i p w) where
+module _ {m : ℕ} {l : List ℤ} {kinds : List ℕ} {rows : List ℤ} {half best second : List ℕ} {fresh : Bool} {i p : ℕ} {w : Progress}
+    (r : Ready m l kinds rows half best second fresh i p w) where
   abbrev pub here : List ℕ
   here = pathOf m i (take (2 ^ m) half)
 
@@ -139,10 +139,10 @@ module _ {m : ℕ} {l : List ℤ} {kinds : List ℕ} {rows : List ℤ} {half : L
         (lt-of-le-of-lt (path-sizes m l (r .long) (here ++ b ∷ []) (rw (length-more here b) (omega (arith, r .long-path))) (bits-more here b (r .bits-path) bit)) (r .small))
 
     -- with the bit put
-    pub next-ready : {rows′ : List ℤ} {half′ : List ℕ} {fresh′ : Bool} {q : ℕ} {y : Progress} → pathOf m (i + 1) (take (2 ^ m) half′) ≡ here ++ b ∷ [] → Bits half′
+    pub next-ready : {rows′ : List ℤ} {half′ best′ second′ : List ℕ} {fresh′ : Bool} {q : ℕ} {y : Progress} → AreWords m best′ second′ → pathOf m (i + 1) (take (2 ^ m) half′) ≡ here ++ b ∷ [] → Bits half′
         → q ≡ p + loss (value m l here) b → y .out ≡ false → drops y q ≡ false → (fresh′ ≡ true → Stands m l here (take (2 ^ m) rows′))
-        → Ready m l kinds rows′ half′ fresh′ (i + 1) q y
-    next-ready {rows′} {half′} {fresh′} {q} {y} path bits adds going kept stands =
+        → Ready m l kinds rows′ half′ best′ second′ fresh′ (i + 1) q y
+    next-ready words path bits adds going kept stands =
         record {
           most = r .most;
           long = r .long;
@@ -150,6 +150,7 @@ module _ {m : ℕ} {l : List ℤ} {kinds : List ℕ} {rows : List ℤ} {half : L
           small = r .small;
           inside = omega arith;
           bits = bits;
+          words = words;
           long-path = ap length path ∙ length-more here b ∙ ap (λ (n : ℕ). n + 1) (r .long-path);
           bits-path = subst Bits (sym path) (bits-more here b (r .bits-path) bit);
           penalty = adds ∙ rw (path, path-more m l here b, ← (r .penalty));
@@ -163,17 +164,18 @@ pub record Extended (allowed m : ℕ) (l : List ℤ) (kinds : List ℕ) (i p b :
   pub gives : limitedOf m z best′ second′ ≡ extendWithin allowed (rest allowed m l kinds i) (value m l u) u p b (stateOf m w best second)
   pub path-stays : pathOf m i (take (2 ^ m) half′) ≡ u
   pub bits-stay : Bits half′
+  pub words : AreWords m best′ second′
 
 module _ {allowed m : ℕ} {l : List ℤ} {kinds : List ℕ} {i p b : ℕ} {u : List ℕ} {w y : Progress} (half best second : List ℕ)
-    (going : w .out ≡ false) (counts : y ≡ counted allowed w) (path : pathOf m i (take (2 ^ m) half) ≡ u) (bits : Bits half) where
+    (going : w .out ≡ false) (counts : y ≡ counted allowed w) (path : pathOf m i (take (2 ^ m) half) ≡ u) (bits : Bits half) (words : AreWords m best second) where
   pub extension-out : y .out ≡ true → Extended allowed m l kinds i p b u w best second y half best second
   extension-out o =
-      record { gives = extended-out allowed m (rest allowed m l kinds i) (value m l u) u p b (p + loss (value m l u) b) w y best second going counts refl o; path-stays = path; bits-stay = bits }
+      record { gives = extended-out allowed m (rest allowed m l kinds i) (value m l u) u p b (p + loss (value m l u) b) w y best second going counts refl o; path-stays = path; bits-stay = bits; words = words }
 
   module _ {q : ℕ} (adds : q ≡ p + loss (value m l u) b) (o : y .out ≡ false) where
     pub extension-dropped : drops y q ≡ true → Extended allowed m l kinds i p b u w best second y half best second
     extension-dropped d =
-        record { gives = extended-dropped allowed m (rest allowed m l kinds i) (value m l u) u p b q w y best second going counts adds o d; path-stays = path; bits-stay = bits }
+        record { gives = extended-dropped allowed m (rest allowed m l kinds i) (value m l u) u p b q w y best second going counts adds o d; path-stays = path; bits-stay = bits; words = words }
 
     -- the bit is put, the step from there on taken, and the bit taken back
     pub extension-on : {z : Progress} {half₁ half₂ half₃ best′ second′ : List ℕ} → drops y q ≡ false → length u ≡ i
@@ -187,20 +189,21 @@ module _ {allowed m : ℕ} {l : List ℤ} {kinds : List ℕ} {i p b : ℕ} {u : 
           gives = step .walks ∙ rw e (sym (extended-on allowed m (rest allowed m l kinds i) (value m l u) u p b q w y best second going counts adds o d));
           path-stays = back .0 ∙ ap (take i) (step .path-stays ∙ e) ∙ take-at u (b ∷ []) i long;
           bits-stay = back .1;
+          words = step .words;
         }
 
 -- ---- a step of one extension, and of two
-module _ {m : ℕ} {l : List ℤ} {kinds : List ℕ} {rows : List ℤ} {half : List ℕ} {fresh : Bool} {i p : ℕ} {w : Progress}
-    (r : Ready m l kinds rows half fresh i p w) (inside : i < 2 ^ m) where
+module _ {m : ℕ} {l : List ℤ} {kinds : List ℕ} {rows : List ℤ} {half best second : List ℕ} {fresh : Bool} {i p : ℕ} {w : Progress}
+    (r : Ready m l kinds rows half best second fresh i p w) (inside : i < 2 ^ m) where
   within : i < length kinds
   within = omega (arith, r .long-kinds)
 
-  pub one-extension : {allowed : ℕ} {best second : List ℕ} {z : Progress} {half′ best′ second′ : List ℕ} → getD kinds i 0 ≡ 0
+  pub one-extension : {allowed : ℕ} {z : Progress} {half′ best′ second′ : List ℕ} → getD kinds i 0 ≡ 0
       → Extended allowed m l kinds i p 0 (here r) w best second z half′ best′ second′ → Stepped allowed m l kinds i p w half best second z half′ best′ second′
-  one-extension {allowed} {best} {second} e x =
-      record { walks = x .gives ∙ sym (walk-frozen allowed m l kinds i (here r) p (stateOf m w best second) within e); path-stays = x .path-stays; bits-stay = x .bits-stay }
+  one-extension {allowed} e x =
+      record { walks = x .gives ∙ sym (walk-frozen allowed m l kinds i (here r) p (stateOf m w best second) within e); path-stays = x .path-stays; bits-stay = x .bits-stay; words = x .words }
 
-  module _ {allowed : ℕ} {best second : List ℕ} {z : Progress} {half′ best′ second′ : List ℕ} (e : getD kinds i 0 ≡ 0 → ⊥)
+  module _ {allowed : ℕ} {z : Progress} {half′ best′ second′ : List ℕ} (e : getD kinds i 0 ≡ 0 → ⊥)
       (x : Extended allowed m l kinds i p (hard (value m l (here r))) (here r) w best second z half′ best′ second′) where
     pub first-only : z .out ≡ true → Stepped allowed m l kinds i p w half best second z half′ best′ second′
     first-only o =
@@ -208,6 +211,7 @@ module _ {m : ℕ} {l : List ℤ} {kinds : List ℕ} {rows : List ℤ} {half : L
           walks = over m z best′ second′ _ _ (x .gives) o ∙ sym (walk-info allowed m l kinds i (here r) p (stateOf m w best second) within e);
           path-stays = x .path-stays;
           bits-stay = x .bits-stay;
+          words = x .words;
         }
 
     pub two-extensions : z .out ≡ false → {z₂ : Progress} {half₂ best₂ second₂ : List ℕ}
@@ -218,15 +222,17 @@ module _ {m : ℕ} {l : List ℤ} {kinds : List ℕ} {rows : List ℤ} {half : L
           walks = y .gives ∙ sym (walk-info allowed m l kinds i (here r) p (stateOf m w best second) within e ∙ not-over m z best′ second′ _ _ (x .gives) o);
           path-stays = y .path-stays;
           bits-stay = y .bits-stay;
+          words = y .words;
         }
 
 -- ---- where the walk starts
 abbrev pub none : Progress
 none = record { held = 0; best = 0; second = 0; visits = 0; out = false }
 
-pub start-ready : {m : ℕ} {l : List ℤ} {kinds : List ℕ} → Walkable m l kinds → (rows : List ℤ) (half : List ℕ) → Bits half → Ready m l kinds rows half false 0 0 none
+pub start-ready : {m : ℕ} {l : List ℤ} {kinds best second : List ℕ} → Walkable m l kinds best second → (rows : List ℤ) (half : List ℕ) → Bits half
+    → Ready m l kinds rows half best second false 0 0 none
 unfolding addedBy
-start-ready {m} {l} {kinds} x rows half bits =
+start-ready {m} x rows half bits =
     let e = path-none m (take (2 ^ m) half) in
     record {
       most = x .most;
@@ -235,6 +241,7 @@ start-ready {m} {l} {kinds} x rows half bits =
       small = x .small;
       inside = zero-le;
       bits = bits;
+      words = x .words;
       long-path = ap length e;
       bits-path = subst Bits (sym e) (λ i. omega arith);
       penalty = rw e;

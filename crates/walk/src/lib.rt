@@ -1,17 +1,12 @@
 // The walk: the frozen step and the information step call each other; the number of indices still to choose falls.
 ghost use mathlib.Core.Path.{_≡_};
-ghost use mathlib.Core.Bool.{Bool, true, false};
-ghost use mathlib.Core.List.{List, [], _∷_, _++_};
-ghost use Prim.Native.Nat.{ℕ, _+_, _-_, _*_, _^_, _≤_, _<_};
-ghost use lib.ListN.{length, getD, take, drop};
+ghost use mathlib.Core.Bool.{false};
+ghost use Prim.Native.Nat.{ℕ, _^_, _≤_, _<_};
+ghost use lib.ListN.{length, getD, take};
 ghost use lib.IntN.{natAbs};
-ghost use Rattle.words.specs.Bits.{Bits};
 ghost use Rattle.decoding.specs.Readings.{loss};
 ghost use Rattle.decoding.specs.Quick.{hard};
-ghost use Rattle.words.specs.Word.{transform};
-ghost use Rattle.decoding.specs.Walk.{start, finished};
-ghost use Rattle.decoding.specs.Allowance.{walkWithin, ended};
-ghost use Rattle.walk.specs.Progress.{Walkable, Ready, Stepped, stateOf, limitedOf, counted, drops};
+ghost use Rattle.walk.specs.Progress.{counted, drops, Finished, Ready, Stepped, Walkable, Walked};
 
 // What the walk holds: penalties of the full paths, visits. The full paths stand beside it, as words.
 pub struct Progress {
@@ -96,7 +91,9 @@ fn finish(
     w: Progress,
 ) -> Progress
     requires { ⌜ (n ≤ 256) × (w .out ≡ false) ⌝ }
-    ensures { λ r. ⌜ ((m : ℕ) → n ≡ 2 ^ m → limitedOf m r (now (best .exit)) (now (second .exit)) ≡ ended (finished (transform m (take (2 ^ m) (now (half .entry)))) p (stateOf m w (now (best .entry)) (now (second .entry))))) ⌝ }
+    ensures { λ r. ⌜ ((m : ℕ) → n ≡ 2 ^ m → Finished m p w
+        (now (half .entry)) (now (best .entry)) (now (second .entry))
+        r (now (best .exit)) (now (second .exit))) ⌝ }
 {
     if w.held == 0 {
         copy(half, best, n);
@@ -139,8 +136,10 @@ fn frozen_step(
     p: u32,
     w: Progress,
 ) -> Progress
-    requires { ⌜ Ready m (now readings) (now kinds) (now rows) (now half) fresh i p w ⌝ }
-    ensures { λ r. ⌜ Stepped allowed m (now (readings .entry)) (now (kinds .entry)) i p w (now (half .entry)) (now (best .entry)) (now (second .entry)) r (now (half .exit)) (now (best .exit)) (now (second .exit)) ⌝ }
+    requires { ⌜ Ready m (now readings) (now kinds) (now rows) (now half) (now best) (now second) fresh i p w ⌝ }
+    ensures { λ r. ⌜ Stepped allowed m (now (readings .entry)) (now (kinds .entry)) i p
+        w (now (half .entry)) (now (best .entry)) (now (second .entry))
+        r (now (half .exit)) (now (best .exit)) (now (second .exit)) ⌝ }
 {
     if i == readings.len() {
         return finish(half, best, second, i, p, w);
@@ -205,9 +204,11 @@ fn info_step(
     p: u32,
     w: Progress,
 ) -> Progress
-    requires { ⌜ Ready m (now readings) (now kinds) (now rows) (now half) fresh i p w ⌝ }
+    requires { ⌜ Ready m (now readings) (now kinds) (now rows) (now half) (now best) (now second) fresh i p w ⌝ }
     requires { ⌜ (i < 2 ^ m) × (getD (now kinds) i 0 ≡ 0 → ⊥) ⌝ }
-    ensures { λ r. ⌜ Stepped allowed m (now (readings .entry)) (now (kinds .entry)) i p w (now (half .entry)) (now (best .entry)) (now (second .entry)) r (now (half .exit)) (now (best .exit)) (now (second .exit)) ⌝ }
+    ensures { λ r. ⌜ Stepped allowed m (now (readings .entry)) (now (kinds .entry)) i p
+        w (now (half .entry)) (now (best .entry)) (now (second .entry))
+        r (now (half .exit)) (now (best .exit)) (now (second .exit)) ⌝ }
 {
     let y = visit(w, allowed);
     if y.out {
@@ -272,8 +273,9 @@ pub fn walk(
     best: &mut [u8; 256],
     second: &mut [u8; 256],
 ) -> Progress
-    requires { ⌜ Walkable m (now readings) (now kinds) ⌝ }
-    ensures { λ r. ⌜ limitedOf m r (now (best .exit)) (now (second .exit)) ≡ walkWithin allowed m (now (readings .entry)) (now (kinds .entry)) [] 0 start ⌝ }
+    requires { ⌜ Walkable m (now readings) (now kinds) (now best) (now second) ⌝ }
+    ensures { λ r. ⌜ Walked allowed m (now (readings .entry)) (now (kinds .entry)) r
+        (now (best .exit)) (now (second .exit)) ⌝ }
 {
     let mut rows = [0i32; 256];
     let mut half = [0u8; 256];

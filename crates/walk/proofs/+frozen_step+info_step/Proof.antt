@@ -9,6 +9,7 @@ use lib.ListN.{length, take, drop}
 use mir.Syntax.{w32}
 use mir.Val.{toZ, ofZ}
 use mir.Facts.{toZ-ofZ}
+use Rattle.words.specs.TransformLaws.{bits-take}
 use Rattle.decoding.specs.Readings.{loss}
 use Rattle.decoding.specs.Quick.{hard}
 use Rattle.decoding.specs.Walk.{State, finished, value}
@@ -85,9 +86,10 @@ frozen-step-returns t c =
     let e : s .args .i ≡ 2 ^ m = c .before .before .before .before .if1 .taken ∙ r .long in
     let end = walk-end (s .args .allowed) m (s .args .readings .now) (s .args .kinds .now) (s .args .i) (here r) (s .args .p) held (omega (arith, r .long-kinds)) in
     record {
-      walks = c .finish .ensures m e ∙ sym (end ∙ ap (λ (u : List ℕ). ended (finished u (s .args .p) held)) (path-whole m (s .args .i) (s .args .half .now) e));
+      walks = c .finish .ensures m e .holds ∙ sym (end ∙ ap (λ (u : List ℕ). ended (finished u (s .args .p) held)) (path-whole m (s .args .i) (s .args .half .now) e));
       path-stays = refl;
       bits-stay = r .bits;
+      words = c .finish .ensures m e .words (bits-take (2 ^ m) (s .args .half .now) (r .bits)) (r .words);
     }
 
 frozen-step-shared-slice-read-if2 : (t : ℕ) → frozen-step-lts.Need-shared-slice-read-if2 (frozen-step-calls t) (frozen-step-at t) frozen-step.Post
@@ -111,7 +113,7 @@ frozen-step-returns-3 t c =
     let s = c .before .before .before .before .before .before in
     let r = s .pre .1 in
     one-extension r (frozen-inside t (c .before .before .before .before)) (c .before .before .if2 .left)
-    (extension-out (s .args .half .now) (s .args .best .now) (s .args .second .now) (r .going) (c .before .visit .ensures) refl (r .bits) (c .if3 .taken))
+    (extension-out (s .args .half .now) (s .args .best .now) (s .args .second .now) (r .going) (c .before .visit .ensures) refl (r .bits) (r .words) (c .if3 .taken))
 
 frozen-step-value-requires : (t : ℕ) → frozen-step-lts.Need-value-requires (frozen-step-calls t) (frozen-step-at t) frozen-step.Post
 frozen-step-value-requires t c κs = value-ready (c .before .before .before .before .before .before .before .before .pre .1) (frozen-inside t (c .before .before .before .before .before .before))
@@ -130,7 +132,7 @@ frozen-step-returns-4 t c =
     let s = c .before .before .before .before .before .before .before .before .before .before .before .before in
     let r = s .pre .1 in
     one-extension r (frozen-inside t (c .before .before .before .before .before .before .before .before .before .before)) (c .before .before .before .before .before .before .before .before .if2 .left)
-    (extension-dropped (s .args .half .now) (s .args .best .now) (s .args .second .now) (r .going) (c .before .before .before .before .before .before .before .visit .ensures) refl (r .bits)
+    (extension-dropped (s .args .half .now) (s .args .best .now) (s .args .second .now) (r .going) (c .before .before .before .before .before .before .before .visit .ensures) refl (r .bits) (r .words)
     (frozen-adds t (c .before .before)) (c .before .before .before .before .before .before .if3 .left) (sym (c .before .dropped .ensures) ∙ c .if4 .taken))
 
 frozen-step-put-requires : (t : ℕ) → frozen-step-lts.Need-put-requires (frozen-step-calls t) (frozen-step-at t) frozen-step.Post
@@ -147,7 +149,7 @@ frozen-step-frozen-step-requires t c κs =
     let r = s .pre .1 in
     let put = c .before .before .before .before .put in (
       omega (arith, s .pre .0, r .long, frozen-inside t (c .before .before .before .before .before .before .before .before .before .before .before .before .before .before .before .before)),
-      next-ready r 0 (frozen-inside t (c .before .before .before .before .before .before .before .before .before .before .before .before .before .before .before .before)) (omega arith) (put .ensures .0) (put .ensures .1) (frozen-adds t (c .before .before .before .before .before .before .before .before)) (c .before .before .before .before .before .before .before .before .before .before .before .before .if3 .left) (sym (c .before .before .before .before .before .before .before .dropped .ensures) ∙ c .before .before .before .before .before .before .if4 .left) (λ f. c .before .before .before .before .before .before .before .before .before .value .ensures .1),
+      next-ready r 0 (frozen-inside t (c .before .before .before .before .before .before .before .before .before .before .before .before .before .before .before .before)) (omega arith) (r .words) (put .ensures .0) (put .ensures .1) (frozen-adds t (c .before .before .before .before .before .before .before .before)) (c .before .before .before .before .before .before .before .before .before .before .before .before .if3 .left) (sym (c .before .before .before .before .before .before .before .dropped .ensures) ∙ c .before .before .before .before .before .before .if4 .left) (λ f. c .before .before .before .before .before .before .before .before .before .value .ensures .1),
     )
 
 frozen-step-take-back-requires : (t : ℕ) → frozen-step-lts.Need-take-back-requires (frozen-step-calls t) (frozen-step-at t) frozen-step.Post
@@ -160,7 +162,7 @@ frozen-step-returns-5 t c =
     let s = c .before .before .before .before .before .before .before .before .before .before .before .before .before .before .before .before .before .before .before .before .before in
     let r = s .pre .1 in
     one-extension r (frozen-inside t (c .before .before .before .before .before .before .before .before .before .before .before .before .before .before .before .before .before .before .before)) (c .before .before .before .before .before .before .before .before .before .before .before .before .before .before .before .before .before .if2 .left)
-    (extension-on (s .args .half .now) (s .args .best .now) (s .args .second .now) (r .going) (c .before .before .before .before .before .before .before .before .before .before .before .before .before .before .before .before .visit .ensures) refl (r .bits)
+    (extension-on (s .args .half .now) (s .args .best .now) (s .args .second .now) (r .going) (c .before .before .before .before .before .before .before .before .before .before .before .before .before .before .before .before .visit .ensures) refl (r .bits) (r .words)
     (frozen-adds t (c .before .before .before .before .before .before .before .before .before .before .before)) (c .before .before .before .before .before .before .before .before .before .before .before .before .before .before .before .if3 .left) (sym (c .before .before .before .before .before .before .before .before .before .before .dropped .ensures) ∙ c .before .before .before .before .before .before .before .before .before .if4 .left) (r .long-path) (c .before .before .before .before .before .before .before .put .ensures .0) (c .before .before .frozen-step .ensures) (c .take-back .ensures))
 
 info-value : (t : ℕ) (c : info-step-lts.After-value (info-step-calls t) (info-step-at t) info-step.Post) → toZ w32 (ofZ w32 (c .value .result)) ≡ value (c .before .before .before .before .before .before .args .m) (c .before .before .before .before .before .before .args .readings .now) (here (c .before .before .before .before .before .before .pre .1 .0))
@@ -186,7 +188,7 @@ info-extended t c =
     let s = c .before .before .before .before .before .before .before .before .before .before .before .before .before .before .before .before .before in
     let r = s .pre .1 .0 in
     let first = info-first t (c .before .before .before .before .before .before .before .before .before .before) in
-    extension-on (s .args .half .now) (s .args .best .now) (s .args .second .now) (r .going) (c .before .before .before .before .before .before .before .before .before .before .before .before .before .before .before .visit .ensures) refl (r .bits)
+    extension-on (s .args .half .now) (s .args .best .now) (s .args .second .now) (r .going) (c .before .before .before .before .before .before .before .before .before .before .before .before .before .before .before .visit .ensures) refl (r .bits) (r .words)
     (info-same t (c .before .before .before .before .before .before .before .before .before .before)) (c .before .before .before .before .before .before .before .before .before .before .before .before .before .before .if1 .left) (still-kept (s .args .allowed) (s .args .p) (s .args .w) (c .before .before .before .before .before .before .before .before .before .before .before .before .before .before .before .visit .ensures) (r .kept)) (r .long-path) (c .before .before .before .before .before .before .before .put .ensures .0 ∙ ap (λ (b : ℕ). here r ++ b ∷ []) first) (c .before .before .frozen-step .ensures) (c .take-back .ensures)
 
 info-step-visit-requires : (t : ℕ) → info-step-lts.Need-visit-requires (info-step-calls t) (info-step-at t) info-step.Post
@@ -197,7 +199,7 @@ info-step-returns t c =
     let s = c .before .before .before in
     let r = s .pre .1 .0 in
     first-only r (s .pre .1 .1 .0) (s .pre .1 .1 .1)
-    (extension-out (s .args .half .now) (s .args .best .now) (s .args .second .now) (r .going) (c .before .visit .ensures) refl (r .bits) (c .if1 .taken)) (c .if1 .taken)
+    (extension-out (s .args .half .now) (s .args .best .now) (s .args .second .now) (r .going) (c .before .visit .ensures) refl (r .bits) (r .words) (c .if1 .taken)) (c .if1 .taken)
 
 info-step-value-requires : (t : ℕ) → info-step-lts.Need-value-requires (info-step-calls t) (info-step-at t) info-step.Post
 info-step-value-requires t c κs = value-ready (c .before .before .before .before .before .pre .1 .0) (c .before .before .before .before .before .pre .1 .1 .0)
@@ -229,7 +231,7 @@ info-step-frozen-step-requires t c κs =
     let r = s .pre .1 .0 in
     let put = c .before .before .before .before .put in (
       omega (arith, s .pre .0, r .long, s .pre .1 .1 .0),
-      next-ready r (c .before .before .before .before .before .before .before .first-bit .result) (s .pre .1 .1 .0) (info-bit t (c .before .before .before .before .before .before .before)) (put .ensures .0) (put .ensures .1) (rw (info-first t (c .before .before .before .before .before .before .before)) (info-same t (c .before .before .before .before .before .before .before))) (c .before .before .before .before .before .before .before .before .before .before .before .if1 .left) (still-kept (s .args .allowed) (s .args .p) (s .args .w) (c .before .before .before .before .before .before .before .before .before .before .before .before .visit .ensures) (r .kept)) (λ f. c .before .before .before .before .before .before .before .before .value .ensures .1),
+      next-ready r (c .before .before .before .before .before .before .before .first-bit .result) (s .pre .1 .1 .0) (info-bit t (c .before .before .before .before .before .before .before)) (r .words) (put .ensures .0) (put .ensures .1) (rw (info-first t (c .before .before .before .before .before .before .before)) (info-same t (c .before .before .before .before .before .before .before))) (c .before .before .before .before .before .before .before .before .before .before .before .if1 .left) (still-kept (s .args .allowed) (s .args .p) (s .args .w) (c .before .before .before .before .before .before .before .before .before .before .before .before .visit .ensures) (r .kept)) (λ f. c .before .before .before .before .before .before .before .before .value .ensures .1),
     )
 
 info-step-take-back-requires : (t : ℕ) → info-step-lts.Need-take-back-requires (info-step-calls t) (info-step-at t) info-step.Post
@@ -251,7 +253,7 @@ info-step-returns-3 t c =
     let x = info-extended t (c .before .before .before) in
     let done = c .before .before .before .before .before .frozen-step in
     two-extensions (s .pre .1 .0) (s .pre .1 .1 .0) (s .pre .1 .1 .1) x (c .before .before .if2 .left)
-    (extension-out (c .before .before .before .take-back .last .0) (done .last .1 .1 .1 .1 .0) (done .last .1 .1 .1 .1 .1 .0) (c .before .before .if2 .left) (c .before .visit2 .ensures) (x .path-stays) (x .bits-stay) (c .if3 .taken))
+    (extension-out (c .before .before .before .take-back .last .0) (done .last .1 .1 .1 .1 .0) (done .last .1 .1 .1 .1 .1 .0) (c .before .before .if2 .left) (c .before .visit2 .ensures) (x .path-stays) (x .bits-stay) (x .words) (c .if3 .taken))
 
 info-step-dropped-requires : (t : ℕ) → info-step-lts.Need-dropped-requires (info-step-calls t) (info-step-at t) info-step.Post
 info-step-dropped-requires t c κs = tt
@@ -262,7 +264,7 @@ info-step-returns-4 t c =
     let x = info-extended t (c .before .before .before .before .before) in
     let done = c .before .before .before .before .before .before .before .frozen-step in
     two-extensions (s .pre .1 .0) (s .pre .1 .1 .0) (s .pre .1 .1 .1) x (c .before .before .before .before .if2 .left)
-    (extension-dropped (c .before .before .before .before .before .take-back .last .0) (done .last .1 .1 .1 .1 .0) (done .last .1 .1 .1 .1 .1 .0) (c .before .before .before .before .if2 .left) (c .before .before .before .visit2 .ensures) (x .path-stays) (x .bits-stay)
+    (extension-dropped (c .before .before .before .before .before .take-back .last .0) (done .last .1 .1 .1 .1 .0) (done .last .1 .1 .1 .1 .1 .0) (c .before .before .before .before .if2 .left) (c .before .before .before .visit2 .ensures) (x .path-stays) (x .bits-stay) (x .words)
     (info-adds t (c .before .before .before .before .before .before .before .before .before .before .before .before .before .before)) (c .before .before .if3 .left) (sym (c .before .dropped .ensures) ∙ c .if4 .taken))
 
 info-step-put-requires-2 : (t : ℕ) → info-step-lts.Need-put-requires-2 (info-step-calls t) (info-step-at t) info-step.Post
@@ -280,7 +282,7 @@ info-step-frozen-step-requires-2 t c κs =
     let x = info-extended t (c .before .before .before .before .before .before .before .before .before .before .before) in
     let put = c .before .before .before .before .put2 in (
       omega (arith, s .pre .0, r .long, s .pre .1 .1 .0),
-      next-ready r (1 - c .before .before .before .before .before .before .before .before .before .before .before .before .before .before .before .before .before .before .before .before .before .first-bit .result) (s .pre .1 .1 .0) (omega arith) (rw (x .path-stays) at (put .ensures .0)) (put .ensures .1) (rw (info-first t (c .before .before .before .before .before .before .before .before .before .before .before .before .before .before .before .before .before .before .before .before .before)) (info-adds t (c .before .before .before .before .before .before .before .before .before .before .before .before .before .before .before .before .before .before .before .before))) (c .before .before .before .before .before .before .before .before .if3 .left) (sym (c .before .before .before .before .before .before .before .dropped .ensures) ∙ c .before .before .before .before .before .before .if4 .left) (λ f. true-false (sym f)),
+      next-ready r (1 - c .before .before .before .before .before .before .before .before .before .before .before .before .before .before .before .before .before .before .before .before .before .first-bit .result) (s .pre .1 .1 .0) (omega arith) (x .words) (rw (x .path-stays) at (put .ensures .0)) (put .ensures .1) (rw (info-first t (c .before .before .before .before .before .before .before .before .before .before .before .before .before .before .before .before .before .before .before .before .before)) (info-adds t (c .before .before .before .before .before .before .before .before .before .before .before .before .before .before .before .before .before .before .before .before))) (c .before .before .before .before .before .before .before .before .if3 .left) (sym (c .before .before .before .before .before .before .before .dropped .ensures) ∙ c .before .before .before .before .before .before .if4 .left) (λ f. true-false (sym f)),
     )
 
 info-step-take-back-requires-2 : (t : ℕ) → info-step-lts.Need-take-back-requires-2 (info-step-calls t) (info-step-at t) info-step.Post
@@ -295,7 +297,7 @@ info-step-returns-5 t c =
     let x = info-extended t (c .before .before .before .before .before .before .before .before .before .before .before .before .before .before) in
     let done = c .before .before .before .before .before .before .before .before .before .before .before .before .before .before .before .before .frozen-step in
     two-extensions r (s .pre .1 .1 .0) (s .pre .1 .1 .1) x (c .before .before .before .before .before .before .before .before .before .before .before .before .before .if2 .left)
-    (extension-on (c .before .before .before .before .before .before .before .before .before .before .before .before .before .before .take-back .last .0) (done .last .1 .1 .1 .1 .0) (done .last .1 .1 .1 .1 .1 .0) (c .before .before .before .before .before .before .before .before .before .before .before .before .before .if2 .left) (c .before .before .before .before .before .before .before .before .before .before .before .before .visit2 .ensures) (x .path-stays) (x .bits-stay)
+    (extension-on (c .before .before .before .before .before .before .before .before .before .before .before .before .before .before .take-back .last .0) (done .last .1 .1 .1 .1 .0) (done .last .1 .1 .1 .1 .1 .0) (c .before .before .before .before .before .before .before .before .before .before .before .before .before .if2 .left) (c .before .before .before .before .before .before .before .before .before .before .before .before .visit2 .ensures) (x .path-stays) (x .bits-stay) (x .words)
     (info-adds t (c .before .before .before .before .before .before .before .before .before .before .before .before .before .before .before .before .before .before .before .before .before .before .before)) (c .before .before .before .before .before .before .before .before .before .before .before .if3 .left) (sym (c .before .before .before .before .before .before .before .before .before .before .dropped .ensures) ∙ c .before .before .before .before .before .before .before .before .before .if4 .left) (r .long-path)
     (c .before .before .before .before .before .before .before .put2 .ensures .0 ∙ ap (λ (b : ℕ). pathOf (s .args .m) (s .args .i) (take (2 ^ s .args .m) (c .before .before .before .before .before .before .before .before .before .before .before .before .before .before .take-back .last .0)) ++ (1 - b) ∷ []) (info-first t (c .before .before .before .before .before .before .before .before .before .before .before .before .before .before .before .before .before .before .before .before .before .before .before .before))) (c .before .before .frozen-step2 .ensures) (c .take-back2 .ensures))
 

@@ -3,7 +3,7 @@ use mathlib.Core.Path.{_≡_, sym, ap, _∙_}
 use mathlib.Core.List.{List, []}
 use Prim.Native.Nat.{ℕ, zero, suc, _^_}
 use native.Mathlib.Omega.{arith}
-use lib.ListN.{replicate}
+use lib.ListN.{take, replicate}
 use Rattle.words.specs.Bits.{Bits}
 use Rattle.decoding.specs.Walk.{start}
 use Rattle.decoding.specs.Allowance.{walkWithin}
@@ -24,7 +24,11 @@ frozen-step-requires c κs = start-ready (c .before .before .before .before .bef
 returns : tie.Need-returns
 returns c =
     let s = c .before .before .before .before .before .before in
-    c .frozen-step .ensures .walks ∙ ap (λ (u : List ℕ). walkWithin (s .args .allowed) (s .args .m) (s .args .readings .now) (s .args .kinds .now) u 0 start) (path-none (s .args .m) _)
+    let none = path-none (s .args .m) (take (2 ^ s .args .m) (replicate 256 0)) in
+    record {
+      walks = c .frozen-step .ensures .walks ∙ ap (λ (u : List ℕ). walkWithin (s .args .allowed) (s .args .m) (s .args .readings .now) (s .args .kinds .now) u 0 start) none;
+      words = c .frozen-step .ensures .words;
+    }
 
 pub walk-spec : {M : Type 1} → statement M
 walk-spec = tie.close (tie.spec frozen-step-requires returns)
