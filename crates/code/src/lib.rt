@@ -8,6 +8,7 @@ ghost use lib.Dec.{ltb};
 ghost use Rattle.words.specs.Kinds.{kind, kinds, dimension};
 ghost use Rattle.code.specs.Sound.{Sound, largestReading, made, numberOf, placeOf, penaltyOf, visitsOf};
 ghost use Rattle.code.specs.Entries.{firstBadBit, firstBadReading};
+ghost use Rattle.code.specs.Admitted.{admitted};
 
 // The parameters of RM(r,m).
 pub struct Code {
@@ -34,6 +35,12 @@ pub enum Refusal {
     Tied { penalty: u32, visits: u32 },
     Torn,
     Pad,
+}
+
+// What the tests on readings leave.
+pub enum Admitted {
+    Allowed(Code),
+    Refused(Refusal),
 }
 
 // The number k of information bits: row m, column r.
@@ -147,6 +154,30 @@ pub fn first_bad_reading(readings: &[i16]) -> usize
         i += 1;
     }
     i
+}
+
+// The tests 1 to 4 in their order, for readings and lent outputs of these lengths.
+pub fn admit(r: u32, m: u32, readings: &[i16], bits: usize, word: usize) -> Admitted
+    ensures { λ answer. ⌜ answer ≡ admitted r m (now (readings .entry)) bits word ⌝ }
+{
+    let Made::Good(code) = Code::new(r, m) else {
+        return Admitted::Refused(Refusal::Parameters);
+    };
+    let n = code.length();
+    if readings.len() != n {
+        return Admitted::Refused(Refusal::InputLength);
+    }
+    if bits != code.dimension() {
+        return Admitted::Refused(Refusal::OutputLength);
+    }
+    if word != n {
+        return Admitted::Refused(Refusal::OutputLength);
+    }
+    let place = first_bad_reading(readings);
+    if place < n {
+        return Admitted::Refused(Refusal::Entry(place));
+    }
+    Admitted::Allowed(code)
 }
 
 impl Refusal {

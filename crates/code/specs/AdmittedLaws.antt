@@ -1,0 +1,106 @@
+-- Laws of the tests: what each refusal follows from, and what holds of an input that is allowed.
+use mathlib.Core.Path.{_≡_, refl}
+use mathlib.Core.List.{List}
+use mathlib.Core.Logic.{⊎-elim}
+use Prim.Native.Nat.{ℕ, _^_, _≤_, _<_}
+use native.Mathlib.Omega.{arith}
+use native.Mathlib.Decide.{ℕ-discrete}
+use lib.IntN.{ℤ, pos, natAbs}
+use lib.ListN.{length, getD}
+use borrow.Author.Tests.{eq-eqb, ne-eqb, lt-ltb, le-ltb}
+use Rattle.numbers.specs.Choice.{lt-or-le}
+use Rattle.words.specs.Kinds.{dimension}
+use Rattle.code.specs.declared.Code.{Code}
+use Rattle.code.specs.declared.Made.{Made}
+use Rattle.code.specs.declared.Made.the-variants.{Good, Bad}
+use Rattle.code.specs.declared.Refusal.{Refusal}
+use Rattle.code.specs.declared.Refusal.the-variants.{Parameters, InputLength, OutputLength, Entry}
+use Rattle.code.specs.declared.Admitted.the-variants.{Allowed, Refused}
+use Rattle.code.specs.Sound.{made, largestReading, numberOf}
+use Rattle.code.specs.SoundLaws.{MadeOf, made-of}
+use Rattle.code.specs.Entries.{firstBadReading}
+use Rattle.code.specs.EntriesLaws.{good-readings}
+use Rattle.code.specs.Admitted.{admitted}
+
+module _ (r m : ℕ) (l : List ℤ) (k n : ℕ) where
+  pub refused-parameters : made r m ≡ Bad → Refused Parameters ≡ admitted r m l k n
+  unfolding admitted
+  refused-parameters e = rw e
+
+  module _ (c : Code) (good : made r m ≡ Good c) where
+    pub refused-input : (length l ≡ 2 ^ c .m → ⊥) → Refused InputLength ≡ admitted r m l k n
+    unfolding admitted
+    refused-input f = rw (good, ne-eqb (length l) (2 ^ c .m) f)
+
+    module _ (long : length l ≡ 2 ^ c .m) where
+      pub refused-bits : (k ≡ dimension (c .r) (c .m) → ⊥) → Refused OutputLength ≡ admitted r m l k n
+      unfolding admitted
+      refused-bits f = rw (good, eq-eqb (length l) (2 ^ c .m) long, ne-eqb k (dimension (c .r) (c .m)) f)
+
+      module _ (bits : k ≡ dimension (c .r) (c .m)) where
+        pub refused-word : (n ≡ 2 ^ c .m → ⊥) → Refused OutputLength ≡ admitted r m l k n
+        unfolding admitted
+        refused-word f = rw (good, eq-eqb (length l) (2 ^ c .m) long, eq-eqb k (dimension (c .r) (c .m)) bits, ne-eqb n (2 ^ c .m) f)
+
+        module _ (word : n ≡ 2 ^ c .m) where
+          pub refused-entry : firstBadReading largestReading l < length l → Refused (Entry (firstBadReading largestReading l)) ≡ admitted r m l k n
+          unfolding admitted
+          refused-entry h =
+              rw (good, eq-eqb (length l) (2 ^ c .m) long, eq-eqb k (dimension (c .r) (c .m)) bits, eq-eqb n (2 ^ c .m) word, lt-ltb (firstBadReading largestReading l) (length l) h)
+
+          pub allowed : length l ≤ firstBadReading largestReading l → Allowed c ≡ admitted r m l k n
+          unfolding admitted
+          allowed h =
+              rw (good, eq-eqb (length l) (2 ^ c .m) long, eq-eqb k (dimension (c .r) (c .m)) bits, eq-eqb n (2 ^ c .m) word, le-ltb (firstBadReading largestReading l) (length l) h)
+
+-- ---- and back
+-- none of the tests applies
+pub record Allows (r m : ℕ) (l : List ℤ) (k n : ℕ) (c : Code) : Type 0 where
+  pub code : MadeOf r m c
+  pub long : length l ≡ 2 ^ c .m
+  pub bits : k ≡ dimension (c .r) (c .m)
+  pub word : n ≡ 2 ^ c .m
+  pub within : (i : ℕ) → natAbs (getD l i (pos 0)) ≤ largestReading
+
+pub data Decided (r m : ℕ) (l : List ℤ) (k n : ℕ) : Type 0 where
+  allows : (c : Code) → Allowed c ≡ admitted r m l k n → Allows r m l k n c → Decided r m l k n
+  refuses : (why : Refusal) → Refused why ≡ admitted r m l k n → numberOf why < 5 → Decided r m l k n
+
+module _ (r m : ℕ) (l : List ℤ) (k n : ℕ) where
+  decided-good : (c : Code) → made r m ≡ Good c → Decided r m l k n
+  decided-good c good =
+      elim (ℕ-discrete (length l) (2 ^ c .m)) [
+        | yes e ↦ elim (ℕ-discrete k (dimension (c .r) (c .m))) [
+          | yes b ↦ elim (ℕ-discrete n (2 ^ c .m)) [
+            | yes w ↦ ⊎-elim
+                (λ h. refuses (Entry (firstBadReading largestReading l)) (refused-entry r m l k n c good e b w h) (omega arith))
+                (λ h. allows c (allowed r m l k n c good e b w h)
+                (record { code = made-of r m c good; long = e; bits = b; word = w; within = good-readings largestReading l h }))
+                (lt-or-le (firstBadReading largestReading l) (length l))
+            | no w ↦ refuses OutputLength (refused-word r m l k n c good e b w) (omega arith)
+          ]
+          | no b ↦ refuses OutputLength (refused-bits r m l k n c good e b) (omega arith)
+        ]
+        | no e ↦ refuses InputLength (refused-input r m l k n c good e) (omega arith)
+      ]
+
+  decided-by : (x : Made) → made r m ≡ x → Decided r m l k n
+  decided-by (Good c) e = decided-good c e
+  decided-by Bad e = refuses Parameters (refused-parameters r m l k n e) (omega arith)
+
+  pub decided : Decided r m l k n
+  decided = decided-by (made r m) refl
+
+  pub allows-all : (c : Code) → Allowed c ≡ admitted r m l k n → Allows r m l k n c
+  allows-all c e =
+      elim decided [
+        | allows d f a ↦ let same : c ≡ d = cc in rw same a
+        | refuses why f h ↦ let z : _≡_ {A = ℕ} 0 1 = cc in absurd (omega arith)
+      ]
+
+  pub refuses-first : (why : Refusal) → Refused why ≡ admitted r m l k n → numberOf why < 5
+  refuses-first why e =
+      elim decided [
+        | allows d f a ↦ let z : _≡_ {A = ℕ} 0 1 = cc in absurd (omega arith)
+        | refuses w f h ↦ let same : why ≡ w = cc in rw same h
+      ]
