@@ -1,2 +1,4 @@
 // The program: records in, lines out.
+mod line;
+
 fn main() {}
