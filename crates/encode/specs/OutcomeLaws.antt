@@ -1,9 +1,9 @@
 -- The outcome at each place where a call returns, and what an outcome says of the tests 1 to 4.
-use mathlib.Core.Path.{_≡_, refl}
+use mathlib.Core.Path.{_≡_, refl, ap, sym, _∙_}
 use mathlib.Core.List.{List}
 use mathlib.Core.Logic.{_⊎_, inl, inr, ⊎-elim}
 use mathlib.Core.Bool.{true, false, cond}
-use Prim.Native.Nat.{ℕ, _≤_, _<_}
+use Prim.Native.Nat.{ℕ, _^_, _≤_, _<_}
 use native.Mathlib.Omega.{arith}
 use native.Mathlib.Decide.{ℕ-discrete}
 use lib.ListN.{length}
@@ -12,40 +12,51 @@ use borrow.Author.Tests.{eq-eqb, ne-eqb, lt-ltb, le-ltb}
 use Rattle.numbers.specs.Choice.{lt-or-le}
 use Rattle.words.specs.Bits.{Bits}
 use Rattle.words.specs.Word.{transform}
-use Rattle.words.specs.Kinds.{pick}
+use Rattle.words.specs.Kinds.{dimension, pick}
 use Rattle.words.specs.Inverse.{taken, frozenOne, firstFrozenOne, takenBack}
 use Rattle.code.specs.declared.Code.{Code}
 use Rattle.code.specs.declared.Made.{Made}
 use Rattle.code.specs.declared.Made.the-variants.{Good, Bad}
 use Rattle.code.specs.Sound.{made}
+use Rattle.code.specs.SoundLaws.{made-of}
 use Rattle.code.specs.Entries.{firstBadBit}
 use Rattle.code.specs.EntriesLaws.{first-none, good-bits}
 use Rattle.encode.specs.Outcome.{Outcome, done, refused, tested, takingRow, takingBack}
 
--- ---- the tests, one after the other
+-- ---- the tests, one after the other, with the numbers k and n that the code compares
 module _ (r m : ℕ) (input : List ℕ) (long : ℕ) (output : List ℕ) (room : ℕ) (rest : Outcome) where
-  pub tested-parameters : made r m ≡ Bad → tested r m input long output room rest ≡ refused 1 0 output
+  pub tested-parameters : made r m ≡ Bad → refused 1 0 output ≡ tested r m input long output room rest
   unfolding tested
   tested-parameters e = rw e
 
-  module _ (c : Code) (good : made r m ≡ Good c) where
-    pub tested-input : (length input ≡ long → ⊥) → tested r m input long output room rest ≡ refused 2 0 output
+  module _ {c : Code} (good : made r m ≡ Good c) {k : ℕ} (e : k ≡ long) where
+    pub tested-input : (length input ≡ k → ⊥) → refused 2 0 output ≡ tested r m input long output room rest
     unfolding tested
-    tested-input n = rw (good, ne-eqb (length input) long n)
+    tested-input wrong = rw (good, ne-eqb (length input) long (λ h. wrong (h ∙ sym e)))
 
-    module _ (e : length input ≡ long) where
-      pub tested-output : (length output ≡ room → ⊥) → tested r m input long output room rest ≡ refused 3 0 output
+    module _ (a : length input ≡ k) {n : ℕ} (f : n ≡ room) where
+      pub tested-output : (length output ≡ n → ⊥) → refused 3 0 output ≡ tested r m input long output room rest
       unfolding tested
-      tested-output n = rw (good, eq-eqb (length input) long e, ne-eqb (length output) room n)
+      tested-output wrong = rw (good, eq-eqb (length input) long (a ∙ e), ne-eqb (length output) room (λ h. wrong (h ∙ sym f)))
 
-      module _ (f : length output ≡ room) where
-        pub tested-entry : firstBadBit input < length input → tested r m input long output room rest ≡ refused 4 (firstBadBit input) output
+      module _ (b : length output ≡ n) {i : ℕ} (place : i ≡ firstBadBit input) where
+        pub tested-entry : i < length input → refused 4 i output ≡ tested r m input long output room rest
         unfolding tested
-        tested-entry h = rw (good, eq-eqb (length input) long e, eq-eqb (length output) room f, lt-ltb (firstBadBit input) (length input) h)
+        tested-entry h =
+            rw (good, eq-eqb (length input) long (a ∙ e), eq-eqb (length output) room (b ∙ f), ← place, lt-ltb i (length input) h)
 
-        pub tested-all : length input ≤ firstBadBit input → tested r m input long output room rest ≡ rest
+        pub tested-all : length input ≤ i → rest ≡ tested r m input long output room rest
         unfolding tested
-        tested-all h = rw (good, eq-eqb (length input) long e, eq-eqb (length output) room f, le-ltb (firstBadBit input) (length input) h)
+        tested-all h =
+            rw (good, eq-eqb (length input) long (a ∙ e), eq-eqb (length output) room (b ∙ f), ← place, le-ltb i (length input) h)
+
+-- n and k of a made code are those of r and m
+module _ (r m : ℕ) {c : Code} (good : made r m ≡ Good c) where
+  pub its-length : {n : ℕ} → n ≡ 2 ^ (c .m) → n ≡ 2 ^ m
+  its-length e = e ∙ ap (λ (d : Code). 2 ^ (d .m)) (made-of r m c good .same)
+
+  pub its-dimension : {k : ℕ} → k ≡ dimension (c .r) (c .m) → k ≡ dimension r m
+  its-dimension e = e ∙ ap (λ (d : Code). dimension (d .r) (d .m)) (made-of r m c good .same)
 
 -- none of the tests 1 to 4 applies
 pub record Passes (r m : ℕ) (input : List ℕ) (long : ℕ) (output : List ℕ) (room : ℕ) : Type 0 where
@@ -64,8 +75,7 @@ all-bits l h = first-none 0 (λ b. b) 1 l (length l) (λ j k. omega (arith, h j)
 
 module _ (r m : ℕ) (input : List ℕ) (long : ℕ) (output : List ℕ) (room : ℕ) (rest : Outcome) where
   pub passes-all : Passes r m input long output room → tested r m input long output room rest ≡ rest
-  passes-all p =
-      tested-all r m input long output room rest (p .code) (p .is-made) (p .input-long) (p .output-long) (omega (arith, all-bits input (p .are-bits)))
+  passes-all p = sym (tested-all r m input long output room rest (p .is-made) refl (p .input-long) refl (p .output-long) (all-bits input (p .are-bits)) (omega arith))
 
   -- either none applies, or the outcome has the number of one
   Decided : Type 0
@@ -82,14 +92,14 @@ module _ (r m : ℕ) (input : List ℕ) (long : ℕ) (output : List ℕ) (room :
       (λ g. elim (ℕ-discrete (length input) long) [
         | yes i ↦ elim (ℕ-discrete (length output) room) [
           | yes o ↦ ⊎-elim
-              (λ h. refuses 4 (firstBadBit input) (omega arith) (omega arith) (tested-entry r m input long output room rest (g .0) (g .1) i o h))
+              (λ h. refuses 4 (firstBadBit input) (omega arith) (omega arith) (sym (tested-entry r m input long output room rest (g .1) refl i refl o refl h)))
               (λ h. inl (record { code = g .0; is-made = g .1; input-long = i; output-long = o; are-bits = good-bits input h }))
               (lt-or-le (firstBadBit input) (length input))
-          | no o ↦ refuses 3 0 (omega arith) (omega arith) (tested-output r m input long output room rest (g .0) (g .1) i o)
+          | no o ↦ refuses 3 0 (omega arith) (omega arith) (sym (tested-output r m input long output room rest (g .1) refl i refl o))
         ]
-        | no i ↦ refuses 2 0 (omega arith) (omega arith) (tested-input r m input long output room rest (g .0) (g .1) i)
+        | no i ↦ refuses 2 0 (omega arith) (omega arith) (sym (tested-input r m input long output room rest (g .1) refl i))
       ])
-      (λ e. refuses 1 0 (omega arith) (omega arith) (tested-parameters r m input long output room rest e))
+      (λ e. refuses 1 0 (omega arith) (omega arith) (sym (tested-parameters r m input long output room rest e)))
       (good-or-bad (made r m))
 
   pub tested-small : rest .number < 6 → tested r m input long output room rest .number < 6
@@ -101,12 +111,12 @@ module _ (r m : ℕ) (input : List ℕ) (long : ℕ) (output : List ℕ) (room :
   passes h = ⊎-elim (λ p. p) (λ n. absurd (⊎-elim (λ e. omega arith) (λ e. omega arith) h)) decided
 
 -- ---- what is taken back
-module _ (ks u bits : List ℕ) where
-  pub taking-refused : firstFrozenOne ks u < length ks → takingRow ks u bits ≡ refused 5 (firstFrozenOne ks u) bits
-  taking-refused h = rw (lt-ltb (firstFrozenOne ks u) (length ks) h)
+module _ (ks u bits : List ℕ) {i : ℕ} (index : i ≡ firstFrozenOne ks u) where
+  pub taking-refused : i < length ks → refused 5 i bits ≡ takingRow ks u bits
+  taking-refused h = rw (← index, lt-ltb i (length ks) h)
 
-  pub taking-done : length ks ≤ firstFrozenOne ks u → takingRow ks u bits ≡ done (pick ks u)
-  taking-done h = rw (le-ltb (firstFrozenOne ks u) (length ks) h)
+  pub taking-done : length ks ≤ i → done (pick ks u) ≡ takingRow ks u bits
+  taking-done h = rw (← index, le-ltb i (length ks) h)
 
 -- a word's row is its transform
 pub taking-word : (m : ℕ) (ks x bits : List ℕ) → takingRow ks (transform m x) bits ≡ takingBack (takenBack m ks x) bits

@@ -10,10 +10,7 @@ first-frozen-one-requires : tie.Need-first-frozen-one-requires
 first-frozen-one-requires c κs = search needs
 
 returns : tie.Need-returns
-returns c =
-    let s = c .before .before .before .before .before .args in
-    let is = c .before .first-frozen-one .ensures in
-    rw is (sym (taking-refused (s .kinds .now) (s .row .now) (s .bits .now) (rw is at (c .if1 .taken))))
+returns c = taking-refused _ _ _ (c .before .first-frozen-one .ensures) (c .if1 .taken)
 
 pick-requires : tie.Need-pick-requires
 pick-requires c κs = search needs
@@ -23,9 +20,7 @@ same-length c = search needs
 
 returns-2 : tie.Need-returns-2
 returns-2 c =
-    let s = c .before .before .before .before .before .before .before .before .before .args in
-    let is = c .before .before .before .before .before .first-frozen-one .ensures in
-    ap done (c .before .before .pick .ensures) ∙ sym (taking-done (s .kinds .now) (s .row .now) (s .bits .now) (rw is at (c .before .before .before .before .if1 .left)))
+    ap done (c .before .before .pick .ensures) ∙ taking-done _ _ _ (c .before .before .before .before .before .first-frozen-one .ensures) (c .before .before .before .before .if1 .left)
 
 pub take-row-spec : {M : Type 1} → statement M
 take-row-spec =
