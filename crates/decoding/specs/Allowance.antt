@@ -6,7 +6,7 @@ use lib.IntN.{ℤ}
 use lib.Dec.{ltb}
 use Rattle.decoding.specs.Readings.{loss}
 use Rattle.decoding.specs.Quick.{hard}
-use Rattle.decoding.specs.Walk.{State, start, dropped, visited, finished, value}
+use Rattle.decoding.specs.Walk.{State, dropped, visited, finished, value}
 
 pub data Limited : Type 0 where
   ended : State → Limited

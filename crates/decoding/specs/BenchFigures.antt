@@ -1,18 +1,17 @@
 -- 01's bench figures marked P, as one statement about the definitions.
 use mathlib.Core.Path.{_≡_, refl}
 use mathlib.Core.List.{List, [], _∷_, map}
-use Prim.Native.Nat.{ℕ, suc}
 use lib.IntN.{ℤ, pos, negsuc, negℤ}
 use Rattle.numbers.specs.Sums.{total, tabulate, sum}
 use Rattle.numbers.specs.Least.{least, without, next, firstWith}
 use Rattle.words.specs.Bits.{digit, ones}
 use Rattle.words.specs.Word.{transform}
 use Rattle.words.specs.Kinds.{kind, kinds, choose, dimension, encoded, allBits}
-use Rattle.words.specs.Inverse.{TakenBack, taken, frozenOne, firstFrozenOne, takenBack}
+use Rattle.words.specs.Inverse.{frozenOne, firstFrozenOne, takenBack}
 use Rattle.decoding.specs.Readings.{penalty, correlation}
 use Rattle.decoding.specs.Best.{penalties, leastPenalty, gap, bestBits, bestWord}
-use Rattle.decoding.specs.Walk.{value, walk, walked, needed, tree}
-use Rattle.decoding.specs.Answer.{Answer, found, tied, outOfVisits, answer}
+use Rattle.decoding.specs.Walk.{value, walk, walked, tree}
+use Rattle.decoding.specs.Answer.{found, tied, answer}
 
 -- 5, -2, 3, 1
 abbrev pub sample : List ℤ

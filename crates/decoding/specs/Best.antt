@@ -1,5 +1,5 @@
 -- The best word, its penalty and the gap, over the list of all 2^k words, with no word about a search (01, "Penalty, correlation, gap").
-use mathlib.Core.List.{List, [], _∷_, map}
+use mathlib.Core.List.{List, [], map}
 use Prim.Native.Nat.{ℕ, _-_}
 use lib.IntN.{ℤ}
 use Rattle.numbers.specs.Sums.{sum}

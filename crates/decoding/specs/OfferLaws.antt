@@ -1,12 +1,12 @@
 -- What is held of a list of full paths that are offered one after the other: two of them, with the least and the next penalty.
 use mathlib.Core.Path.{_≡_, refl, ap, sym, _∙_, subst}
-use mathlib.Core.Bool.{true, cond}
+use mathlib.Core.Bool.{true, cond, false≢true}
 use mathlib.Core.List.{List, [], _∷_, _++_, map, List·Memᴰ, List·Memᴰ·head, List·Memᴰ·tail}
 use Prim.Native.Nat.{ℕ, _+_, _≤_, _<_, min}
 use native.Mathlib.Omega.{arith}
 use native.Mathlib.Nat.{le-of-lt}
 use lib.ListN.{length}
-use lib.Dec.{T, ltb, leb}
+use lib.Dec.{ltb, leb}
 use borrow.Author.Tests.{le-leb, leb-true, leb-false, ltb-true, ltb-false}
 use Rattle.numbers.specs.Choice.{cond-by}
 use Rattle.numbers.specs.Sums.{sum}
@@ -35,8 +35,8 @@ offers-append h (f ∷ k) l = offers-append (offer h f) k l
 -- where a penalty is dropped, so are all that are no less
 pub offers-dropped : (h : Held) (q : ℕ) (l : List Full) → dropped h q ≡ true → ((f : Full) → List·Memᴰ f l → q ≤ f .penalty) → offers h l ≡ h
 offers-dropped h q [] e above = refl
-offers-dropped none q (f ∷ l) e above = absurd (subst T (sym e) tt)
-offers-dropped (one a) q (f ∷ l) e above = absurd (subst T (sym e) tt)
+offers-dropped none q (f ∷ l) e above = absurd (false≢true e)
+offers-dropped (one a) q (f ∷ l) e above = absurd (false≢true e)
 offers-dropped (two a b) q (f ∷ l) e above =
     rw (le-leb (b .penalty) (f .penalty) (omega (arith, leb-true (b .penalty) q e, above f (List·Memᴰ·head refl))))
     (offers-dropped (two a b) q l e (λ g i. above g (List·Memᴰ·tail i)))

@@ -1,7 +1,7 @@
 -- Laws of the two combining steps and of the rows they make: sizes, signs, lengths, entries, penalties.
 -- The sum of sizes never grows by a step, so one bound serves all rows.
-use mathlib.Core.Path.{_≡_, refl, ap, ap₂, sym, _∙_, subst}
-use mathlib.Core.Bool.{not}
+use mathlib.Core.Path.{_≡_, refl, ap, ap₂, sym, _∙_}
+use mathlib.Core.Bool.{not, true≢false}
 use mathlib.Core.List.{List, [], _∷_, _++_}
 use Prim.Native.Nat.{ℕ, zero, suc, _+_, _*_, _^_, _%_, _≤_, _<_, zero-le, min}
 use native.Mathlib.Omega.{arith}
@@ -9,7 +9,6 @@ use native.Mathlib.Nat.{suc-inj, suc-ne-zero, not-suc-le-zero, le-of-suc-le-suc,
 use lib.ListN.{length, getD, take, drop, take-append-drop, length-drop}
 use lib.Seq.{length-take-le, getD-take, getD-drop}
 use lib.IntN.{ℤ, pos, negsuc, natAbs, _+ℤ_, _-ℤ_, negℤ, negℤ-negℤ}
-use lib.Dec.{T}
 use lib.Signed.{ltZ}
 use borrow.Author.Tests.{ltb-true, le-ltb}
 use Rattle.numbers.specs.Parts.{up, down}
@@ -54,7 +53,7 @@ pub lower-differ : (x y : ℤ) → ltZ x (pos 0) ≡ not (ltZ y (pos 0)) → low
 lower-differ (pos x) (pos y) e = absurd (omega (arith, ltb-true x 0 (e ∙ ap not (le-ltb y 0 zero-le))))
 lower-differ (pos x) (negsuc y) e = refl
 lower-differ (negsuc x) (pos y) e = refl
-lower-differ (negsuc x) (negsuc y) e = absurd (subst T e tt)
+lower-differ (negsuc x) (negsuc y) e = absurd (true≢false e)
 
 pub record LowerParts (x y : ℤ) : Type 0 where
   pub up-lower : up (lower x y) ≡ min (up x) (up y) + min (down x) (down y)

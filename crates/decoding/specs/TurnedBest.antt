@@ -2,7 +2,7 @@
 -- where the gap is above 0, the best word and its bits have the word and its bits added.
 use mathlib.Core.Path.{_≡_, refl, ap, ap₂, sym, _∙_}
 use mathlib.Core.Logic.{⊎-elim}
-use mathlib.Core.List.{List, [], _∷_, map, map-map}
+use mathlib.Core.List.{List, [], _∷_, map, map-map, map-append}
 use Prim.Native.Nat.{ℕ, zero, suc, _+_, _-_, _^_, _≤_, _<_}
 use native.Mathlib.Omega.{arith}
 use native.Mathlib.Nat.{suc-inj, suc-ne-zero, add-comm, zero-sub}
@@ -12,7 +12,6 @@ use borrow.Author.Tests.{eq-eqb}
 use Rattle.numbers.specs.Choice.{lt-or-le}
 use Rattle.numbers.specs.Sums.{sum}
 use Rattle.numbers.specs.SumsLaws.{sum-append}
-use Rattle.numbers.specs.Halves.{map-append}
 use Rattle.numbers.specs.Least.{least, without, next}
 use Rattle.numbers.specs.LeastLaws.{Reordered, least-reordered, next-reordered}
 use Rattle.numbers.specs.EntryLaws.{map-same}

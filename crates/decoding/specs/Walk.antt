@@ -2,7 +2,7 @@
 -- A path is the list of its choices u_0, u_1, ..; the walk goes along the kinds of the indices that are still to choose.
 use mathlib.Core.Path.{_≡_}
 use mathlib.Core.List.{List, [], _∷_, _++_}
-use mathlib.Core.Bool.{Bool, true, false, cond}
+use mathlib.Core.Bool.{Bool, false, cond}
 use Prim.Native.Nat.{ℕ, zero, suc, _+_, _-_, _^_}
 use lib.IntN.{ℤ, pos}
 use lib.ListN.{length, getD, take, drop}

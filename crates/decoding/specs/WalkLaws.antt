@@ -3,17 +3,17 @@
 use mathlib.Core.Path.{_≡_, refl, ap, ap₂, sym, _∙_}
 use mathlib.Core.Logic.{⊎-elim, _⊎_, inl, inr}
 use mathlib.Core.Bool.{false}
-use mathlib.Core.List.{List, [], _∷_, _++_, append-nil, append-assoc, map, map-map}
+use mathlib.Core.List.{List, [], _∷_, _++_, append-nil, map, map-map, map-append}
 use mathlib.Core.List.{List·Memᴰ, List·Memᴰ·head, List·Memᴰ·not-nil, List·Memᴰ·append-cases, List·Memᴰ·eq-of-singleton}
 use mathlib.Core.List.{Memᴰ·map, Memᴰ·of-map, Memᴰ·append-left, Memᴰ·append-right, Memᴰ·cast}
 use Prim.Native.Nat.{ℕ, zero, suc, _+_, _-_, _^_, _≤_, _<_}
 use native.Mathlib.Omega.{arith}
 use native.Mathlib.Nat.{le-refl, le-trans, le-add-right, add-comm}
 use lib.ListN.{length, getD, length-map}
-use lib.Seq.{getD-append-seam}
+use lib.Seq.{append-snoc, getD-append-seam}
 use lib.IntN.{ℤ, pos, negsuc}
 use Rattle.numbers.specs.Choice.{cond-by}
-use Rattle.numbers.specs.Halves.{length-more, map-append}
+use Rattle.numbers.specs.Halves.{length-more}
 use Rattle.numbers.specs.Sums.{sum}
 use Rattle.numbers.specs.SumsLaws.{sum-append}
 use Rattle.numbers.specs.LeastLaws.{Reordered, length-reordered, least-two-reordered, least-is, next-is}
@@ -82,9 +82,6 @@ bit-cases : (v : ℤ) → (hard v ≡ 0) ⊎ (hard v ≡ 1)
 bit-cases (pos n) = inl refl
 bit-cases (negsuc n) = inr refl
 
-go-on : (u r : List ℕ) (b : ℕ) → (u ++ b ∷ []) ++ r ≡ u ++ b ∷ r
-go-on u r b = append-assoc u (b ∷ []) r
-
 -- a path that is begun by u and gone on with a row in x
 record Onward (u : List ℕ) (x : List (List ℕ)) (path : List ℕ) : Type 0 where
   rest : List ℕ
@@ -98,7 +95,7 @@ module _ (m : ℕ) (l : List ℤ) where
       record { rest = []; in-x = List·Memᴰ·head refl; joined = ap (λ (g : Full). g .path) (List·Memᴰ·eq-of-singleton i) ∙ sym (append-nil u) }
   fulls-rows (zero ∷ ks) u p f i =
       let o = fulls-rows ks (u ++ 0 ∷ []) (p + loss (value m l u) 0) f i in
-      record { rest = 0 ∷ o .rest; in-x = Memᴰ·map (λ r. 0 ∷ r) (o .in-x); joined = o .joined ∙ go-on u (o .rest) 0 }
+      record { rest = 0 ∷ o .rest; in-x = Memᴰ·map (λ r. 0 ∷ r) (o .in-x); joined = o .joined ∙ append-snoc u 0 (o .rest) }
   fulls-rows (suc k ∷ ks) u p f i =
       let v = value m l u in
       let rows = rowsOf ks in
@@ -108,7 +105,7 @@ module _ (m : ℕ) (l : List ℤ) where
       ⊎-elim (λ e. rw e (Memᴰ·append-left ones (Memᴰ·map (λ x. 0 ∷ x) j))) (λ e. rw e (Memᴰ·append-right zeros (Memᴰ·map (λ x. 1 ∷ x) j))) c in
       let go : (b : ℕ) → (b ≡ 0) ⊎ (b ≡ 1) → List·Memᴰ f (fulls m l ks (u ++ b ∷ []) (p + loss v b)) → Onward u (zeros ++ ones) (f .path) = λ b c j.
       let o = fulls-rows ks (u ++ b ∷ []) (p + loss v b) f j in
-      record { rest = b ∷ o .rest; in-x = in-rows b (o .rest) c (o .in-x); joined = o .joined ∙ go-on u (o .rest) b } in
+      record { rest = b ∷ o .rest; in-x = in-rows b (o .rest) c (o .in-x); joined = o .joined ∙ append-snoc u b (o .rest) } in
       let other : (1 - hard v ≡ 0) ⊎ (1 - hard v ≡ 1) = ⊎-elim (λ e. inr (omega arith)) (λ e. inl (omega arith)) (bit-cases v) in
       ⊎-elim (go (hard v) (bit-cases v)) (go (1 - hard v) other)
       (List·Memᴰ·append-cases (fulls m l ks (u ++ hard v ∷ []) (p + loss v (hard v))) i)
@@ -141,7 +138,7 @@ module _ (m : ℕ) (l : List ℤ) where
       let at-u : (b : ℕ) (x : List ℕ) → List·Memᴰ x (pathsOf (below b)) → getD x (length u) 0 ≡ b = λ b x i.
       let f = Memᴰ·of-map (λ (g : Full). g .path) (below b) i in
       let o = fulls-rows ks (u ++ b ∷ []) (p + loss v b) (f .0) (f .1) in
-      rw (← (f .2), o .joined, go-on u (o .rest) b) (getD-append-seam u b (o .rest) 0) in
+      rw (← (f .2), o .joined, append-snoc u b (o .rest)) (getD-append-seam u b (o .rest) 0) in
       rw (map-append (λ (g : Full). g .path) (below (hard v)) (below (1 - hard v)))
       (distinct-append (pathsOf (below (hard v))) (pathsOf (below (1 - hard v)))
       (fulls-distinct ks (u ++ hard v ∷ []) (p + loss v (hard v))) (fulls-distinct ks (u ++ (1 - hard v) ∷ []) (p + loss v (1 - hard v)))
@@ -159,7 +156,7 @@ module _ (m : ℕ) (l : List ℤ) (e : length l ≡ 2 ^ m) where
   branch : (u : List ℕ) (b : ℕ) (x : List (List ℕ)) → map (rowPenalty u) (map (λ r. b ∷ r) x) ≡ map (rowPenalty (u ++ b ∷ [])) x
   branch u b x =
       map-map (rowPenalty u) (λ r. b ∷ r) x
-      ∙ map-same (λ r. rowPenalty u (b ∷ r)) (rowPenalty (u ++ b ∷ [])) x (λ r i. ap (λ (y : List ℕ). penalty l (transform m y)) (sym (go-on u r b)))
+      ∙ map-same (λ r. rowPenalty u (b ∷ r)) (rowPenalty (u ++ b ∷ [])) x (λ r i. ap (λ (y : List ℕ). penalty l (transform m y)) (sym (append-snoc u b r)))
 
   fulls-reordered : (ks u : List ℕ) (p : ℕ) → p ≡ pathPenalty m l u → length u + length ks ≡ 2 ^ m → Bits u
       → Reordered (penaltiesOf (fulls m l ks u p)) (map (rowPenalty u) (rowsOf ks))

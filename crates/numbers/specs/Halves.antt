@@ -1,6 +1,6 @@
 -- Laws of a list that is cut in halves, and of lists that are cut in other ways.
 use mathlib.Core.Path.{_≡_, refl, ap, sym, _∙_}
-use mathlib.Core.List.{List, [], _∷_, _++_, map}
+use mathlib.Core.List.{List, [], _∷_, _++_}
 use Prim.Native.Nat.{ℕ, zero, suc, _+_, _-_, _^_, _/_, _<_}
 use native.Mathlib.Omega.{arith}
 use native.Mathlib.Nat.{two-pow-succ, sub-zero, zero-sub, suc-sub-suc}
@@ -30,10 +30,6 @@ drop-take (suc h) (suc n) (a ∷ x) = rw suc-sub-suc (drop-take h n x)
 
 pub length-more : {A : Type 0} (x : List A) (a : A) → length (x ++ a ∷ []) ≡ length x + 1
 length-more x a = length-append x (a ∷ [])
-
-pub map-append : {A B : Type 0} (f : A → B) (x y : List A) → map f (x ++ y) ≡ map f x ++ map f y
-map-append f [] y = refl
-map-append {B} f (a ∷ x) y = ap (λ (l : List B). f a ∷ l) (map-append f x y)
 
 -- a length that is a power of two above 1, halved, as code does it
 pub record Halved (n m : ℕ) : Type 0 where

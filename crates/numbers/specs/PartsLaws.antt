@@ -1,11 +1,11 @@
 -- Laws of the two parts: each operation on signed numbers is one linear fact about counts, which `omega` reads.
-use mathlib.Core.Path.{_≡_, refl, sym, _∙_, ap, subst}
-use mathlib.Core.Bool.{Bool, true, false, not}
+use mathlib.Core.Path.{_≡_, refl, ap}
+use mathlib.Core.Bool.{true, false, true≢false, false≢true}
 use mathlib.Core.Logic.{_⊎_, inl, inr, ⊎-elim}
 use Prim.Native.Nat.{ℕ, zero, suc, _+_, _^_, _≤_, _<_, min}
 use native.Mathlib.Omega.{arith}
 use lib.IntN.{ℤ, pos, negsuc, natAbs, _+ℤ_, negℤ, subℕ}
-use lib.Dec.{T, ltb}
+use lib.Dec.{ltb}
 use lib.Signed.{ltZ}
 use borrow.Author.Tests.{ltb-true, ltb-false, lt-ltb, le-ltb}
 use mir.Syntax.{Width}
@@ -58,19 +58,16 @@ pub by-signs : {P : Type 0} (x y : ℤ) → (down x ≡ 0 → down y ≡ 0 → P
 by-signs x y a b c d = ⊎-elim (λ h. ⊎-elim (a h) (b h) (sign y)) (λ h. ⊎-elim (c h) (d h) (sign y)) (sign x)
 
 -- a signed test, as a fact of the parts, and back
-no-such : {A : Type 0} → true ≡ false → A
-no-such e = absurd (subst T e tt)
-
 pub less-parts : (a b : ℤ) → ltZ a b ≡ true → up a + down b < up b + down a
 less-parts (pos a) (pos b) e = omega (arith, ltb-true a b e)
-less-parts (pos a) (negsuc b) e = no-such (sym e)
+less-parts (pos a) (negsuc b) e = absurd (false≢true e)
 less-parts (negsuc a) (pos b) e = omega arith
 less-parts (negsuc a) (negsuc b) e = omega (arith, ltb-true b a e)
 
 pub not-less-parts : (a b : ℤ) → ltZ a b ≡ false → up b + down a ≤ up a + down b
 not-less-parts (pos a) (pos b) e = omega (arith, ltb-false a b e)
 not-less-parts (pos a) (negsuc b) e = omega arith
-not-less-parts (negsuc a) (pos b) e = no-such e
+not-less-parts (negsuc a) (pos b) e = absurd (true≢false e)
 not-less-parts (negsuc a) (negsuc b) e = omega (arith, ltb-false b a e)
 
 pub less-of : (a b : ℤ) → up a + down b < up b + down a → ltZ a b ≡ true

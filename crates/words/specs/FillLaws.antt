@@ -1,14 +1,13 @@
 -- Laws of information bits and the rows they fill, for every row of kinds: there and back, linear, and that all bits fill all rows.
 use mathlib.Core.Path.{_≡_, refl, ap, ap₂, sym, subst, _∙_}
 use mathlib.Core.Logic.{⊎-elim}
-use mathlib.Core.List.{List, [], _∷_, _++_, map, map-map, Memᴰ·cast, Memᴰ·append-left, Memᴰ·append-right, Memᴰ·map, Memᴰ·of-map}
+use mathlib.Core.List.{List, [], _∷_, _++_, map, map-map, map-append, Memᴰ·cast, Memᴰ·append-left, Memᴰ·append-right, Memᴰ·map, Memᴰ·of-map}
 use mathlib.Core.List.{List·Memᴰ, List·Memᴰ·head, List·Memᴰ·append-cases, List·Memᴰ·eq-of-singleton, List·Memᴰ·not-nil, head-eq-of-cons-eq, tail-eq-of-cons-eq}
 use Prim.Native.Nat.{ℕ, zero, suc, _+_, _^_, _%_, _<_}
 use native.Mathlib.Omega.{arith}
 use native.Mathlib.Nat.{suc-inj, suc-ne-zero, zero-add, two-pow-succ}
 use lib.ListN.{length, replicate, length-append, length-map}
 use Rattle.numbers.specs.Sums.{sum}
-use Rattle.numbers.specs.Halves.{map-append}
 use Rattle.numbers.specs.EntryLaws.{Distinct, distinct-append, distinct-map}
 use Rattle.words.specs.Bits.{Bits, xors}
 use Rattle.words.specs.Kinds.{fill, pick, allBits}

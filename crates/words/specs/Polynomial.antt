@@ -1,6 +1,6 @@
 -- The published definition of the code in source documents 000 and 003: value tables of polynomials of degree at most r in m variables.
 -- A polynomial over the numbers modulo 2 is its row of 2^m coefficients; monomial i has the variables at the one-bits of i.
-use mathlib.Core.List.{List, [], _∷_}
+use mathlib.Core.List.{List}
 use mathlib.Core.Path.{_≡_}
 use mathlib.Core.Bool.{cond}
 use Prim.Native.Nat.{ℕ, zero, suc, _*_, _^_, _%_, _<_}

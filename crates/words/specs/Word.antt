@@ -1,7 +1,7 @@
 -- The word of a row u of 2^m bits, in three published forms (01, "The code"): bit by bit, by the Kronecker power, and by halves.
-use mathlib.Core.List.{List, [], _∷_, _++_}
-use mathlib.Core.Bool.{Bool, true, false, cond, _&&_}
-use Prim.Native.Nat.{ℕ, zero, suc, _+_, _*_, _^_, _%_, _/_}
+use mathlib.Core.List.{List, _++_}
+use mathlib.Core.Bool.{Bool, true, cond, _&&_}
+use Prim.Native.Nat.{ℕ, zero, suc, _*_, _^_, _%_, _/_}
 use lib.ListN.{getD, take, drop}
 use lib.Dec.{leb}
 use Rattle.numbers.specs.Sums.{total, tabulate}
