@@ -6,12 +6,13 @@ use mathlib.Core.List.{List, [], _∷_, _++_}
 use Prim.Native.Nat.{ℕ, zero, suc, _+_, _*_, _^_, _%_, _≤_, _<_, zero-le, min}
 use native.Mathlib.Omega.{arith}
 use native.Mathlib.Nat.{suc-inj, suc-ne-zero, not-suc-le-zero, le-of-suc-le-suc, min-comm, zero-min, two-pow-succ}
-use lib.ListN.{length, getD, take, drop, take-append-drop, length-drop}
-use lib.Seq.{length-take-le, getD-take, getD-drop}
+use lib.ListN.{length, getD, take, drop, take-append-drop}
+use lib.Seq.{getD-take, getD-drop}
 use lib.IntN.{ℤ, pos, negsuc, natAbs, _+ℤ_, _-ℤ_, negℤ, negℤ-negℤ}
 use lib.Signed.{ltZ}
 use borrow.Author.Tests.{ltb-true, le-ltb}
 use Rattle.numbers.specs.Parts.{up, down}
+use Rattle.numbers.specs.Halves.{length-first-half, equal-halves}
 use Rattle.numbers.specs.PartsLaws.{parts, sum-parts, negated, by-signs, less-parts}
 use Rattle.words.specs.Bits.{Bits, xors}
 use Rattle.decoding.specs.Readings.{loss, penalty, sizes, Within}
@@ -109,17 +110,11 @@ length-uppers (x ∷ k) (y ∷ l) (b ∷ a) e f = ap suc (length-uppers k l a (s
 
 -- of a row that is cut in halves
 module _ (h : ℕ) (l : List ℤ) (e : length l ≡ h + h) where
-  first : length (take h l) ≡ h
-  first = length-take-le h l (omega arith)
-
-  second : length (drop h l) ≡ h
-  second = simp length-drop (omega arith)
-
   pub length-lowerRow : length (lowerRow h l) ≡ h
-  length-lowerRow = length-lowers (take h l) (drop h l) (first ∙ sym second) ∙ first
+  length-lowerRow = length-lowers (take h l) (drop h l) (equal-halves h l e) ∙ length-first-half h l e
 
   pub length-upperRow : (a : List ℕ) → length a ≡ h → length (upperRow h l a) ≡ h
-  length-upperRow a f = length-uppers (take h l) (drop h l) a (first ∙ sym second) (first ∙ sym f) ∙ first
+  length-upperRow a f = length-uppers (take h l) (drop h l) a (equal-halves h l e) (length-first-half h l e ∙ sym f) ∙ length-first-half h l e
 
 -- of a row of 2^(m + 1)
 module _ (m : ℕ) (l : List ℤ) (e : length l ≡ 2 ^ suc m) where
@@ -148,12 +143,12 @@ getD-uppers (x ∷ k) (y ∷ l) (b ∷ a) (suc i) e f h = getD-uppers k l a i (s
 module _ (h : ℕ) (l : List ℤ) (e : length l ≡ h + h) (i : ℕ) (below : i < h) where
   pub getD-lowerRow : getD (lowerRow h l) i (pos 0) ≡ lower (getD l i (pos 0)) (getD l (h + i) (pos 0))
   getD-lowerRow =
-      getD-lowers (take h l) (drop h l) i (first h l e ∙ sym (second h l e)) (omega (arith, first h l e))
+      getD-lowers (take h l) (drop h l) i (equal-halves h l e) (omega (arith, length-first-half h l e))
       ∙ ap₂ lower (getD-take h l i (pos 0) below) (getD-drop h l i (pos 0))
 
   pub getD-upperRow : (a : List ℕ) → length a ≡ h → getD (upperRow h l a) i (pos 0) ≡ upper (getD l i (pos 0)) (getD l (h + i) (pos 0)) (getD a i 0)
   getD-upperRow a f =
-      getD-uppers (take h l) (drop h l) a i (first h l e ∙ sym (second h l e)) (first h l e ∙ sym f) (omega (arith, first h l e))
+      getD-uppers (take h l) (drop h l) a i (equal-halves h l e) (length-first-half h l e ∙ sym f) (omega (arith, length-first-half h l e))
       ∙ ap₂ (λ (x y : ℤ). upper x y (getD a i 0)) (getD-take h l i (pos 0) below) (getD-drop h l i (pos 0))
 
 -- ---- penalties

@@ -1,15 +1,14 @@
 -- The loops of `fill`, `pick` and `first_frozen_one`: what holds before each turn, and what a turn does.
 use mathlib.Core.Path.{_≡_, refl, ap, sym, _∙_, subst}
-use mathlib.Core.List.{List, [], _∷_, _++_}
+use mathlib.Core.List.{List, [], _∷_}
 use Prim.Native.Nat.{ℕ, zero, suc, _+_, _-_, _≤_, _<_, zero-le}
 use native.Mathlib.Omega.{arith}
 use native.Mathlib.Nat.{suc-ne-zero}
 use native.Mathlib.Numerals.{add-one}
-use lib.ListN.{length, getD, set, take, drop, length-set, length-drop, drop-of-length-le}
-use lib.Seq.{drop-cons, take-all}
+use lib.ListN.{length, getD, set, drop, length-set, drop-of-length-le}
+use lib.Seq.{drop-cons}
 use Rattle.numbers.specs.Sums.{sum}
 use Rattle.numbers.specs.Front.{front, front-done, front-next, drop-next}
-use Rattle.words.specs.Bits.{Bits}
 use Rattle.words.specs.Kinds.{fill, pick}
 use Rattle.words.specs.Inverse.{firstFrozenOne}
 

@@ -1,14 +1,14 @@
 -- The loop of `fold`, and the transform put together from its halves.
 use mathlib.Core.Path.{_≡_, refl, ap, sym, _∙_, subst}
 use mathlib.Core.List.{List, _++_}
-use Prim.Native.Nat.{ℕ, suc, _+_, _-_, _^_, _%_, _/_, _≤_, _<_}
+use Prim.Native.Nat.{ℕ, _+_, _-_, _^_, _%_, _/_, _≤_, _<_}
 use native.Mathlib.Omega.{arith}
 use native.Mathlib.Numerals.{add-one}
-use lib.ListN.{length, getD, set, take, drop, length-drop, length-append}
-use lib.Seq.{length-take-le, take-at, drop-at, getD-drop, getD-take, take-all}
+use lib.ListN.{length, getD, set, take, drop, length-append}
+use lib.Seq.{take-at, drop-at, getD-drop, getD-take, take-all}
 use borrow.Rule.Slice.PartMut.{midOf, putMid}
 use Rattle.numbers.specs.Front.{front, front-suc, front-after}
-use Rattle.numbers.specs.Halves.{Halved, halved}
+use Rattle.numbers.specs.Halves.{halved, length-first-half, length-second-half, equal-halves}
 use Rattle.numbers.specs.Lent.{lent-to, back-to, lent-from, back-from}
 use Rattle.words.specs.Bits.{Bits, xors}
 use Rattle.words.specs.Word.{transform}
@@ -20,14 +20,8 @@ abbrev pub sums : List ℕ → ℕ → List ℕ
 sums d h = xors (take h d) (drop h d)
 
 module _ (d : List ℕ) (h : ℕ) (e : length d ≡ h + h) where
-  first : length (take h d) ≡ h
-  first = length-take-le h d (omega arith)
-
-  second : length (drop h d) ≡ h
-  second = simp length-drop (omega arith)
-
   length-sums : length (sums d h) ≡ h
-  length-sums = length-xors (take h d) (drop h d) (first ∙ sym second) ∙ first
+  length-sums = length-xors (take h d) (drop h d) (equal-halves h d e) ∙ length-first-half h d e
 
   module _ (s : List ℕ) (j : ℕ) (more : j < h) (is : s ≡ front d (sums d h) j) where
     -- what a turn reads is as it was
@@ -38,7 +32,7 @@ module _ (d : List ℕ) (h : ℕ) (e : length d ≡ h + h) where
     pub turn : set s j ((getD s j 0 + getD s (h + j) 0) % 2) ≡ front d (sums d h) (j + 1)
     turn =
         let v : (getD s j 0 + getD s (h + j) 0) % 2 ≡ getD (sums d h) j 0 =
-        rw (unread j (omega arith), unread (h + j) (omega arith), getD-xors (take h d) (drop h d) j (first ∙ sym second), getD-take h d j 0 more, getD-drop h d j 0) in
+        rw (unread j (omega arith), unread (h + j) (omega arith), getD-xors (take h d) (drop h d) j (equal-halves h d e), getD-take h d j 0 more, getD-drop h d j 0) in
         rw (add-one, v, is) (front-suc d (sums d h) j 0 (omega arith) (omega (arith, length-sums)))
 
   pub all-turns : front d (sums d h) h ≡ folded h d
@@ -57,7 +51,7 @@ secondBack x w b = putMid (length x / 2) (length w - length x / 2) w b
 
 module _ (m : ℕ) (x : List ℕ) (long : length x ≡ 2 ^ m) (bits : Bits x) (more : m ≡ 0 → ⊥) where
   first-long : length (take (length x / 2) x) ≡ length x / 2
-  first-long = length-take-le (length x / 2) x (omega (arith, halved (length x) m long more .whole))
+  first-long = length-first-half (length x / 2) x (halved (length x) m long more .whole)
 
   pub first-asked : (length (midOf 0 (length x / 2 - 0) x) ≡ 2 ^ (m - 1)) × Bits (midOf 0 (length x / 2 - 0) x)
   first-asked =
@@ -78,7 +72,7 @@ module _ (m : ℕ) (x : List ℕ) (long : length x ≡ 2 ^ m) (bits : Bits x) (m
         lent-from (length x / 2) (firstBack x a) ∙ ap (drop (length x / 2)) (back-to (length x / 2) x a) ∙ drop-at a (drop (length x / 2) x) (length x / 2) length-a
 
     second-long : length (drop (length x / 2) x) ≡ 2 ^ (m - 1)
-    second-long = let H = halved (length x) m long more in second x (length x / 2) (H .whole) ∙ H .half
+    second-long = let H = halved (length x) m long more in length-second-half (length x / 2) x (H .whole) ∙ H .half
 
     pub second-asked : (length (secondOut x (firstBack x a)) ≡ 2 ^ (m - 1)) × Bits (secondOut x (firstBack x a))
     second-asked = (ap length second-is ∙ second-long, subst Bits (sym second-is) (bits-drop (length x / 2) x bits))

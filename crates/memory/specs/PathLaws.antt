@@ -7,7 +7,7 @@ use native.Mathlib.Nat.{two-pow-succ, suc-ne-zero}
 use lib.ListN.{length, take, drop, set, length-append, length-drop, take-append-drop}
 use lib.Seq.{take-at, drop-at, length-take-le, take-append-add}
 use borrow.Rule.Slice.PartMut.{midOf, putMid, same-len-mid}
-use Rattle.numbers.specs.Halves.{halved}
+use Rattle.numbers.specs.Halves.{halved, length-first-half, length-second-half}
 use Rattle.numbers.specs.Lent.{lent-to, back-to, lent-from, back-from}
 use Rattle.words.specs.Bits.{Bits, xors}
 use Rattle.words.specs.Word.{transform}
@@ -59,10 +59,10 @@ module _ (m p h : ℕ) (above : m ≡ suc p) (half : h ≡ 2 ^ p) where
 
   module _ (x : List ℕ) (i : ℕ) (long : length x ≡ h + h) (bits : Bits x) where
     lf : length (take h x) ≡ h
-    lf = length-take-le h x (omega arith)
+    lf = length-first-half h x long
 
     lg : length (drop h x) ≡ h
-    lg = simp length-drop (omega arith)
+    lg = length-second-half h x long
 
     pub put-first : (b : ℕ) (a : List ℕ) → i < h → length a ≡ h → BitPut p i b (take h x) a → BitPut m i b x (a ++ drop h x)
     put-first b a k la E =
@@ -187,7 +187,7 @@ secondBack x w q = putMid (length x / 2) (length w - length x / 2) w q
 
 module _ (m i : ℕ) (x : List ℕ) (r : PathReady m i x) (more : m ≡ 0 → ⊥) where
   first-half : length (take (length x / 2) x) ≡ length x / 2
-  first-half = length-take-le (length x / 2) x (omega (arith, halved (length x) m (r .long) more .whole))
+  first-half = length-first-half (length x / 2) x (halved (length x) m (r .long) more .whole)
 
   second-half : length (drop (length x / 2) x) ≡ length x / 2
   second-half = simp length-drop (omega (arith, halved (length x) m (r .long) more .whole))

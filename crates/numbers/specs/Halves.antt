@@ -7,12 +7,23 @@ use native.Mathlib.Nat.{two-pow-succ, sub-zero, zero-sub, suc-sub-suc}
 use lib.ListN.{length, getD, take, drop, length-drop, length-append, List·getD-append}
 use lib.Seq.{length-take-le, take-nil, getD-append-add}
 
+module _ {A : Type 0} (h : ℕ) (x : List A) (e : length x ≡ h + h) where
+  pub length-first-half : length (take h x) ≡ h
+  length-first-half = length-take-le h x (omega arith)
+
+  pub length-second-half : length (drop h x) ≡ h
+  length-second-half = simp length-drop (omega arith)
+
+  pub equal-halves : length (take h x) ≡ length (drop h x)
+  equal-halves = length-first-half ∙ sym length-second-half
+
+-- of 2^(m + 1) entries
 module _ {A : Type 0} (m : ℕ) (x : List A) (e : length x ≡ 2 ^ suc m) where
   pub length-first : length (take (2 ^ m) x) ≡ 2 ^ m
-  length-first = length-take-le (2 ^ m) x (omega (arith, two-pow-succ m))
+  length-first = length-first-half (2 ^ m) x (e ∙ two-pow-succ m)
 
   pub length-second : length (drop (2 ^ m) x) ≡ 2 ^ m
-  length-second = simp length-drop (omega (arith, two-pow-succ m))
+  length-second = length-second-half (2 ^ m) x (e ∙ two-pow-succ m)
 
 -- the entries of two lists of which the first has n
 module _ {A : Type 0} (p q : List A) (n : ℕ) (e : length p ≡ n) where
