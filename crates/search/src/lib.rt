@@ -1,1 +1,142 @@
 // The public calls: the search with an allowance, and the short call.
+use code::Code;
+use code::Made;
+use code::Refusal;
+ghost use mathlib.Core.Path.{_≡_};
+ghost use Prim.Native.Nat.{_^_};
+ghost use lib.ListN.{length, take};
+ghost use Rattle.words.specs.Kinds.{kinds, dimension};
+ghost use Rattle.decoding.specs.Readings.{Within};
+ghost use Rattle.decoding.specs.Answer.{answer};
+ghost use Rattle.code.specs.Sound.{Sound, largestReading, defaultAllowance};
+ghost use Rattle.search.specs.Outcome.{told, answered, searching};
+ghost use Rattle.search.specs.Work.{Searchable, Writable, Written};
+
+pub enum Searched {
+    Found { penalty: u32, gap: u32, visits: u32 },
+    Refused(Refusal),
+}
+
+// Writes the information bits and the word of least penalty into the lent buffers, where no other
+// word has that penalty and the walk needs no more visits than allowed.
+pub fn search_within(
+    r: u32,
+    m: u32,
+    allowed: u32,
+    readings: &[i16],
+    bits: &mut [u8],
+    word: &mut [u8],
+) -> Searched
+    ensures { λ answer. ⌜ told answer (now (bits .exit)) (now (word .exit))
+        ≡ searching r m allowed (now (readings .entry)) (now (bits .entry)) (now (word .entry)) ⌝ }
+{
+    let Made::Good(code) = Code::new(r, m) else {
+        return Searched::Refused(Refusal::Parameters);
+    };
+    let n = code.length();
+    if readings.len() != n {
+        return Searched::Refused(Refusal::InputLength);
+    }
+    if bits.len() != code.dimension() {
+        return Searched::Refused(Refusal::OutputLength);
+    }
+    if word.len() != n {
+        return Searched::Refused(Refusal::OutputLength);
+    }
+    let place = code::first_bad_reading(readings);
+    if place < n {
+        return Searched::Refused(Refusal::Entry(place));
+    }
+    search_sound(code, allowed, readings, bits, word)
+}
+
+// The same, with the default allowance.
+pub fn search(r: u32, m: u32, readings: &[i16], bits: &mut [u8], word: &mut [u8]) -> Searched
+    ensures { λ answer. ⌜ told answer (now (bits .exit)) (now (word .exit))
+        ≡ searching r m defaultAllowance (now (readings .entry)) (now (bits .entry)) (now (word .entry)) ⌝ }
+{
+    search_within(r, m, Code::DEFAULT_ALLOWANCE, readings, bits, word)
+}
+
+fn search_sound(
+    code: Code,
+    allowed: u32,
+    readings: &[i16],
+    bits: &mut [u8],
+    word: &mut [u8],
+) -> Searched
+    requires { ⌜ Sound code × (length (now readings) ≡ 2 ^ (code .m)) × Within largestReading (now readings) ⌝ }
+    requires { ⌜ (length (now bits) ≡ dimension (code .r) (code .m)) × (length (now word) ≡ 2 ^ (code .m)) ⌝ }
+    ensures { λ r. ⌜ told r (now (bits .exit)) (now (word .exit))
+        ≡ answered allowed (now (bits .entry)) (now (word .entry))
+        (answer (code .m) (kinds (code .r) (code .m)) (now (readings .entry)) allowed) ⌝ }
+{
+    let mut kinds = [0u8; 256];
+    let n = code.length();
+    code::put_kinds(code, &mut kinds[0..n]);
+    search_kinds(readings, &kinds[0..n], code.m as usize, allowed, bits, word)
+}
+
+// The search over the words of any row of kinds. The walk holds its words in arrays of its own, so
+// that the buffers keep their contents where nothing is found.
+fn search_kinds(
+    readings: &[i16],
+    kinds: &[u8],
+    m: usize,
+    allowed: u32,
+    bits: &mut [u8],
+    word: &mut [u8],
+) -> Searched
+    requires { ⌜ Searchable m (now readings) (now kinds) (now bits) (now word) ⌝ }
+    ensures { λ r. ⌜ told r (now (bits .exit)) (now (word .exit))
+        ≡ answered allowed (now (bits .entry)) (now (word .entry))
+        (answer m (now (kinds .entry)) (now (readings .entry)) allowed) ⌝ }
+{
+    let mut best = [0u8; 256];
+    let mut second = [0u8; 256];
+    let end = walk::walk(readings, kinds, m, allowed, &mut best, &mut second);
+    if end.out {
+        return Searched::Refused(Refusal::OutOfVisits(allowed));
+    }
+    let gap = end.second - end.best;
+    if gap == 0 {
+        return Searched::Refused(Refusal::Tied {
+            penalty: end.best,
+            visits: end.visits,
+        });
+    }
+    put_best(kinds, &mut best, m, bits, word);
+    Searched::Found {
+        penalty: end.best,
+        gap,
+        visits: end.visits,
+    }
+}
+
+// The best word, from the first bytes of an array, and the information bits of its row.
+fn put_best(kinds: &[u8], best: &mut [u8; 256], m: usize, bits: &mut [u8], word: &mut [u8])
+    requires { ⌜ Writable m (now kinds) (take (2 ^ m) (now best)) (now bits) (now word) ⌝ }
+    ensures { λ _. ⌜ Written m (now (kinds .entry)) (take (2 ^ m) (now (best .entry)))
+        (now (bits .exit)) (now (word .exit)) ⌝ }
+{
+    put_front(kinds, best, m, bits, word);
+}
+
+fn put_front(kinds: &[u8], best: &mut [u8], m: usize, bits: &mut [u8], word: &mut [u8])
+    requires { ⌜ (length (now best) ≡ 256) × Writable m (now kinds) (take (2 ^ m) (now best)) (now bits) (now word) ⌝ }
+    ensures { λ _. ⌜ Written m (now (kinds .entry)) (take (2 ^ m) (now (best .entry)))
+        (now (bits .exit)) (now (word .exit)) ⌝ }
+{
+    let n = word.len();
+    put_all(kinds, &mut best[0..n], m, bits, word);
+}
+
+// The transform is its own inverse: it gives the row that a word comes from.
+fn put_all(kinds: &[u8], best: &mut [u8], m: usize, bits: &mut [u8], word: &mut [u8])
+    requires { ⌜ (length (now best) ≡ 2 ^ m) × Writable m (now kinds) (now best) (now bits) (now word) ⌝ }
+    ensures { λ _. ⌜ Written m (now (kinds .entry)) (now (best .entry)) (now (bits .exit)) (now (word .exit)) ⌝ }
+{
+    half::copy(best, word);
+    half::transform(best, m);
+    half::pick(kinds, best, bits);
+}

@@ -1,22 +1,15 @@
 -- `walk::walk` meets its contract.
-use mathlib.Core.Path.{_≡_, sym, ap, _∙_}
-use mathlib.Core.List.{List, []}
-use Prim.Native.Nat.{ℕ, zero, suc, _^_}
-use native.Mathlib.Omega.{arith}
+use mathlib.Core.Path.{ap, _∙_}
+use mathlib.Core.List.{List}
+use Prim.Native.Nat.{_^_}
 use lib.ListN.{take, replicate}
-use Rattle.words.specs.Bits.{Bits}
+use Rattle.words.specs.TransformLaws.{bits-zeros}
 use Rattle.decoding.specs.Walk.{start}
 use Rattle.decoding.specs.Allowance.{walkWithin}
 use Rattle.memory.specs.MemoryLaws.{path-none}
 use Rattle.walk.specs.StepLaws.{start-ready}
 use Rattle.walk.proofs.walk.Statement.{statement}
 use Rattle.walk.proofs.walk.Tie as tie
-
--- an array that starts at zero holds bits
-bits-zeros : (n : ℕ) → Bits (replicate n 0)
-bits-zeros zero i = omega arith
-bits-zeros (suc n) zero = omega arith
-bits-zeros (suc n) (suc i) = bits-zeros n i
 
 frozen-step-requires : tie.Need-frozen-step-requires
 frozen-step-requires c κs = start-ready (c .before .before .before .before .before .pre) _ _ (bits-zeros 256)
