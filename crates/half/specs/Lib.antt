@@ -1,3 +1,4 @@
 pub mod Fold
 pub mod FoldLaws
 pub mod FillLaws
+pub mod Takeable

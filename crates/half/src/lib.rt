@@ -8,6 +8,7 @@ ghost use Rattle.words.specs.Word.{transform};
 ghost use Rattle.words.specs.Kinds.{fill, pick};
 ghost use Rattle.words.specs.Inverse.{firstFrozenOne};
 ghost use Rattle.half.specs.Fold.{folded};
+ghost use Rattle.half.specs.Takeable.{Takeable};
 
 // Adds the second half of a word of 2h bits into the first, modulo 2.
 pub fn fold(word: &mut [u8], h: usize)
@@ -94,4 +95,24 @@ pub fn first_frozen_one(kinds: &[u8], row: &[u8]) -> usize
         i += 1;
     }
     i
+}
+
+// The row u that a word comes from: the transform is its own inverse.
+pub fn put_row(word: &[u8], row: &mut [u8], m: usize)
+    requires { ⌜ (length (now word) ≡ 2 ^ m) × (length (now row) ≡ 2 ^ m) × Bits (now word) ⌝ }
+    ensures { λ _. ⌜ now (row .exit) ≡ transform m (now (word .entry)) ⌝ }
+{
+    copy(word, row);
+    transform(row, m);
+}
+
+// The information bits of a word of at most 256 bits.
+pub fn take_bits(kinds: &[u8], word: &[u8], bits: &mut [u8], m: usize)
+    requires { ⌜ (m ≤ 8) × Takeable m (now kinds) (now word) (now bits) ⌝ }
+    ensures { λ _. ⌜ now (bits .exit) ≡ pick (now (kinds .entry)) (transform m (now (word .entry))) ⌝ }
+{
+    let mut row = [0u8; 256];
+    let n = word.len();
+    put_row(word, &mut row[0..n], m);
+    pick(kinds, &row[0..n], bits);
 }

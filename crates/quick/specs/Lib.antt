@@ -1,2 +1,5 @@
+pub mod Outcome
+pub mod OutcomeLaws
+pub mod PenaltyLaws
 pub mod Engine
 pub mod EngineLaws

@@ -1,11 +1,60 @@
 // The public call: the quick reading.
+use code::Admitted;
+use code::Code;
+use code::Refusal;
 ghost use mathlib.Core.Path.{_≡_};
 ghost use mathlib.Core.List.{_++_};
-ghost use Prim.Native.Nat.{_-_, _^_, _≤_};
-ghost use lib.ListN.{take, drop};
+ghost use Prim.Native.Nat.{_-_, _^_, _≤_, _<_};
+ghost use lib.ListN.{length, take, drop};
+ghost use Rattle.decoding.specs.Readings.{penalty, sizes};
 ghost use Rattle.decoding.specs.Quick.{decide, quickWord};
 ghost use Rattle.rows.specs.Rows.{rowOf};
-ghost use Rattle.quick.specs.Engine.{Sized, Ready, HalfReady};
+ghost use Rattle.quick.specs.Outcome.{done, told, readingBy, reading};
+ghost use Rattle.quick.specs.Engine.{Given, Sized, Ready, HalfReady};
+
+pub enum Read {
+    Done { penalty: u32 },
+    Refused(Refusal),
+}
+
+// Reads the readings by halves: writes the information bits and the word, and tells the penalty.
+pub fn quick(r: u32, m: u32, readings: &[i16], bits: &mut [u8], word: &mut [u8]) -> Read
+    ensures { λ answer. ⌜ told answer (now (bits .exit)) (now (word .exit))
+        ≡ reading r m (now (readings .entry)) (now (bits .entry)) (now (word .entry)) ⌝ }
+{
+    match code::admit(r, m, readings, bits.len(), word.len()) {
+        Admitted::Refused(why) => Read::Refused(why),
+        Admitted::Allowed(code) => {
+            let penalty = take_reading(code, readings, bits, word);
+            Read::Done { penalty }
+        }
+    }
+}
+
+// The work, once no test refuses.
+fn take_reading(code: Code, readings: &[i16], bits: &mut [u8], word: &mut [u8]) -> u32
+    requires { ⌜ Given code (now readings) (now bits) (now word) ⌝ }
+    ensures { λ penalty. ⌜ done penalty (now (bits .exit)) (now (word .exit)) ≡ readingBy code (now (readings .entry)) ⌝ }
+{
+    let mut kinds = [0u8; 256];
+    let n = code.length();
+    let m = code.m as usize;
+    code::put_kinds(code, &mut kinds[0..n]);
+    quick_word(readings, &kinds[0..n], word, m);
+    half::take_bits(&kinds[0..n], word, bits, m);
+    penalty(readings, word)
+}
+
+fn penalty(readings: &[i16], word: &[u8]) -> u32
+    requires { ⌜ (length (now word) ≡ length (now readings)) × (sizes (now readings) < 2 ^ 31) ⌝ }
+    ensures { λ p. ⌜ p ≡ penalty (now (readings .entry)) (now (word .entry)) ⌝ }
+{
+    let mut sum = 0u32;
+    for j in 0..word.len() {
+        sum += rows::loss(readings[j] as i32, word[j]);
+    }
+    sum
+}
 
 // At one position: 0 at a frozen index, else the bit that the value speaks for.
 fn decide(kind: u8, value: i32) -> u8

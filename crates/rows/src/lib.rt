@@ -1,10 +1,10 @@
-// The two combining steps, on one pair and over rows.
+// The two combining steps, on one pair and over rows; what a bit loses at a value.
 // Rows of running sums stand in one scratch array, the row of n sums at [n .. 2n].
 ghost use mathlib.Core.Path.{_≡_};
 ghost use Prim.Native.Nat.{_+_, _^_, _≤_, _<_};
 ghost use lib.IntN.{pos, natAbs};
 ghost use lib.ListN.{length, take};
-ghost use Rattle.decoding.specs.Readings.{sizes};
+ghost use Rattle.decoding.specs.Readings.{loss, sizes};
 ghost use Rattle.decoding.specs.Quick.{lower, upper, lowerRow, upperRow};
 ghost use Rattle.rows.specs.Rows.{rowOf, withRow};
 
@@ -36,6 +36,23 @@ pub fn upper(x: i32, y: i32, a: u8) -> i32
     ensures { λ r. ⌜ r ≡ upper x y a ⌝ }
 {
     if a == 0 { y + x } else { y - x }
+}
+
+// The size of a value that the bit contradicts, else 0.
+pub fn loss(value: i32, bit: u8) -> u32
+    requires { ⌜ natAbs value < 2 ^ 31 ⌝ }
+    ensures { λ p. ⌜ p ≡ loss value bit ⌝ }
+{
+    if bit == 0 {
+        if value < 0 {
+            return (-value) as u32;
+        }
+        return 0;
+    }
+    if value < 0 {
+        return 0;
+    }
+    value as u32
 }
 
 // The row of h sums for the lower half, from the row of 2h sums.

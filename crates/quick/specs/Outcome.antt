@@ -1,0 +1,50 @@
+-- What `quick` tells and leaves, for all that it can be given, in 01's numbers ("Refusal numbers and their order").
+use mathlib.Core.List.{List}
+use Prim.Native.Nat.{ℕ}
+use lib.IntN.{ℤ}
+use lib.ListN.{length}
+use Rattle.words.specs.Kinds.{kinds}
+use Rattle.decoding.specs.Quick.{quickWord, quickBits, quickPenalty}
+use Rattle.code.specs.declared.Code.{Code}
+use Rattle.code.specs.declared.Refusal.{Refusal}
+use Rattle.code.specs.declared.Admitted.{Admitted}
+use Rattle.code.specs.declared.Admitted.the-variants as admission
+use Rattle.code.specs.Sound.{numberOf, placeOf, penaltyOf}
+use Rattle.code.specs.Admitted.{admitted}
+use Rattle.quick.specs.declared.Read.{Read}
+use Rattle.quick.specs.declared.Read.the-variants.{Done, Refused}
+
+pub record Outcome : Type 0 where
+  -- 0 where the call is done, else the refusal's number
+  pub number : ℕ
+  -- the place that 4 carries, else 0
+  pub place : ℕ
+  -- the word's penalty, else 0
+  pub penalty : ℕ
+  -- the lent buffers as the call leaves them
+  pub bits : List ℕ
+  pub word : List ℕ
+
+abbrev pub done : ℕ → List ℕ → List ℕ → Outcome
+done penalty bits word = record { number = 0; place = 0; penalty = penalty; bits = bits; word = word }
+
+-- the buffers keep their contents
+abbrev pub refused : Refusal → List ℕ → List ℕ → Outcome
+refused why bits word = record { number = numberOf why; place = placeOf why; penalty = penaltyOf why; bits = bits; word = word }
+
+-- the answer in 01's numbers
+abbrev pub told : Read → List ℕ → List ℕ → Outcome
+told (Done penalty) = done penalty
+told (Refused why) = refused why
+
+-- the written steps, where no test refuses
+abbrev pub readingBy : Code → List ℤ → Outcome
+readingBy c l = let ks = kinds (c .r) (c .m) in done (quickPenalty (c .m) ks l) (quickBits (c .m) ks l) (quickWord (c .m) ks l)
+
+abbrev pub afterTests : Admitted → List ℤ → List ℕ → List ℕ → Outcome
+afterTests (admission.Allowed c) l bits word = readingBy c l
+afterTests (admission.Refused why) l bits word = refused why bits word
+
+-- of r, m, the readings, and the buffers for the information bits and the word
+unfoldable pub reading : ℕ → ℕ → List ℤ → List ℕ → List ℕ → Outcome
+reading r m l bits word = afterTests (admitted r m l (length bits) (length word)) l bits word

@@ -1,0 +1,73 @@
+-- The outcome at each place where `quick` returns, and what the work between asks.
+use mathlib.Core.Path.{_≡_, ap, sym, _∙_}
+use mathlib.Core.List.{List}
+use Prim.Native.Nat.{ℕ, _-_, _*_, _^_, _≤_}
+use native.Mathlib.Omega.{arith}
+use lib.IntN.{ℤ}
+use lib.ListN.{length}
+use borrow.Rule.Slice.PartMut.{midOf, putMid}
+use Rattle.numbers.specs.Lent.{lent-again}
+use Rattle.words.specs.Word.{transform}
+use Rattle.words.specs.Kinds.{kinds, pick}
+use Rattle.words.specs.KindLaws.{length-kinds, sum-kinds, bits-kinds}
+use Rattle.decoding.specs.Readings.{penalty, sizes}
+use Rattle.decoding.specs.StepLaws.{sizes-within}
+use Rattle.decoding.specs.Quick.{quickWord, quickBits, quickPenalty}
+use Rattle.decoding.specs.QuickLaws.{length-quick, bits-quick}
+use Rattle.code.specs.declared.Code.{Code}
+use Rattle.code.specs.declared.Refusal.{Refusal}
+use Rattle.code.specs.declared.Admitted.the-variants.{Allowed, Refused}
+use Rattle.code.specs.Sound.{largestReading}
+use Rattle.code.specs.SoundLaws.{length-most}
+use Rattle.code.specs.Admitted.{admitted}
+use Rattle.code.specs.AdmittedLaws.{Allows}
+use Rattle.half.specs.Takeable.{Takeable}
+use Rattle.quick.specs.Engine.{Given}
+use Rattle.quick.specs.Outcome.{Outcome, done, refused, readingBy, reading}
+
+-- ---- the tests
+module _ (r m : ℕ) (l : List ℤ) (bits word : List ℕ) where
+  pub reading-refused : (why : Refusal) → Refused why ≡ admitted r m l (length bits) (length word) → refused why bits word ≡ reading r m l bits word
+  unfolding reading
+  reading-refused why e = rw (← e)
+
+  pub reading-done : (c : Code) (o : Outcome) → Allowed c ≡ admitted r m l (length bits) (length word) → o ≡ readingBy c l → o ≡ reading r m l bits word
+  unfolding reading
+  reading-done c o e f = rw (← e) f
+
+  -- no running sum of 256 readings is above 524,032
+  pub given : (c : Code) → Allows r m l (length bits) (length word) c → Given c l bits word
+  given c a =
+      let most : sizes l ≤ length l * largestReading = sizes-within largestReading l (a .within) in
+      record {
+        sound = a .code .sound;
+        long-bits = a .bits;
+        long-word = a .word;
+        long-row = a .long;
+        small = omega (arith, most, a .long, length-most (a .code .sound));
+      }
+
+-- ---- the work: a scratch array z whose front, of n bytes, came back as the kinds k
+module _ (c : Code) (l : List ℤ) (n : ℕ) (e : n ≡ 2 ^ c .m) (z k : List ℕ) (is : k ≡ kinds (c .r) (c .m)) where
+  kinds-read : midOf 0 (n - 0) (putMid 0 (n - 0) z k) ≡ kinds (c .r) (c .m)
+  kinds-read = lent-again n z k (ap length is ∙ length-kinds (c .r) (c .m) ∙ sym e) ∙ is
+
+  module _ (w : List ℕ) (quick : w ≡ quickWord (c .m) (midOf 0 (n - 0) (putMid 0 (n - 0) z k)) l) where
+    word-is : w ≡ quickWord (c .m) (kinds (c .r) (c .m)) l
+    word-is = quick ∙ ap (λ (ks : List ℕ). quickWord (c .m) ks l) kinds-read
+
+    pub take-asked : (bits word : List ℕ) → Given c l bits word → Takeable (c .m) (midOf 0 (n - 0) (putMid 0 (n - 0) z k)) w bits
+    take-asked bits word g =
+        let ks = kinds (c .r) (c .m) in
+        rw (kinds-read, word-is)
+        (record {
+          long-kinds = length-kinds (c .r) (c .m);
+          long-word = length-quick (c .m) ks l;
+          long-bits = g .long-bits ∙ sym (sum-kinds (c .r) (c .m));
+          bits-kinds = bits-kinds (c .r) (c .m);
+          bits-word = bits-quick (c .m) ks l;
+        })
+
+    pub all-read : (b : List ℕ) (p : ℕ) → b ≡ pick (midOf 0 (n - 0) (putMid 0 (n - 0) z k)) (transform (c .m) w) → p ≡ penalty l w → done p b w ≡ readingBy c l
+    unfolding quickBits quickPenalty
+    all-read b p f h = rw (h, f, kinds-read, word-is)
