@@ -1,23 +1,21 @@
 -- Readings negated by the all-ones word, that is all of them: the walk holds the same penalties and makes the same visits, with no premise on values.
 -- Only the value at the last index changes its sign, and there the first extension costs nothing and the second the value's size, either way.
 use mathlib.Core.Path.{_≡_, refl, ap, ap₂, sym, _∙_}
-use mathlib.Core.Logic.{⊎-elim}
 use mathlib.Core.List.{List, [], _∷_, _++_, map}
 use Prim.Native.Nat.{ℕ, zero, suc, _+_, _-_, _^_, _%_, _≤_, _<_}
 use native.Mathlib.Omega.{arith}
-use native.Mathlib.Nat.{suc-inj, suc-ne-zero, not-suc-le-zero, le-of-suc-le-suc, zero-add, add-zero, two-pow-succ}
-use lib.ListN.{length, getD, replicate, length-replicate, replicate-append-replicate, List·getD-append, List·getD-eq-default}
-use lib.Seq.{take-at, drop-at, getD-append-add}
+use native.Mathlib.Nat.{suc-inj, suc-ne-zero, not-suc-le-zero, le-of-suc-le-suc, zero-add, add-zero}
+use lib.ListN.{length, getD, replicate}
 use lib.IntN.{ℤ, pos, negsuc, natAbs, negℤ}
-use Rattle.numbers.specs.Choice.{cond-two, lt-or-le}
+use Rattle.numbers.specs.Choice.{cond-two}
 use Rattle.numbers.specs.Halves.{length-more}
-use Rattle.words.specs.Bits.{Bits, xors}
+use Rattle.words.specs.Bits.{Bits}
 use Rattle.words.specs.Word.{transform}
-use Rattle.words.specs.Kinds.{kind, kinds, Word}
-use Rattle.words.specs.TransformLaws.{length-xors, getD-xors, bits-more, length-transform, bits-transform, transform-twice}
-use Rattle.words.specs.InverseLaws.{word-length, word-bits, word-frozen, frozen-word}
-use Rattle.words.specs.BitLaws.{ones-last}
-use Rattle.words.specs.KindLaws.{kind-information, length-kinds, kinds-at, bits-kinds}
+use Rattle.words.specs.Kinds.{Word, allOnes}
+use Rattle.words.specs.TransformLaws.{bits-more, length-transform, bits-transform, transform-twice}
+use Rattle.words.specs.BitLaws.{ones-early}
+use Rattle.words.specs.HalfLaws.{below-ones}
+use Rattle.words.specs.InverseLaws.{word-length, word-bits, word-frozen}
 use Rattle.decoding.specs.Readings.{loss, turn, turns}
 use Rattle.decoding.specs.Quick.{hard}
 use Rattle.decoding.specs.Walk.{value, State, start, dropped, visited, finished, extend, walk, walked, needed}
@@ -104,33 +102,17 @@ module _ (m : ℕ) (l : List ℤ) (v : List ℕ) (e : length l ≡ 2 ^ m) (f : l
       ∙ walk-early (j ∷ ks) (u ++ b ∷ []) q t t′ (omega (arith, length-more u b)) (bits-more u b h i) (later v u b (suc k) (j ∷ ks) frozen) w)
 
 -- ---- the row of the all-ones word is such a row
-abbrev pub allOnes : ℕ → List ℕ
-allOnes m = replicate (2 ^ m) 1
+zero-early : (m i : ℕ) → suc i < 2 ^ m → getD (transform m (allOnes m)) i 0 ≡ 0
+zero-early m i h = below-ones m .frozen i (omega arith) (omega (arith, ones-early m i h))
 
+-- and the readings are all negated
 pub turns-ones : (n : ℕ) (l : List ℤ) → length l ≡ n → turns (replicate n 1) l ≡ map negℤ l
 turns-ones zero [] e = refl
 turns-ones zero (r ∷ l) e = absurd (suc-ne-zero (length l) e)
 turns-ones (suc n) [] e = absurd (suc-ne-zero n (sym e))
 turns-ones (suc n) (r ∷ l) e = ap (λ (k : List ℤ). negℤ r ∷ k) (turns-ones n l (suc-inj e))
 
-ones-early : (m i : ℕ) → suc i < 2 ^ m → getD (transform m (allOnes m)) i 0 ≡ 0
-unfolding transform
-ones-early zero i h = absurd (omega arith)
-ones-early (suc m) i h =
-    let t = transform m (allOnes m) in
-    let long : length t ≡ 2 ^ m = length-transform m (allOnes m) (length-replicate (2 ^ m) 1) in
-    let twice = length-xors t t refl ∙ long in
-    let halves : allOnes (suc m) ≡ allOnes m ++ allOnes m =
-    ap (λ (n : ℕ). replicate n 1) (two-pow-succ m) ∙ sym (replicate-append-replicate (2 ^ m) (2 ^ m) 1) in
-    rw (halves, take-at (allOnes m) (allOnes m) (2 ^ m) (length-replicate (2 ^ m) 1), drop-at (allOnes m) (allOnes m) (2 ^ m) (length-replicate (2 ^ m) 1))
-    (⊎-elim
-    (λ k. List·getD-append (xors t t) t 0 i (omega arith) ∙ getD-xors t t i refl ∙ omega arith)
-    (λ k.
-    let place : i ≡ length (xors t t) + (i - 2 ^ m) = omega arith in
-    ap (λ (n : ℕ). getD (xors t t ++ t) n 0) place ∙ getD-append-add (xors t t) t (i - 2 ^ m) 0 ∙ ones-early m (i - 2 ^ m) (omega (arith, two-pow-succ m)))
-    (lt-or-le i (2 ^ m)))
-
--- all readings negated, where the all-ones word is a word of the set
+-- where the all-ones word is a word of the set
 module _ (m : ℕ) (ks : List ℕ) (l : List ℤ) (g : length ks ≡ 2 ^ m) (e : length l ≡ 2 ^ m) (w : Word m ks (allOnes m)) where
   pub walked-negated : bare (walked m ks (turns (allOnes m) l)) ≡ bare (walked m ks l)
   unfolding walked
@@ -139,30 +121,9 @@ module _ (m : ℕ) (ks : List ℕ) (l : List ℤ) (g : length ks ≡ 2 ^ m) (e :
       let long = word-length m ks (allOnes m) g w in
       let bits = word-bits m ks (allOnes m) g w in
       ap (λ (c : List ℕ). bare (walk m (turns c l) ks [] 0 start)) (sym (transform-twice m (allOnes m) long bits))
-      ∙ walk-early m l v e (length-transform m (allOnes m) long) (bits-transform m (allOnes m) bits) (ones-early m) ks [] 0 start start
+      ∙ walk-early m l v e (length-transform m (allOnes m) long) (bits-transform m (allOnes m) bits) (zero-early m) ks [] 0 start start
       (omega arith) (λ i. omega arith) (λ i k. rw zero-add (word-frozen m ks (allOnes m) g w i k)) refl
 
   -- the same visits
   pub needed-negated : needed m ks (turns (allOnes m) l) ≡ needed m ks l
   needed-negated = ap (λ (s : State). s .visits) walked-negated
-
--- in every RM(r,m) it is: the last index has m ones, so it carries information
-bits-ones : (n : ℕ) → Bits (replicate n 1)
-bits-ones zero i = omega arith
-bits-ones (suc n) zero = omega arith
-bits-ones (suc n) (suc i) = bits-ones n i
-
-pub all-ones-word : (r m : ℕ) → Word m (kinds r m) (allOnes m)
-all-ones-word r m =
-    let v = transform m (allOnes m) in
-    let long : length (allOnes m) ≡ 2 ^ m = length-replicate (2 ^ m) 1 in
-    let last : kind r m (2 ^ m - 1) ≡ 1 = kind-information r m (2 ^ m - 1) (omega (arith, ones-last m)) in
-    let late : (i : ℕ) → 2 ^ m ≤ suc i → getD (kinds r m) i 0 ≡ 0 → getD v i 0 ≡ 0 = λ i h z.
-    ⊎-elim
-    (λ k.
-    let place : i ≡ 2 ^ m - 1 = omega arith in
-    absurd (omega (arith, sym z ∙ kinds-at r m i k ∙ ap (kind r m) place ∙ last)))
-    (λ k. List·getD-eq-default v 0 {n = i} (rw (length-transform m (allOnes m) long) k))
-    (lt-or-le i (2 ^ m)) in
-    frozen-word m (kinds r m) (allOnes m) (length-kinds r m) (bits-kinds r m) long (bits-ones (2 ^ m))
-    (λ i z. ⊎-elim (ones-early m i) (λ h. late i h z) (lt-or-le (suc i) (2 ^ m)))

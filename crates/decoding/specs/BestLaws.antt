@@ -15,13 +15,9 @@ use Rattle.numbers.specs.Least.{least, next}
 use Rattle.numbers.specs.LeastLaws.{upto, least-two, least-le-next}
 use Rattle.numbers.specs.EntryLaws.{least-below, least-entry, first-with, counted-once, once-counted}
 use Rattle.words.specs.Bits.{Bits}
-use Rattle.words.specs.Kinds.{allBits}
+use Rattle.words.specs.Kinds.{allBits, InformationBits}
 use Rattle.words.specs.FillLaws.{length-allBits, in-allBits, of-allBits, distinct-allBits}
 use Rattle.decoding.specs.Best.{penaltyOf, penalties, leastPenalty, gap, bestBits}
-
--- k bits, one for each information index
-abbrev pub InformationBits : List ℕ → List ℕ → Type 0
-InformationBits ks b = (length b ≡ sum ks) × Bits b
 
 module _ (m : ℕ) (ks : List ℕ) (l : List ℤ) where
   -- ---- the list of all words' penalties

@@ -7,13 +7,11 @@ use Prim.Native.Nat.{ℕ, _+_, _≤_, _<_}
 use lib.ListN.{length}
 use lib.IntN.{ℤ, negℤ}
 use Rattle.words.specs.Bits.{xors}
-use Rattle.words.specs.Kinds.{encoded, Word}
+use Rattle.words.specs.Kinds.{encoded, InformationBits, Word, allOnes}
 use Rattle.decoding.specs.Readings.{penalty, turns, Within}
 use Rattle.decoding.specs.Best.{penaltyOf}
 use Rattle.decoding.specs.Walk.{start, needed, NeverZero}
 use Rattle.decoding.specs.Answer.{Answer, found, tied, outOfVisits, answer}
-use Rattle.decoding.specs.BestLaws.{InformationBits}
-use Rattle.decoding.specs.AllOnes.{allOnes}
 
 -- ---- Demand 2: the search gives the best word, or says exactly why not
 -- the bits b give the word x of penalty p; every other word's penalty is at least p + g, which one has; g is above 0, so x is the only word with p or less

@@ -9,20 +9,21 @@ use lib.IntN.{ℤ}
 use Rattle.numbers.specs.Choice.{lt-or-le}
 use Rattle.numbers.specs.Sums.{sum}
 use Rattle.words.specs.Bits.{Bits}
-use Rattle.words.specs.Kinds.{kinds, encoded, Word}
+use Rattle.words.specs.Kinds.{kinds, encoded, InformationBits, Word, allOnes}
 use Rattle.words.specs.KindLaws.{length-kinds, bits-kinds, sum-kinds-pos}
+use Rattle.words.specs.HalfLaws.{word-ones}
 use Rattle.words.specs.InverseLaws.{word-length}
 use Rattle.decoding.specs.Readings.{penalty, turns}
 use Rattle.decoding.specs.Best.{penaltyOf, leastPenalty, gap, bestBits, bestWord}
 use Rattle.decoding.specs.Walk.{State, start, needed, NeverZero}
 use Rattle.decoding.specs.Answer.{Answer, found, tied, outOfVisits, answer}
-use Rattle.decoding.specs.BestLaws.{InformationBits, none-less, best-bits-are, best-attains, best-only, others-more}
+use Rattle.decoding.specs.BestLaws.{none-less, best-bits-are, best-attains, best-only, others-more}
 use Rattle.decoding.specs.WalkLaws.{BestTwo, best-two}
 use Rattle.decoding.specs.AnswerLaws.{answer-out, answer-tied, answer-found}
 use Rattle.decoding.specs.TurnLaws.{length-turns, within-turns}
 use Rattle.decoding.specs.TurnedBest.{least-turned, gap-turned, bestBits-turned, bestWord-turned}
 use Rattle.decoding.specs.TurnedWalk.{walked-turned}
-use Rattle.decoding.specs.AllOnes.{allOnes, turns-ones, needed-negated, all-ones-word}
+use Rattle.decoding.specs.AllOnes.{turns-ones, needed-negated}
 use Rattle.decoding.specs.Demands.{BestFound, BestTied, Demand2, Together, both-tied, both-found, plusWord, Demand3, Demand3AllOnes, Demands}
 
 -- ---- Demand 2
@@ -225,5 +226,5 @@ module _ (r m : ℕ) (l : List ℤ) (e : length l ≡ 2 ^ m) where
   pub demands-code : Demands m (kinds r m) l
   demands-code = demands m (kinds r m) l e (length-kinds r m) (bits-kinds r m) (sum-kinds-pos r m)
 
-  pub negated-code : Demand3AllOnes m (kinds r m) l (all-ones-word r m .bits)
-  negated-code = demands-code .demand-3-all-ones (all-ones-word r m)
+  pub negated-code : Demand3AllOnes m (kinds r m) l (word-ones r m .bits)
+  negated-code = demands-code .demand-3-all-ones (word-ones r m)

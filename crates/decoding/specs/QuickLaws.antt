@@ -13,8 +13,7 @@ use Rattle.numbers.specs.Choice.{lt-or-le}
 use Rattle.numbers.specs.Sums.{sum}
 use Rattle.words.specs.Bits.{Bits, xors}
 use Rattle.words.specs.Word.{transform}
-use Rattle.words.specs.Kinds.{encoded, Word}
-use Rattle.words.specs.Rows.{Frozen}
+use Rattle.words.specs.Kinds.{encoded, Frozen, Word}
 use Rattle.words.specs.TransformLaws.{length-xors, xors-twice, bits-xors, bits-append, length-transform, bits-transform, transform-xors, transform-twice}
 use Rattle.words.specs.FillLaws.{length-pick, bits-pick, fill-pick}
 use Rattle.decoding.specs.Quick.{lowerRow, upperRow, decide, quickWord, quickBits, quickPenalty}

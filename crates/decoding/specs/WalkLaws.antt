@@ -20,16 +20,15 @@ use Rattle.numbers.specs.LeastLaws.{Reordered, length-reordered, least-two-reor
 use Rattle.numbers.specs.EntryLaws.{Distinct, distinct-append, map-same}
 use Rattle.words.specs.Bits.{Bits}
 use Rattle.words.specs.Word.{transform}
-use Rattle.words.specs.Kinds.{fill, pick, allBits}
-use Rattle.words.specs.Rows.{Frozen, rowsOf}
+use Rattle.words.specs.Kinds.{fill, pick, allBits, InformationBits, Frozen}
 use Rattle.words.specs.TransformLaws.{bits-more}
-use Rattle.words.specs.FillLaws.{fill-allBits, of-rowsOf, fill-pick, length-pick, bits-pick}
+use Rattle.words.specs.FillLaws.{rowsOf, fill-allBits, of-rowsOf, fill-pick, length-pick, bits-pick}
 use Rattle.decoding.specs.Readings.{loss, penalty}
 use Rattle.decoding.specs.Quick.{hard}
 use Rattle.decoding.specs.Best.{penaltyOf, penalties, leastPenalty, gap, bestBits, bestWord}
 use Rattle.decoding.specs.Walk.{value, addedBy, pathPenalty, Full, Held, none, two, State, start, dropped, visited, extend, walk, walked}
 use Rattle.decoding.specs.PathLaws.{path-more, path-full, hard-bit}
-use Rattle.decoding.specs.BestLaws.{InformationBits, two-penalties, next-penalty, best-only}
+use Rattle.decoding.specs.BestLaws.{two-penalties, next-penalty, best-only}
 use Rattle.decoding.specs.OfferLaws.{penaltiesOf, pathsOf, offers, offers-append, offers-dropped, two-held, offers-least, offers-each, offers-apart}
 
 -- ---- all full paths below the path u of penalty p, in the walk's order

@@ -9,11 +9,11 @@ use lib.ListN.{length}
 use Rattle.words.specs.Bits.{Bits}
 use Rattle.words.specs.Word.{transform}
 use Rattle.words.specs.Kinds.{kinds, dimension, fill, encoded, Word}
-use Rattle.words.specs.Inverse.{TakenBack, taken, frozenOne, takenBack}
+use Rattle.words.specs.Inverse.{TakenBack, taken, frozenOne, takenBack, LowestFrozenOne}
 use Rattle.words.specs.TransformLaws.{length-transform, bits-transform}
 use Rattle.words.specs.KindLaws.{length-kinds, bits-kinds, sum-kinds}
 use Rattle.words.specs.FillLaws.{length-fill, bits-fill}
-use Rattle.words.specs.InverseLaws.{LowestFrozenOne, taken-encoded, taken-gives, lowest-refused, refused-no-word, no-word-refused}
+use Rattle.words.specs.InverseLaws.{taken-encoded, taken-gives, lowest-refused, refused-no-word, no-word-refused}
 use Rattle.encode.specs.Outcome.{Outcome, done, refused, encoding, inverting, takingBack}
 use Rattle.encode.specs.OutcomeLaws.{Passes, passes, passes-all}
 

@@ -53,14 +53,6 @@ pub ones-second : (m i : ℕ) → i < 2 ^ m → ones (suc m) (2 ^ m + i) ≡ suc
 unfolding ones
 ones-second m i h = omega (arith, digit-second m i h, ones-alike m (2 ^ m + i) i (second-alike m i))
 
--- the last index has ones only
-pub ones-last : (m : ℕ) → ones m (2 ^ m - 1) ≡ m
-unfolding ones
-ones-last zero = refl
-ones-last (suc m) =
-    let place : 2 ^ suc m - 1 ≡ 2 ^ m + (2 ^ m - 1) = omega (arith, two-pow-succ m, pow-pos m) in
-    ap (ones (suc m)) place ∙ ones-second m (2 ^ m - 1) (omega (arith, pow-pos m)) ∙ ap suc (ones-last m)
-
 -- a fact of every index of the first half and of every index of the second half is one of every index
 pub by-halves : (P : ℕ → Type 0) (m : ℕ) → ((i : ℕ) → i < 2 ^ m → P i) → ((i : ℕ) → i < 2 ^ m → P (2 ^ m + i))
     → (i : ℕ) → i < 2 ^ suc m → P i
@@ -70,6 +62,16 @@ by-halves P m f g i h =
     let e : 2 ^ m + (i - 2 ^ m) ≡ i = omega arith in
     subst P e (g (i - 2 ^ m) (omega (arith, two-pow-succ m))))
     (lt-or-le i (2 ^ m))
+
+-- every index but the last has a bit that is 0
+pub ones-early : (m i : ℕ) → suc i < 2 ^ m → ones m i < m
+unfolding ones
+ones-early zero i h = absurd (omega arith)
+ones-early (suc m) i h =
+    by-halves (λ (n : ℕ). suc n < 2 ^ suc m → ones (suc m) n < suc m) m
+    (λ n k l. omega (arith, ones-first m n k, ones-most m n))
+    (λ n k l. omega (arith, ones-second m n k, ones-early m n (omega (arith, two-pow-succ m))))
+    i (omega arith) h
 
 -- the count of ones that the machine has an instruction for
 pub ones-counted : (m i : ℕ) → i < 2 ^ m → Count.ones i ≡ ones m i

@@ -6,19 +6,19 @@ use mathlib.Core.List.{List, [], _∷_, _++_}
 use Prim.Native.Nat.{ℕ, zero, suc, _+_, _-_, _*_, _^_, _%_, _≤_, _<_}
 use native.Mathlib.Omega.{arith}
 use native.Mathlib.Nat.{suc-ne-zero, two-pow-succ, mul-le-mul-right, le-of-mul-le-mul-right, sub-zero, suc-sub-suc}
-use lib.ListN.{length, getD, take, drop, replicate, length-replicate, take-append-drop, replicate-append-replicate, getD-replicate}
+use lib.ListN.{length, take, drop, replicate, take-append-drop, replicate-append-replicate}
 use lib.Pow.{pow-pos, pow-add}
 use lib.Dec.{eqb}
 use Rattle.numbers.specs.Sums.{sum}
 use Rattle.numbers.specs.SumsLaws.{sum-append, sum-zeros}
 use Rattle.numbers.specs.Halves.{length-first, length-second}
-use Rattle.words.specs.Bits.{Bits, xors, ones}
-use Rattle.words.specs.Kinds.{kinds, Word}
+use Rattle.words.specs.Bits.{Bits, xors}
+use Rattle.words.specs.Kinds.{kinds, Word, allOnes}
 use Rattle.words.specs.Distance.{weight, distance}
-use Rattle.words.specs.TransformLaws.{xors-comm, xors-twice, xors-self, xors-zeros, bits-take, bits-drop, bits-more, bits-zeros, transform-zeros}
+use Rattle.words.specs.TransformLaws.{xors-twice, xors-self, xors-zeros, bits-take, bits-drop}
 use Rattle.words.specs.KindLaws.{length-kinds}
 use Rattle.words.specs.InverseLaws.{word-length, word-bits, word-xors}
-use Rattle.words.specs.HalfLaws.{Below, word-below, below-word, below-first, below-second, below-joined, below-zero}
+use Rattle.words.specs.HalfLaws.{Below, word-below, below-word, below-first, below-second, below-joined, below-zero, below-zeros, below-ones}
 
 -- ---- sums of rows
 weight-xors : (x y : List ℕ) → weight (xors x y) ≤ weight x + weight y
@@ -116,16 +116,9 @@ distance-least r m x y h v w z =
     (λ k. z (alike (2 ^ m) x y (word-length m ks x e v) (word-length m ks y e w) bx by k)))
 
 -- ---- and one with as many
-below-zeros : (d m : ℕ) → Below d m (replicate (2 ^ m) 0)
-below-zeros d m = record {
-  long = length-replicate (2 ^ m) 0;
-  are-bits = bits-zeros (2 ^ m);
-  frozen = λ i h k. ap (λ (u : List ℕ). getD u i 0) (transform-zeros m) ∙ getD-replicate (2 ^ m) i 0 0 h;
-}
-
 -- all ones for r = 0, else a lightest row of RM(r-1,m-1) and zeros
 unfoldable pub lightest : ℕ → ℕ → List ℕ
-lightest zero m = replicate (2 ^ m) 1
+lightest zero m = allOnes m
 lightest (suc r) zero = []
 lightest (suc r) (suc m) = lightest r m ++ replicate (2 ^ m) 0
 
@@ -143,15 +136,8 @@ weight-lightest (suc r) (suc m) h =
     (sum-append (lightest r m) (replicate (2 ^ m) 0) ∙ omega (arith, weight-lightest r m (omega arith), sum-zeros (2 ^ m)))
 
 below-lightest : (r m : ℕ) → r ≤ m → Below (suc r) m (lightest r m)
-unfolding lightest ones
-below-lightest zero zero h = record { long = refl; are-bits = bits-more [] 1 (λ i. omega arith) (omega arith); frozen = λ i k l. absurd (omega arith) }
-below-lightest zero (suc m) h =
-    let full : List ℕ = replicate (2 ^ m) 1 in
-    let g : Below 1 m full = below-lightest 0 m (omega arith) in
-    let twice : xors (replicate (2 ^ m) 0) full ++ full ≡ replicate (2 ^ suc m) 1 =
-    ap (λ (l : List ℕ). l ++ full) (xors-comm (replicate (2 ^ m) 0) full ∙ xors-zeros (2 ^ m) full (g .long) (g .are-bits))
-    ∙ replicate-append-replicate (2 ^ m) (2 ^ m) 1 ∙ ap (λ (n : ℕ). replicate n 1) (sym (two-pow-succ m)) in
-    subst (Below 1 (suc m)) twice (below-joined 1 m (replicate (2 ^ m) 0) full (below-zeros 0 m) g)
+unfolding lightest
+below-lightest zero m h = below-ones m
 below-lightest (suc r) zero h = absurd (omega arith)
 below-lightest (suc r) (suc m) h =
     let a = lightest r m in

@@ -1,7 +1,7 @@
 -- Laws of information bits and the rows they fill, for every row of kinds: there and back, linear, and that all bits fill all rows.
 use mathlib.Core.Path.{_≡_, refl, ap, ap₂, sym, subst, _∙_}
 use mathlib.Core.Logic.{⊎-elim}
-use mathlib.Core.List.{List, [], _∷_, _++_, map, map-map, map-append, Memᴰ·cast, Memᴰ·append-left, Memᴰ·append-right, Memᴰ·map, Memᴰ·of-map}
+use mathlib.Core.List.{List, [], _∷_, _++_, map, map-map, map-append, Memᴰ·append-left, Memᴰ·append-right, Memᴰ·map, Memᴰ·of-map}
 use mathlib.Core.List.{List·Memᴰ, List·Memᴰ·head, List·Memᴰ·append-cases, List·Memᴰ·eq-of-singleton, List·Memᴰ·not-nil, head-eq-of-cons-eq, tail-eq-of-cons-eq}
 use Prim.Native.Nat.{ℕ, zero, suc, _+_, _^_, _%_, _<_}
 use native.Mathlib.Omega.{arith}
@@ -10,8 +10,7 @@ use lib.ListN.{length, replicate, length-append, length-map}
 use Rattle.numbers.specs.Sums.{sum}
 use Rattle.numbers.specs.EntryLaws.{Distinct, distinct-append, distinct-map}
 use Rattle.words.specs.Bits.{Bits, xors}
-use Rattle.words.specs.Kinds.{fill, pick, allBits}
-use Rattle.words.specs.Rows.{Frozen, rowsOf}
+use Rattle.words.specs.Kinds.{fill, pick, allBits, Frozen}
 
 -- ---- lengths and entries
 pub length-fill : (ks b : List ℕ) → length (fill ks b) ≡ length ks
@@ -139,6 +138,11 @@ distinct-allBits (suc k) =
     suc-ne-zero 0 (head-eq-of-cons-eq (q .2 ∙ sym (p .2))))
 
 -- ---- all information bits fill all rows that are 0 at every frozen index, in the same order
+unfoldable pub rowsOf : List ℕ → List (List ℕ)
+rowsOf [] = [] ∷ []
+rowsOf (zero ∷ ks) = map (λ u. 0 ∷ u) (rowsOf ks)
+rowsOf (suc k ∷ ks) = map (λ u. 0 ∷ u) (rowsOf ks) ++ map (λ u. 1 ∷ u) (rowsOf ks)
+
 pub fill-allBits : (ks : List ℕ) → Bits ks → map (fill ks) (allBits (sum ks)) ≡ rowsOf ks
 unfolding sum allBits rowsOf
 fill-allBits [] h = refl
@@ -151,11 +155,6 @@ fill-allBits (suc zero ∷ ks) h =
     λ a. map-map (fill (1 ∷ ks)) (λ u. a ∷ u) all ∙ sym (map-map (λ u. a ∷ u) (fill ks) all) ∙ ap (map (λ u. a ∷ u)) (fill-allBits ks (λ i. h (suc i))) in
     rw e (map-append (fill (1 ∷ ks)) (map (λ u. 0 ∷ u) all) (map (λ u. 1 ∷ u) all) ∙ ap₂ _++_ (half 0) (half 1))
 fill-allBits (suc (suc k) ∷ ks) h = absurd (omega (arith, h 0))
-
-pub in-rowsOf : (ks u : List ℕ) → Bits ks → length u ≡ length ks → Bits u → Frozen ks u → List·Memᴰ u (rowsOf ks)
-in-rowsOf ks u h e b f =
-    subst (List·Memᴰ u) (fill-allBits ks h)
-    (Memᴰ·cast (sym (fill-pick ks u f e)) (Memᴰ·map (fill ks) (in-allBits (sum ks) (pick ks u) (length-pick ks u h e) (bits-pick ks u b))))
 
 pub of-rowsOf : (ks u : List ℕ) → Bits ks → List·Memᴰ u (rowsOf ks) → (length u ≡ length ks) × Bits u × Frozen ks u
 of-rowsOf ks u h m =

@@ -1,20 +1,20 @@
 -- The words of RM(r,m) by halves: x is a word of RM(r,m+1) exactly if the sum of its halves is one of RM(r-1,m) and its second half one of RM(r,m).
 -- So that r = 0 is no case of its own, a code is named here by d = r + 1; for d = 0 it holds the zero row alone.
-use mathlib.Core.Path.{_≡_, ap, sym, _∙_}
+use mathlib.Core.Path.{_≡_, refl, ap, sym, _∙_, subst}
 use mathlib.Core.Logic.{⊎-elim}
-use mathlib.Core.List.{List, _++_}
-use Prim.Native.Nat.{ℕ, suc, _+_, _-_, _^_, _≤_, _<_}
+use mathlib.Core.List.{List, [], _++_}
+use Prim.Native.Nat.{ℕ, zero, suc, _+_, _-_, _^_, _≤_, _<_}
 use native.Mathlib.Omega.{arith}
 use native.Mathlib.Nat.{two-pow-succ}
-use lib.ListN.{length, length-append, getD, take, drop, replicate, getD-replicate, List·getD-eq-default, length-replicate}
+use lib.ListN.{length, length-append, getD, take, drop, replicate, getD-replicate, List·getD-eq-default, length-replicate, replicate-append-replicate}
 use lib.Seq.{take-at, drop-at, ext-getD}
 use Rattle.numbers.specs.Choice.{lt-or-le}
 use Rattle.numbers.specs.Halves.{length-first, length-second, getD-first, getD-second}
 use Rattle.words.specs.Bits.{Bits, xors, ones}
 use Rattle.words.specs.Word.{transform}
-use Rattle.words.specs.Kinds.{kinds, Word}
+use Rattle.words.specs.Kinds.{kinds, Word, allOnes}
 use Rattle.words.specs.BitLaws.{by-halves, ones-most, ones-first, ones-second}
-use Rattle.words.specs.TransformLaws.{length-xors, xors-twice, bits-xors, bits-drop, bits-append, getD-xors}
+use Rattle.words.specs.TransformLaws.{length-xors, xors-comm, xors-twice, xors-zeros, bits-xors, bits-drop, bits-append, bits-more, bits-zeros, getD-xors}
 use Rattle.words.specs.TransformLaws.{length-transform, transform-xors, transform-twice, transform-zeros}
 use Rattle.words.specs.KindLaws.{kind-information, kind-frozen, length-kinds, bits-kinds, kinds-at}
 use Rattle.words.specs.InverseLaws.{word-length, word-bits, word-frozen, frozen-word}
@@ -139,3 +139,25 @@ below-zero m x b =
     ext-getD 0 (transform m x) (replicate (2 ^ m) 0) (l ∙ sym (length-replicate (2 ^ m) 0))
     (λ i h. let k : i < 2 ^ m = omega arith in b .frozen i k (omega (arith, ones-most m i)) ∙ sym (getD-replicate (2 ^ m) i 0 0 k)) in
     sym (transform-twice m x (b .long) (b .are-bits)) ∙ ap (transform m) zeros ∙ transform-zeros m
+
+-- ---- the zero row, and the row of ones
+pub below-zeros : (d m : ℕ) → Below d m (replicate (2 ^ m) 0)
+below-zeros d m = record {
+  long = length-replicate (2 ^ m) 0;
+  are-bits = bits-zeros (2 ^ m);
+  frozen = λ i h k. ap (λ (u : List ℕ). getD u i 0) (transform-zeros m) ∙ getD-replicate (2 ^ m) i 0 0 h;
+}
+
+pub below-ones : (m : ℕ) → Below 1 m (allOnes m)
+unfolding ones
+below-ones zero = record { long = refl; are-bits = bits-more [] 1 (λ i. omega arith) (omega arith); frozen = λ i k l. absurd (omega arith) }
+below-ones (suc m) =
+    let full : List ℕ = allOnes m in
+    let g = below-ones m in
+    let twice : xors (replicate (2 ^ m) 0) full ++ full ≡ allOnes (suc m) =
+    ap (λ (l : List ℕ). l ++ full) (xors-comm (replicate (2 ^ m) 0) full ∙ xors-zeros (2 ^ m) full (g .long) (g .are-bits))
+    ∙ replicate-append-replicate (2 ^ m) (2 ^ m) 1 ∙ ap (λ (n : ℕ). replicate n 1) (sym (two-pow-succ m)) in
+    subst (Below 1 (suc m)) twice (below-joined 1 m (replicate (2 ^ m) 0) full (below-zeros 0 m) g)
+
+pub word-ones : (r m : ℕ) → Word m (kinds r m) (allOnes m)
+word-ones r m = below-word r m (allOnes m) (below-more 1 (suc r) m (allOnes m) (omega arith) (below-ones m))

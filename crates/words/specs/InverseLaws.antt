@@ -6,25 +6,18 @@ use mathlib.Core.List.{List, [], _∷_}
 use Prim.Native.Nat.{ℕ, zero, suc, _^_, _≤_, _<_, suc-le-suc}
 use native.Mathlib.Omega.{arith}
 use native.Mathlib.Nat.{suc-inj, suc-ne-zero, le-antisymm, le-of-suc-le-suc, not-suc-le-zero, zero-lt-suc}
-use lib.ListN.{length, getD, replicate, length-replicate}
+use lib.ListN.{length, replicate, length-replicate}
 use borrow.Author.Tests.{lt-ltb, le-ltb}
 use Rattle.numbers.specs.Choice.{lt-or-le}
 use Rattle.numbers.specs.Sums.{sum}
 use Rattle.words.specs.Bits.{Bits, xors}
 use Rattle.words.specs.Word.{transform}
-use Rattle.words.specs.Kinds.{fill, pick, encoded, Word}
-use Rattle.words.specs.Rows.{Frozen}
-use Rattle.words.specs.Inverse.{taken, frozenOne, firstFrozenOne, takenBack}
+use Rattle.words.specs.Kinds.{fill, pick, encoded, Frozen, Word}
+use Rattle.words.specs.Inverse.{LowestFrozenOne, taken, frozenOne, firstFrozenOne, takenBack}
 use Rattle.words.specs.TransformLaws.{length-xors, bits-xors, bits-zeros, length-transform, bits-transform, transform-xors, transform-twice, transform-zeros}
 use Rattle.words.specs.FillLaws.{length-fill, bits-fill, frozen-fill, length-pick, bits-pick, pick-fill, fill-pick, fill-xors, fill-zeros}
 
 -- ---- the lowest frozen index where a row is 1
-pub record LowestFrozenOne (ks u : List ℕ) (i : ℕ) : Type 0 where
-  pub below : i < length ks
-  pub frozen : getD ks i 0 ≡ 0
-  pub one : getD u i 0 ≡ 1
-  pub lowest : (j : ℕ) → j < i → getD ks j 0 ≡ 0 → getD u j 0 ≡ 0
-
 -- no two indices are
 lowest-only : (ks u : List ℕ) (i j : ℕ) → LowestFrozenOne ks u i → LowestFrozenOne ks u j → i ≤ j
 lowest-only ks u i j a b =

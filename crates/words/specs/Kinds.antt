@@ -4,7 +4,7 @@ use mathlib.Core.List.{List, [], _∷_, _++_, map}
 use mathlib.Core.Path.{_≡_}
 use mathlib.Core.Bool.{cond}
 use Prim.Native.Nat.{ℕ, zero, suc, _+_, _-_, _^_}
-use lib.ListN.{length}
+use lib.ListN.{length, getD, replicate}
 use lib.Dec.{leb}
 use Rattle.numbers.specs.Sums.{total, tabulate, sum}
 use Rattle.words.specs.Bits.{Bits, ones}
@@ -51,9 +51,21 @@ unfoldable pub allBits : ℕ → List (List ℕ)
 allBits zero = [] ∷ []
 allBits (suc k) = map (λ b. 0 ∷ b) (allBits k) ++ map (λ b. 1 ∷ b) (allBits k)
 
+-- k information bits, one for each information index
+abbrev pub InformationBits : List ℕ → List ℕ → Type 0
+InformationBits ks b = (length b ≡ sum ks) × Bits b
+
+-- the row u is 0 at every frozen index
+abbrev pub Frozen : List ℕ → List ℕ → Type 0
+Frozen ks u = (i : ℕ) → getD ks i 0 ≡ 0 → getD u i 0 ≡ 0
+
 -- x is a word: some k information bits give it
 pub record Word (m : ℕ) (ks x : List ℕ) : Type 0 where
   pub bits : List ℕ
   pub long : length bits ≡ sum ks
   pub are-bits : Bits bits
   pub gives : encoded m ks bits ≡ x
+
+-- the row of 2^m ones, a word of every RM(r,m)
+abbrev pub allOnes : ℕ → List ℕ
+allOnes m = replicate (2 ^ m) 1

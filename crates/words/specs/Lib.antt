@@ -5,7 +5,6 @@ pub mod Polynomial
 pub mod Inverse
 pub mod TransformLaws
 pub mod BitLaws
-pub mod Rows
 pub mod KindLaws
 pub mod FillLaws
 pub mod InverseLaws
