@@ -75,7 +75,9 @@ all-bits l h = first-none 0 (λ b. b) 1 l (length l) (λ j k. omega (arith, h j)
 
 module _ (r m : ℕ) (input : List ℕ) (long : ℕ) (output : List ℕ) (room : ℕ) (rest : Outcome) where
   pub passes-all : Passes r m input long output room → tested r m input long output room rest ≡ rest
-  passes-all p = sym (tested-all r m input long output room rest (p .is-made) refl (p .input-long) refl (p .output-long) (all-bits input (p .are-bits)) (omega arith))
+  passes-all p =
+      let place = all-bits input (p .are-bits) in
+      sym (tested-all r m input long output room rest (p .is-made) refl (p .input-long) refl (p .output-long) place (omega arith))
 
   -- either none applies, or the outcome has the number of one
   Decided : Type 0
@@ -122,6 +124,7 @@ module _ (ks u bits : List ℕ) {i : ℕ} (index : i ≡ firstFrozenOne ks u) wh
 pub taking-word : (m : ℕ) (ks x bits : List ℕ) → takingRow ks (transform m x) bits ≡ takingBack (takenBack m ks x) bits
 unfolding takenBack
 taking-word m ks x bits =
-    let i = firstFrozenOne ks (transform m x) in
-    elim (ltb i (length ks)) as (λ t. cond t (refused 5 i bits) (done (pick ks (transform m x))) ≡ takingBack (cond t (frozenOne i) (taken (pick ks (transform m x)))) bits)
+    let u = transform m x in
+    let i = firstFrozenOne ks u in
+    elim (ltb i (length ks)) as (λ t. cond t (refused 5 i bits) (done (pick ks u)) ≡ takingBack (cond t (frozenOne i) (taken (pick ks u))) bits)
     [ true ↦ refl | false ↦ refl ]

@@ -40,10 +40,10 @@ module _ (r m : ℕ) where
       let p = passes r m bits (dimension r m) word (2 ^ m) rest (inl (ap (λ (o : Outcome). o .number) e)) in
       let is : encoded m ks bits ≡ x = ap (λ (o : Outcome). o .buffer) (sym (passes-all r m bits (dimension r m) word (2 ^ m) rest p) ∙ e) in
       let y = encoded m ks bits in
-      rw (← is) (
-      passes-all r m y (2 ^ m) room (dimension r m) (takingBack (takenBack m ks y) room) (word-passes bits word room p l)
-      ∙ ap (λ (t : TakenBack). takingBack t room) (taken-encoded m ks bits (length-kinds r m) (bits-kinds r m) (p .input-long ∙ sym (sum-kinds r m)) (p .are-bits))
-      )
+      let back = taken-encoded m ks bits (length-kinds r m) (bits-kinds r m) (p .input-long ∙ sym (sum-kinds r m)) (p .are-bits) in
+      rw (← is)
+      (passes-all r m y (2 ^ m) room (dimension r m) (takingBack (takenBack m ks y) room) (word-passes bits word room p l)
+      ∙ ap (λ (t : TakenBack). takingBack t room) back)
 
   module _ (word bits : List ℕ) (p : Passes r m word (2 ^ m) bits (dimension r m)) where
     -- what is left of `inverse` where the tests 1 to 4 do not apply
@@ -62,7 +62,8 @@ module _ (r m : ℕ) where
     taken-back : (b : List ℕ) → inverting r m word bits ≡ done b → (length b ≡ dimension r m) × Bits b × (encoded m (kinds r m) b ≡ word)
     taken-back b e =
         let ks = kinds r m in
-        let g = taken-gives m ks word (length-kinds r m) (bits-kinds r m) (p .input-long) (p .are-bits) b (is-taken b (takenBack m ks word) (sym inverts ∙ e)) in
+        let is = is-taken b (takenBack m ks word) (sym inverts ∙ e) in
+        let g = taken-gives m ks word (length-kinds r m) (bits-kinds r m) (p .input-long) (p .are-bits) b is in
         (g .0 ∙ sum-kinds r m, g .1, g .2)
 
   pub encode-of-inverse : (word bits b room : List ℕ) → inverting r m word bits ≡ done b → length room ≡ 2 ^ m → encoding r m b room ≡ done word

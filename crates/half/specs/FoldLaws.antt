@@ -31,8 +31,9 @@ module _ (d : List ℕ) (h : ℕ) (e : length d ≡ h + h) where
     -- what a turn stores
     pub turn : set s j ((getD s j 0 + getD s (h + j) 0) % 2) ≡ front d (sums d h) (j + 1)
     turn =
+        let entry = getD-xors (take h d) (drop h d) j (equal-halves h d e) in
         let v : (getD s j 0 + getD s (h + j) 0) % 2 ≡ getD (sums d h) j 0 =
-        rw (unread j (omega arith), unread (h + j) (omega arith), getD-xors (take h d) (drop h d) j (equal-halves h d e), getD-take h d j 0 more, getD-drop h d j 0) in
+        rw (unread j (omega arith), unread (h + j) (omega arith), entry, getD-take h d j 0 more, getD-drop h d j 0) in
         rw (add-one, v, is) (front-suc d (sums d h) j 0 (omega arith) (omega (arith, length-sums)))
 
   pub all-turns : front d (sums d h) h ≡ folded h d
@@ -69,7 +70,9 @@ module _ (m : ℕ) (x : List ℕ) (long : length x ≡ 2 ^ m) (bits : Bits x) (m
 
     second-is : secondOut x (firstBack x a) ≡ drop (length x / 2) x
     second-is =
-        lent-from (length x / 2) (firstBack x a) ∙ ap (drop (length x / 2)) (back-to (length x / 2) x a) ∙ drop-at a (drop (length x / 2) x) (length x / 2) length-a
+        lent-from (length x / 2) (firstBack x a)
+        ∙ ap (drop (length x / 2)) (back-to (length x / 2) x a)
+        ∙ drop-at a (drop (length x / 2) x) (length x / 2) length-a
 
     second-long : length (drop (length x / 2) x) ≡ 2 ^ (m - 1)
     second-long = let H = halved (length x) m long more in length-second-half (length x / 2) x (H .whole) ∙ H .half

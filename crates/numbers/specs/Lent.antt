@@ -20,7 +20,8 @@ module _ {A : Type 0} (h : ℕ) (x : List A) where
 
   pub back-from : (q : List A) → putMid h (length x - h) x q ≡ take h x ++ q
   back-from q =
-      ap (λ (l : List A). take h x ++ l) (ap (λ (l : List A). q ++ l) (drop-of-length-le (drop h x) {i = length x - h} (simp length-drop (omega arith))) ∙ append-nil q)
+      let none = drop-of-length-le (drop h x) {i = length x - h} (simp length-drop (omega arith)) in
+      ap (λ (l : List A). take h x ++ l) (ap (λ (l : List A). q ++ l) none ∙ append-nil q)
 
   -- what came back of a front is read again
   pub lent-again : (q : List A) → length q ≡ h → midOf 0 (h - 0) (putMid 0 (h - 0) x q) ≡ q

@@ -59,17 +59,27 @@ first-bad-bit-requires c κs = search needs
 returns-4 : tie.Need-returns-4
 unfolding inverting
 returns-4 c =
-    let g = good (c .before .before .before .before .before .before) in
-    let first = its-length _ _ g (c .before .before .before .before .before .length .ensures) in
-    let second = its-dimension _ _ g (c .before .before .before .dimension .ensures) in
-    tested-entry _ _ _ _ _ _ _ g first (c .before .before .before .before .if1 .left) second (c .before .before .if2 .left) (c .before .first-bad-bit .ensures) (c .if3 .taken)
+    let c3 = c .before .before .before in
+    let c4 = c3 .before in
+    let c5 = c4 .before in
+    let c6 = c5 .before in
+    let g = good c6 in
+    let first = its-length _ _ g (c5 .length .ensures) in
+    let second = its-dimension _ _ g (c3 .dimension .ensures) in
+    tested-entry _ _ _ _ _ _ _ g first (c4 .if1 .left) second (c .before .before .if2 .left) (c .before .first-bad-bit .ensures) (c .if3 .taken)
 
 take-back-requires : tie.Need-take-back-requires
 take-back-requires c κs =
-    let first = c .before .before .before .before .before .if1 .left ∙ c .before .before .before .before .before .before .length .ensures in
-    let second = c .before .before .before .if2 .left ∙ c .before .before .before .before .dimension .ensures in
+    let c3 = c .before .before .before in
+    let c4 = c3 .before in
+    let c5 = c4 .before in
+    let c6 = c5 .before in
+    let c7 = c6 .before in
+    let c13 = c7 .before .before .before .before .before .before in
+    let first = c5 .if1 .left ∙ c6 .length .ensures in
+    let second = c3 .if2 .left ∙ c4 .dimension .ensures in
     let place = c .before .before .first-bad-bit .ensures in
-    (is-made (c .before .before .before .before .before .before .before) .sound, first, second, good-bits (c .before .before .before .before .before .before .before .before .before .before .before .before .before .args .word .now) (rw place at (c .before .if3 .left)))
+    (is-made c7 .sound, first, second, good-bits (c13 .args .word .now) (rw place at (c .before .if3 .left)))
 
 same-length : tie.Need-same-length
 same-length c = search needs
@@ -77,13 +87,21 @@ same-length c = search needs
 returns-5 : tie.Need-returns-5
 unfolding inverting
 returns-5 c =
-    let s = c .before .before .before .before .before .before .before .before .before .before .before .before .before .before .before .before .args in
-    let g = good (c .before .before .before .before .before .before .before .before .before .before) in
-    let first = its-length _ _ g (c .before .before .before .before .before .before .before .before .before .length .ensures) in
-    let second = its-dimension _ _ g (c .before .before .before .before .before .before .before .dimension .ensures) in
-    let same = is-made (c .before .before .before .before .before .before .before .before .before .before) .same in
+    let c4 = c .before .before .before .before in
+    let c5 = c4 .before in
+    let c6 = c5 .before in
+    let c7 = c6 .before in
+    let c8 = c7 .before in
+    let c9 = c8 .before in
+    let c10 = c9 .before in
+    let c16 = c10 .before .before .before .before .before .before in
+    let s = c16 .args in
+    let g = good c10 in
+    let first = its-length _ _ g (c9 .length .ensures) in
+    let second = its-dimension _ _ g (c7 .dimension .ensures) in
+    let same = is-made c10 .same in
     c .before .before .take-back .ensures ∙ ap (λ (d : Code). takingBack (takenBack (d .m) (kinds (d .r) (d .m)) (s .word .now)) (s .bits .now)) same
-    ∙ tested-all _ _ _ _ _ _ _ g first (c .before .before .before .before .before .before .before .before .if1 .left) second (c .before .before .before .before .before .before .if2 .left) (c .before .before .before .before .before .first-bad-bit .ensures) (c .before .before .before .before .if3 .left)
+    ∙ tested-all _ _ _ _ _ _ _ g first (c8 .if1 .left) second (c6 .if2 .left) (c5 .first-bad-bit .ensures) (c4 .if3 .left)
 
 pub inverse-spec : {M : Type 1} → statement M
 inverse-spec =

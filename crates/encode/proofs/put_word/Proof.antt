@@ -1,5 +1,6 @@
 -- The kinds stand in the front of the scratch array, and the row that they fill is transformed in place.
-use Prim.Native.Nat.{_≤_}
+use mathlib.Core.List.{List}
+use Prim.Native.Nat.{ℕ}
 use native.Mathlib.Omega.{arith}
 use lib.ListN.{replicate}
 use Rattle.code.specs.SoundLaws.{length-most}
@@ -7,6 +8,9 @@ use Rattle.encode.specs.WorkLaws.{still-within, fill-asked, filled-asked
 use borrow.Author.Needs.{needs}
 use Rattle.encode.proofs.put_word.Statement.{statement}
 use Rattle.encode.proofs.put_word.Tie as tie
+
+abbrev zeros : List ℕ
+zeros = replicate 256 0
 
 length-requires : tie.Need-length-requires
 length-requires c κs = search needs
@@ -31,34 +35,42 @@ part-fill-start c = search needs
 
 part-fill-end : tie.Need-part-fill-end
 part-fill-end c =
-    let front : c .before .before .before .before .length .result ≤ 256 = omega (arith, length-most (c .before .before .before .before .before .before .before .pre .0), c .before .before .before .before .length .ensures) in
-    still-within (c .before .before .before .before .length .result) (replicate 256 0) (c .before .before .put-kinds .last .1 .0) (c .before .before .put-kinds .kept .1 .0) front
+    let c4 = c .before .before .before .before in
+    let c7 = c4 .before .before .before in
+    let n = c4 .length in
+    let put = c .before .before .put-kinds in
+    still-within (n .result) zeros (put .last .1 .0) (put .kept .1 .0) (omega (arith, length-most (c7 .pre .0), n .ensures))
 
 fill-requires : tie.Need-fill-requires
 fill-requires c κs =
-    let s = c .before .before .before .before .before .before .before .before .before in
-    let code = s .args .code in
-    fill-asked (code .r) (code .m) (c .before .before .before .before .before .before .length .result) (replicate 256 0) (c .before .before .before .before .put-kinds .last .1 .0) (c .before .before .before .before .put-kinds .ensures) (c .before .before .before .before .before .before .length .ensures) (s .args .bits .now) (s .args .word .now) (s .pre .1) (s .pre .2)
+    let c4 = c .before .before .before .before in
+    let c6 = c4 .before .before in
+    let s = c6 .before .before .before in
+    fill-asked _ _ _ zeros _ (c4 .put-kinds .ensures) (c6 .length .ensures) (s .args .bits .now) (s .args .word .now) (s .pre .1) (s .pre .2)
 
 cast-transform : tie.Need-cast-transform
 cast-transform c = search needs
 
 transform-requires : tie.Need-transform-requires
 transform-requires c κs =
-    let s = c .before .before .before .before .before .before .before .before .before .before .before .before .before .before in
-    let code = s .args .code in
-    let put = c .before .before .before .before .before .before .before .before .before .put-kinds in
-    filled-asked (code .r) (code .m) (c .before .before .before .before .before .before .before .before .before .before .before .length .result) (replicate 256 0) (put .last .1 .0) (put .ensures) (c .before .before .before .before .before .before .before .before .before .before .before .length .ensures) (c .before .before .before .before .fill .last .1 .1 .0) (s .args .bits .now) (c .before .before .before .before .fill .ensures) (s .pre .3)
+    let c4 = c .before .before .before .before in
+    let c9 = c4 .before .before .before .before .before in
+    let c11 = c9 .before .before in
+    let c14 = c11 .before .before .before in
+    let fill = c4 .fill in
+    filled-asked _ _ _ zeros _ (c9 .put-kinds .ensures) (c11 .length .ensures) _ _ (fill .ensures) (c14 .pre .3)
 
 same-length : tie.Need-same-length
 same-length c = search needs
 
 returns : tie.Need-returns
 returns c =
-    let s = c .before .before .before .before .before .before .before .before .before .before .before .before .before .before .before .before .before in
-    let code = s .args .code in
-    let put = c .before .before .before .before .before .before .before .before .before .before .before .before .put-kinds in
-    filled-word (code .r) (code .m) (c .before .before .before .before .before .before .before .before .before .before .before .before .before .before .length .result) (replicate 256 0) (put .last .1 .0) (put .ensures) (c .before .before .before .before .before .before .before .before .before .before .before .before .before .before .length .ensures) (c .before .before .before .before .before .before .before .fill .last .1 .1 .0) (s .args .bits .now) (c .before .before .before .before .before .before .before .fill .ensures) (c .before .before .transform .last .0) (c .before .before .transform .ensures)
+    let c7 = c .before .before .before .before .before .before .before in
+    let c12 = c7 .before .before .before .before .before in
+    let c14 = c12 .before .before in
+    let fill = c7 .fill in
+    let done = c .before .before .transform in
+    filled-word _ _ _ zeros _ (c12 .put-kinds .ensures) (c14 .length .ensures) _ _ (fill .ensures) _ (done .ensures)
 
 pub put-word-spec : {M : Type 1} → statement M
 put-word-spec =

@@ -1,5 +1,6 @@
 -- The kinds and the row stand in the fronts of two scratch arrays.
-use Prim.Native.Nat.{_≤_}
+use mathlib.Core.List.{List}
+use Prim.Native.Nat.{ℕ}
 use native.Mathlib.Omega.{arith}
 use lib.ListN.{replicate}
 use Rattle.code.specs.SoundLaws.{length-most}
@@ -7,6 +8,9 @@ use Rattle.encode.specs.WorkLaws.{still-within, take-asked, taken-word}
 use borrow.Author.Needs.{needs}
 use Rattle.encode.proofs.take_back.Statement.{statement}
 use Rattle.encode.proofs.take_back.Tie as tie
+
+abbrev zeros : List ℕ
+zeros = replicate 256 0
 
 length-requires : tie.Need-length-requires
 length-requires c κs = search needs
@@ -46,9 +50,12 @@ part-take-row-start c = search needs
 
 part-take-row-end : tie.Need-part-take-row-end
 part-take-row-end c =
-    let n = c .before .before .before .before .before .before .before .before .length in
-    let front : n .result ≤ 256 = omega (arith, length-most (c .before .before .before .before .before .before .before .before .before .before .before .pre .0), n .ensures) in
-    still-within (n .result) (replicate 256 0) (c .before .before .before .before .before .before .put-kinds .last .1 .0) (c .before .before .before .before .before .before .put-kinds .kept .1 .0) front
+    let c6 = c .before .before .before .before .before .before in
+    let c8 = c6 .before .before in
+    let c11 = c8 .before .before .before in
+    let n = c8 .length in
+    let put = c6 .put-kinds in
+    still-within (n .result) zeros (put .last .1 .0) (put .kept .1 .0) (omega (arith, length-most (c11 .pre .0), n .ensures))
 
 sub-take-row-2 : tie.Need-sub-take-row-2
 sub-take-row-2 c = search needs
@@ -58,30 +65,34 @@ part-take-row-start-2 c = search needs
 
 part-take-row-end-2 : tie.Need-part-take-row-end-2
 part-take-row-end-2 c =
-    let n = c .before .before .before .before .before .before .before .before .before .before .length in
-    let front : n .result ≤ 256 = omega (arith, length-most (c .before .before .before .before .before .before .before .before .before .before .before .before .before .pre .0), n .ensures) in
-    still-within (n .result) (replicate 256 0) (c .before .before .before .before .put-row .last .1 .0) (c .before .before .before .before .put-row .kept .1 .0) front
+    let c4 = c .before .before .before .before in
+    let c10 = c4 .before .before .before .before .before .before in
+    let c13 = c10 .before .before .before in
+    let n = c10 .length in
+    let put = c4 .put-row in
+    still-within (n .result) zeros (put .last .1 .0) (put .kept .1 .0) (omega (arith, length-most (c13 .pre .0), n .ensures))
 
 take-row-requires : tie.Need-take-row-requires
 take-row-requires c κs =
-    let s = c .before .before .before .before .before .before .before .before .before .before .before .before .before .before .before in
-    let code = s .args .code in
-    let n = c .before .before .before .before .before .before .before .before .before .before .before .before .length in
-    let put = c .before .before .before .before .before .before .before .before .before .before .put-kinds in
-    let row = c .before .before .before .before .before .before .put-row in
-    take-asked (code .r) (code .m) (n .result) (replicate 256 0) (put .last .1 .0) (put .ensures) (n .ensures) (s .args .word .now) (row .last .1 .0) (s .pre .1) (row .ensures) (s .args .bits .now) (s .pre .2)
+    let c6 = c .before .before .before .before .before .before in
+    let c10 = c6 .before .before .before .before in
+    let c12 = c10 .before .before in
+    let s = c12 .before .before .before in
+    let row = c6 .put-row in
+    take-asked _ _ _ zeros _ (c10 .put-kinds .ensures) (c12 .length .ensures) _ _ (s .pre .1) (row .ensures) (s .args .bits .now) (s .pre .2)
 
 same-length : tie.Need-same-length
 same-length c = search needs
 
 returns : tie.Need-returns
 returns c =
-    let s = c .before .before .before .before .before .before .before .before .before .before .before .before .before .before .before .before .before .before in
-    let code = s .args .code in
-    let n = c .before .before .before .before .before .before .before .before .before .before .before .before .before .before .before .length in
-    let put = c .before .before .before .before .before .before .before .before .before .before .before .before .before .put-kinds in
-    let row = c .before .before .before .before .before .before .before .before .before .put-row in
-    taken-word (code .r) (code .m) (n .result) (replicate 256 0) (put .last .1 .0) (put .ensures) (n .ensures) (s .args .word .now) (row .last .1 .0) (s .pre .1) (row .ensures) (s .args .bits .now) _ (c .before .before .take-row .ensures)
+    let c9 = c .before .before .before .before .before .before .before .before .before in
+    let c13 = c9 .before .before .before .before in
+    let c15 = c13 .before .before in
+    let s = c15 .before .before .before in
+    let row = c9 .put-row in
+    let took = c .before .before .take-row in
+    taken-word _ _ _ zeros _ (c13 .put-kinds .ensures) (c15 .length .ensures) _ _ (s .pre .1) (row .ensures) (s .args .bits .now) _ (took .ensures)
 
 pub take-back-spec : {M : Type 1} → statement M
 take-back-spec =

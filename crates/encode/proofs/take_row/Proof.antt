@@ -20,7 +20,9 @@ same-length c = search needs
 
 returns-2 : tie.Need-returns-2
 returns-2 c =
-    ap done (c .before .before .pick .ensures) ∙ taking-done _ _ _ (c .before .before .before .before .before .first-frozen-one .ensures) (c .before .before .before .before .if1 .left)
+    let c4 = c .before .before .before .before in
+    let c5 = c4 .before in
+    ap done (c .before .before .pick .ensures) ∙ taking-done _ _ _ (c5 .first-frozen-one .ensures) (c4 .if1 .left)
 
 pub take-row-spec : {M : Type 1} → statement M
 take-row-spec =

@@ -63,16 +63,21 @@ transform-sub-transform-4 t c = omega arith
 
 transform-transform-requires-2 : (t : ℕ) → transform-lts.Need-transform-requires-2 (calls t) (transform-at t) transform-reads.Post
 transform-transform-requires-2 t c κs =
-    let s = c .before .before .before .before .before .before .before in
-    let back = c .before .before .before .transform in
-    (omega (arith, s .pre .0), second-asked (s .args .m) (s .args .word .now) (s .pre .1 .0) (s .pre .1 .1) (c .before .before .before .before .before .if1 .left) (back .last .0) (back .ensures))
+    let c3 = c .before .before .before in
+    let c5 = c3 .before .before in
+    let s = c5 .before .before in
+    let back = c3 .transform in
+    (omega (arith, s .pre .0), second-asked (s .args .m) (s .args .word .now) (s .pre .1 .0) (s .pre .1 .1) (c5 .if1 .left) _ (back .ensures))
 
 transform-fold-requires : (t : ℕ) → transform-lts.Need-fold-requires (calls t) (transform-at t) transform-reads.Post
 transform-fold-requires t c κs =
-    let s = c .before .before .before .before .before .before .before .before .before .before .before in
-    let back = c .before .before .before .before .before .before .before .transform in
-    let back2 = c .before .before .before .transform2 in
-    fold-asked (s .args .m) (s .args .word .now) (s .pre .1 .0) (s .pre .1 .1) (c .before .before .before .before .before .before .before .before .before .if1 .left) (back .last .0) (back .ensures) (back2 .last .0) (back2 .ensures)
+    let c3 = c .before .before .before in
+    let c7 = c3 .before .before .before .before in
+    let c9 = c7 .before .before in
+    let s = c9 .before .before in
+    let back = c7 .transform in
+    let back2 = c3 .transform2 in
+    fold-asked (s .args .m) (s .args .word .now) (s .pre .1 .0) (s .pre .1 .1) (c9 .if1 .left) _ (back .ensures) _ (back2 .ensures)
 
 transform-same-length : (t : ℕ) → transform-lts.Need-same-length (calls t) (transform-at t) transform-reads.Post
 transform-same-length t c =
@@ -81,7 +86,7 @@ transform-same-length t c =
     let back = c .before .before .before .before .before .before .before .before .before .before .transform in
     let back2 = c .before .before .before .before .before .before .transform2 in
     let left = c .before .before .before .before .before .before .before .before .before .before .before .before .if1 .left in
-    let asked = fold-asked (s .args .m) x (s .pre .1 .0) (s .pre .1 .1) left (back .last .0) (back .ensures) (back2 .last .0) (back2 .ensures) in
+    let asked = fold-asked (s .args .m) x (s .pre .1 .0) (s .pre .1 .1) left _ (back .ensures) _ (back2 .ensures) in
     c .before .before .fold .kept .0 ∙ asked .0 ∙ sym (halved (length x) (s .args .m) (s .pre .1 .0) left .whole)
 
 transform-returns-2 : (t : ℕ) → transform-lts.Need-returns-2 (calls t) (transform-at t) transform-reads.Post
@@ -90,7 +95,7 @@ transform-returns-2 t c =
     let back = c .before .before .before .before .before .before .before .before .before .before .transform in
     let back2 = c .before .before .before .before .before .before .transform2 in
     let left = c .before .before .before .before .before .before .before .before .before .before .before .before .if1 .left in
-    c .before .before .fold .ensures ∙ halves-folded (s .args .m) (s .args .word .now) (s .pre .1 .0) (s .pre .1 .1) left (back .last .0) (back .ensures) (back2 .last .0) (back2 .ensures)
+    c .before .before .fold .ensures ∙ halves-folded (s .args .m) (s .args .word .now) (s .pre .1 .0) (s .pre .1 .1) left _ (back .ensures) _ (back2 .ensures)
 
 pub +transform-spec : {M : Type 1} → statement M
 +transform-spec = close μ-transform λ t. transform-lts.spec (calls t)

@@ -25,10 +25,12 @@ shared-slice-read-if2 c = omega arith
 
 returns : tie.Need-returns Inv-loop μ-loop
 returns c =
-    let s = c .before .before .before .before .before .before in
+    let c5 = c .before .before .before .before .before in
+    let s = c5 .before in
     let u = s .args .row .now in
-    let l = c .before .before .before .before .before .loop in
-    found (s .args .kinds .now) (s .args .row .now) (l .i) (s .pre) (l .inv) (omega arith) (c .before .before .if1 .taken) (eqb-false (getD u (l .i) 0) 0 (not-true _ (c .if2 .taken)))
+    let l = c5 .loop in
+    let one = eqb-false (getD u (l .i) 0) 0 (not-true _ (c .if2 .taken)) in
+    found (s .args .kinds .now) u (l .i) (s .pre) (l .inv) (omega arith) (c .before .before .if1 .taken) one
 
 add-i : tie.Need-add-i Inv-loop μ-loop
 add-i c = omega arith
