@@ -1,7 +1,7 @@
 -- `walk::walk` meets its contract.
 use mathlib.Core.Path.{ap, _∙_}
 use mathlib.Core.List.{List}
-use Prim.Native.Nat.{_^_}
+use Prim.Native.Nat.{ℕ, _^_}
 use lib.ListN.{take, replicate}
 use Rattle.words.specs.TransformLaws.{bits-zeros}
 use Rattle.decoding.specs.Walk.{start}
