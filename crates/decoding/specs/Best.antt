@@ -1,10 +1,11 @@
 -- The best word, its penalty and the gap, over the list of all 2^k words, with no word about a search (01, "Penalty, correlation, gap").
+use mathlib.Core.Path.{_≡_}
 use mathlib.Core.List.{List, [], map}
 use Prim.Native.Nat.{ℕ, _-_}
 use lib.IntN.{ℤ}
 use Rattle.numbers.specs.Sums.{sum}
 use Rattle.numbers.specs.Least.{least, next, firstWith}
-use Rattle.words.specs.Kinds.{encoded, allBits}
+use Rattle.words.specs.Kinds.{encoded, allBits, InformationBits}
 use Rattle.decoding.specs.Readings.{penalty}
 
 -- the penalty of the word of some information bits
@@ -28,3 +29,13 @@ bestBits m ks l = firstWith (penaltyOf m ks l) (leastPenalty m ks l) [] (allBits
 
 unfoldable pub bestWord : ℕ → List ℕ → List ℤ → List ℕ
 bestWord m ks l = encoded m ks (bestBits m ks l)
+
+-- two different rows of k information bits whose words have the penalties p and q
+pub record TwoWords (m : ℕ) (ks : List ℕ) (l : List ℤ) (p q : ℕ) : Type 0 where
+  pub first : List ℕ
+  pub second : List ℕ
+  pub first-bits : InformationBits ks first
+  pub second-bits : InformationBits ks second
+  pub differ : first ≡ second → ⊥
+  pub first-has : penaltyOf m ks l first ≡ p
+  pub second-has : penaltyOf m ks l second ≡ q

@@ -4,31 +4,37 @@ use mathlib.Core.Logic.{_↔_, ⊎-elim}
 use mathlib.Core.List.{List, []}
 use Prim.Native.Nat.{ℕ, _+_, _^_, _≤_, _<_}
 use native.Mathlib.Omega.{arith}
+use native.Mathlib.Nat.{add-zero}
 use lib.ListN.{length}
 use lib.IntN.{ℤ}
 use Rattle.numbers.specs.Choice.{lt-or-le}
 use Rattle.numbers.specs.Sums.{sum}
-use Rattle.words.specs.Bits.{Bits}
-use Rattle.words.specs.Kinds.{kinds, encoded, InformationBits, Word, allOnes}
-use Rattle.words.specs.KindLaws.{length-kinds, bits-kinds, sum-kinds-pos}
+use Rattle.words.specs.Bits.{Bits, xors}
+use Rattle.words.specs.Kinds.{kinds, fill, encoded, InformationBits, Word, allOnes}
+use Rattle.words.specs.Inverse.{taken, takenBack}
+use Rattle.words.specs.KindLaws.{length-kinds, bits-kinds, sum-kinds, sum-kinds-pos}
+use Rattle.words.specs.FillLaws.{length-fill, bits-fill}
+use Rattle.words.specs.PublishedLaws.{word-by-index, word-by-matrix}
+use Rattle.words.specs.PolynomialLaws.{word-polynomial, polynomial-word}
 use Rattle.words.specs.HalfLaws.{word-ones}
-use Rattle.words.specs.InverseLaws.{word-length}
+use Rattle.words.specs.InverseLaws.{word-length, taken-encoded, taken-gives, refused-lowest, lowest-refused, refused-no-word, no-word-refused}
 use Rattle.decoding.specs.Readings.{penalty, turns}
-use Rattle.decoding.specs.Best.{penaltyOf, leastPenalty, gap, bestBits, bestWord}
+use Rattle.decoding.specs.Best.{penaltyOf, leastPenalty, gap, bestBits, bestWord, TwoWords}
 use Rattle.decoding.specs.Walk.{State, start, needed, NeverZero}
 use Rattle.decoding.specs.Answer.{Answer, found, tied, outOfVisits, answer}
 use Rattle.decoding.specs.BestLaws.{none-less, best-bits-are, best-attains, best-only, others-more}
-use Rattle.decoding.specs.WalkLaws.{BestTwo, best-two}
+use Rattle.decoding.specs.WalkLaws.{best-two}
 use Rattle.decoding.specs.AnswerLaws.{answer-out, answer-tied, answer-found}
+use Rattle.decoding.specs.SearchLaws.{tree-enough}
 use Rattle.decoding.specs.TurnLaws.{length-turns, within-turns}
 use Rattle.decoding.specs.TurnedBest.{least-turned, gap-turned, bestBits-turned, bestWord-turned}
 use Rattle.decoding.specs.TurnedWalk.{walked-turned}
 use Rattle.decoding.specs.AllOnes.{turns-ones, needed-negated}
-use Rattle.decoding.specs.Demands.{BestFound, BestTied, Demand2, Together, both-tied, both-found, plusWord, Demand3, Demand3AllOnes, Demands}
+use Rattle.decoding.specs.Demands.{Published, PublishedCode, BestFound, BestTied, Demand2, Together, both-tied, both-found, plusWord, Demand3, Demand3AllOnes, Demands}
 
 -- ---- Demand 2
 module _ (m : ℕ) (ks : List ℕ) (l : List ℤ) (e : length l ≡ 2 ^ m) (f : length ks ≡ 2 ^ m) (kinds : Bits ks) (information : 0 < sum ks) where
-  best-of-two : BestTwo m ks l
+  best-of-two : TwoWords m ks l (leastPenalty m ks l) (leastPenalty m ks l + gap m ks l)
   best-of-two = best-two m ks l e f kinds information
 
   best-found : 0 < gap m ks l → BestFound m ks l (bestBits m ks l) (bestWord m ks l) (leastPenalty m ks l) (gap m ks l)
@@ -55,16 +61,9 @@ module _ (m : ℕ) (ks : List ℕ) (l : List ℤ) (e : length l ≡ 2 ^ m) (f : 
 
   best-tied : gap m ks l ≡ 0 → BestTied m ks l (leastPenalty m ks l)
   best-tied none =
-      let r = best-of-two in
       record {
         none-less = none-less m ks l;
-        first = r .first;
-        second = r .second;
-        first-bits = r .first-bits;
-        second-bits = r .second-bits;
-        differ = r .differ;
-        first-has = r .first-has;
-        second-has = omega (arith, r .second-has);
+        two = subst (TwoWords m ks l (leastPenalty m ks l)) (ap (λ (g : ℕ). leastPenalty m ks l + g) none ∙ add-zero (leastPenalty m ks l)) best-of-two;
       }
 
   -- the least penalty of all words, from what is said of the best one
@@ -107,18 +106,29 @@ module _ (m : ℕ) (ks : List ℕ) (l : List ℤ) (e : length l ≡ 2 ^ m) (f : 
       let g-is : g ≡ gap m ks l = omega (arith, p-is, no-more, no-less) in
       rw (g-is, p-is, x-is, b-is, same) (answer-found m ks l allowed in-time above)
 
-  tied-only : (allowed p visits : ℕ) → needed m ks l ≤ allowed → BestTied m ks l p → visits ≡ needed m ks l → answer m ks l allowed ≡ tied p visits
-  tied-only allowed p visits in-time r same =
-      let p-is : p ≡ leastPenalty m ks l =
-      omega (arith, r .none-less (bestBits m ks l) (best-bits-are m ks l), best-attains m ks l, none-less m ks l (r .first) (r .first-bits), r .first-has) in
+  tied-least : (p : ℕ) → BestTied m ks l p → p ≡ leastPenalty m ks l
+  tied-least p r =
+      let t = r .two in
+      omega (
+        arith,
+        r .none-less (bestBits m ks l) (best-bits-are m ks l),
+        best-attains m ks l,
+        none-less m ks l (t .first) (t .first-bits),
+        t .first-has,
+      )
+
+  tied-none : (p : ℕ) → BestTied m ks l p → gap m ks l ≡ 0
+  tied-none p r =
+      let t = r .two in
       let only : 0 < gap m ks l → (c : List ℕ) → InformationBits ks c → penaltyOf m ks l c ≡ p → c ≡ bestBits m ks l = λ h c i z.
-      best-only m ks l information h c i (z ∙ p-is) in
-      let none : gap m ks l ≡ 0 =
+      best-only m ks l information h c i (z ∙ tied-least p r) in
       ⊎-elim
-      (λ h. absurd (r .differ (only h (r .first) (r .first-bits) (r .first-has) ∙ sym (only h (r .second) (r .second-bits) (r .second-has)))))
+      (λ h. absurd (t .differ (only h (t .first) (t .first-bits) (t .first-has) ∙ sym (only h (t .second) (t .second-bits) (t .second-has)))))
       (λ h. omega arith)
-      (lt-or-le 0 (gap m ks l)) in
-      rw (p-is, same) (answer-tied m ks l allowed in-time none)
+      (lt-or-le 0 (gap m ks l))
+
+  tied-only : (allowed p visits : ℕ) → needed m ks l ≤ allowed → BestTied m ks l p → visits ≡ needed m ks l → answer m ks l allowed ≡ tied p visits
+  tied-only allowed p visits in-time r same = rw (tied-least p r, same) (answer-tied m ks l allowed in-time (tied-none p r))
 
   answered : (allowed : ℕ) → Demand2 m ks l allowed (answer m ks l allowed)
   answered allowed =
@@ -151,42 +161,42 @@ module _ (m : ℕ) (ks : List ℕ) (l : List ℤ) (c : List ℕ) (g : length ks 
   by-gap : {A : Type 0} → (gap m ks l ≡ 0 → A) → (0 < gap m ks l → A) → A
   by-gap none some = ⊎-elim some (λ h. none (omega arith)) (lt-or-le 0 (gap m ks l))
 
+  -- the answer for the negated readings
+  module _ (allowed : ℕ) (in-time : needed m ks (turns c l) ≤ allowed) where
+    negated-tied : gap m ks l ≡ 0 → answer m ks (turns c l) allowed ≡ tied (leastPenalty m ks l) (needed m ks (turns c l))
+    negated-tied z = rw (answer-tied m ks (turns c l) allowed in-time (gap-turned m ks l c g e w ∙ z), least-turned m ks l c g e w)
+
+    negated-found : 0 < gap m ks l → answer m ks (turns c l) allowed
+        ≡ found (xors (bestBits m ks l) (w .bits)) (xors (bestWord m ks l) c) (leastPenalty m ks l) (gap m ks l) (needed m ks (turns c l))
+    negated-found z =
+        rw (
+          answer-found m ks (turns c l) allowed in-time (rw (gap-turned m ks l c g e w) z),
+          bestBits-turned m ks l c g e w z,
+          bestWord-turned m ks l c g e w z,
+          least-turned m ks l c g e w,
+          gap-turned m ks l c g e w,
+        )
+
   answers-together : (allowed allowed′ : ℕ) → needed m ks l ≤ allowed → needed m ks (turns c l) ≤ allowed′
       → Together (w .bits) c (answer m ks l allowed) (answer m ks (turns c l) allowed′)
   answers-together allowed allowed′ h h′ =
-      let l′ = turns c l in
+      let n = needed m ks l in
+      let n′ = needed m ks (turns c l) in
       by-gap
-      (λ z. rw (answer-tied m ks l allowed h z, answer-tied m ks l′ allowed′ h′ (gap-turned m ks l c g e w ∙ z), least-turned m ks l c g e w)
-      (both-tied (leastPenalty m ks l) (needed m ks l) (needed m ks l′)))
-      (λ z. rw (
-        answer-found m ks l allowed h z,
-        answer-found m ks l′ allowed′ h′ (rw (gap-turned m ks l c g e w) z),
-        bestBits-turned m ks l c g e w z,
-        bestWord-turned m ks l c g e w z,
-        least-turned m ks l c g e w,
-        gap-turned m ks l c g e w,
-      )
-      (both-found (bestBits m ks l) (bestWord m ks l) (leastPenalty m ks l) (gap m ks l) (needed m ks l) (needed m ks l′)))
+      (λ z. rw (answer-tied m ks l allowed h z, negated-tied allowed′ h′ z) (both-tied (leastPenalty m ks l) n n′))
+      (λ z. rw (answer-found m ks l allowed h z, negated-found allowed′ h′ z)
+      (both-found (bestBits m ks l) (bestWord m ks l) (leastPenalty m ks l) (gap m ks l) n n′))
 
   -- with as many visits, the whole answer
   answers-equal : needed m ks (turns c l) ≡ needed m ks l → (allowed : ℕ) → answer m ks (turns c l) allowed ≡ plusWord (w .bits) c (answer m ks l allowed)
   answers-equal same allowed =
-      let l′ = turns c l in
-      let n = needed m ks l in
       ⊎-elim
-      (λ h. rw (answer-out m ks l allowed h, answer-out m ks l′ allowed (rw same h)))
-      (λ h. by-gap
-      (λ z. rw (answer-tied m ks l allowed h z, answer-tied m ks l′ allowed (rw same h) (gap-turned m ks l c g e w ∙ z), least-turned m ks l c g e w, same))
-      (λ z. rw (
-        answer-found m ks l allowed h z,
-        answer-found m ks l′ allowed (rw same h) (rw (gap-turned m ks l c g e w) z),
-        bestBits-turned m ks l c g e w z,
-        bestWord-turned m ks l c g e w z,
-        least-turned m ks l c g e w,
-        gap-turned m ks l c g e w,
-        same,
-      )))
-      (lt-or-le allowed n)
+      (λ h. rw (answer-out m ks l allowed h, answer-out m ks (turns c l) allowed (rw same h)))
+      (λ h.
+      by-gap
+      (λ z. rw (answer-tied m ks l allowed h z, negated-tied allowed (rw same h) z, same))
+      (λ z. rw (answer-found m ks l allowed h z, negated-found allowed (rw same h) z, same)))
+      (lt-or-le allowed (needed m ks l))
 
   pub demand-3 : Demand3 m ks l c (w .bits)
   demand-3 =
@@ -213,11 +223,32 @@ demand-3-all-ones m ks l g e w =
     }
 
 -- ---- all of them
+-- encoding and taking back
+published : (m : ℕ) (ks : List ℕ) → length ks ≡ 2 ^ m → Bits ks → Published m ks
+published m ks e h =
+    let row : (b : List ℕ) → length (fill ks b) ≡ 2 ^ m = λ b. length-fill ks b ∙ e in
+    record {
+      by-index = λ b i. sym (word-by-index m (fill ks b) (row b) (bits-fill ks b (i .1)));
+      by-matrix = λ b i. sym (word-by-matrix m (fill ks b) (row b) (bits-fill ks b (i .1)));
+      taking-back = λ x b f c. (
+        λ t. let r = taken-gives m ks x e h f c b t in ((r .0, r .1), r .2),
+        λ r. subst (λ (y : List ℕ). takenBack m ks y ≡ taken b) (r .1) (taken-encoded m ks b e h (r .0 .0) (r .0 .1)),
+      );
+      refusing = λ x f c. (λ t. refused-no-word m ks x e h f c (t .0) (t .1), no-word-refused m ks x e h f c);
+      place = λ x i f c. rw (word-by-index m x f c) (lowest-refused m ks x e h f c i, refused-lowest m ks x e h f c i);
+    }
+
+pub published-code : (r m : ℕ) → PublishedCode r m
+published-code r m = record { k-is = sum-kinds r m; words-are = λ x. (word-polynomial r m x, polynomial-word r m x) }
+
 pub demands : (m : ℕ) (ks : List ℕ) (l : List ℤ) → length l ≡ 2 ^ m → length ks ≡ 2 ^ m → Bits ks → 0 < sum ks → Demands m ks l
 demands m ks l e f kinds information =
     record {
+      published = published m ks f kinds;
       demand-2 = demand-2 m ks l e f kinds information;
+      gap-zero = (best-tied m ks l e f kinds information, tied-none m ks l e f kinds information (leastPenalty m ks l));
       demand-3 = λ c w. demand-3 m ks l c f e w;
+      whole-tree = λ allowed. tree-enough m ks l allowed kinds;
       demand-3-all-ones = λ w. demand-3-all-ones m ks l f e w;
     }
 

@@ -20,12 +20,12 @@ use Rattle.numbers.specs.LeastLaws.{Reordered, length-reordered, least-two-reor
 use Rattle.numbers.specs.EntryLaws.{Distinct, distinct-append, map-same}
 use Rattle.words.specs.Bits.{Bits}
 use Rattle.words.specs.Word.{transform}
-use Rattle.words.specs.Kinds.{fill, pick, allBits, InformationBits, Frozen}
+use Rattle.words.specs.Kinds.{fill, pick, allBits, Frozen}
 use Rattle.words.specs.TransformLaws.{bits-more}
 use Rattle.words.specs.FillLaws.{rowsOf, fill-allBits, of-rowsOf, fill-pick, length-pick, bits-pick}
 use Rattle.decoding.specs.Readings.{loss, penalty}
 use Rattle.decoding.specs.Quick.{hard}
-use Rattle.decoding.specs.Best.{penaltyOf, penalties, leastPenalty, gap, bestBits, bestWord}
+use Rattle.decoding.specs.Best.{penalties, leastPenalty, gap, bestBits, bestWord, TwoWords}
 use Rattle.decoding.specs.Walk.{value, addedBy, pathPenalty, Full, Held, none, two, State, start, dropped, visited, extend, walk, walked}
 use Rattle.decoding.specs.PathLaws.{path-more, path-full, hard-bit}
 use Rattle.decoding.specs.BestLaws.{two-penalties, next-penalty, best-only}
@@ -193,16 +193,6 @@ pub record WalkEnd (m : ℕ) (ks : List ℕ) (l : List ℤ) (best second : Full)
   pub next-least : second .penalty ≡ leastPenalty m ks l + gap m ks l
   pub differ : best .path ≡ second .path → ⊥
 
--- two different rows of k bits whose words have the least penalty and the next
-pub record BestTwo (m : ℕ) (ks : List ℕ) (l : List ℤ) : Type 0 where
-  pub first : List ℕ
-  pub second : List ℕ
-  pub first-bits : InformationBits ks first
-  pub second-bits : InformationBits ks second
-  pub differ : first ≡ second → ⊥
-  pub first-has : penaltyOf m ks l first ≡ leastPenalty m ks l
-  pub second-has : penaltyOf m ks l second ≡ leastPenalty m ks l + gap m ks l
-
 module _ (m : ℕ) (ks : List ℕ) (l : List ℤ) (e : length l ≡ 2 ^ m) (f : length ks ≡ 2 ^ m) (kinds : Bits ks) (information : 1 ≤ sum ks) where
   all-fulls : Reordered (penaltiesOf (fulls m l ks [] 0)) (penalties m ks l)
   unfolding addedBy penalties
@@ -246,7 +236,7 @@ module _ (m : ℕ) (ks : List ℕ) (l : List ℤ) (e : length l ≡ 2 ^ m) (f : 
       (r .0, r .1, walk-offers m l ks [] 0 start refl ∙ r .2)
 
   -- so two different rows of bits have words with the least penalty and the next
-  pub best-two : BestTwo m ks l
+  pub best-two : TwoWords m ks l (leastPenalty m ks l) (leastPenalty m ks l + gap m ks l)
   best-two =
       let r = walked-two in
       let end = walked-end (r .0) (r .1) (r .2) in
