@@ -3,15 +3,13 @@ use code::Code;
 use code::Made;
 use code::Refusal;
 ghost use mathlib.Core.Path.{_≡_};
-ghost use Prim.Native.Nat.{_^_};
 ghost use lib.ListN.{length};
 ghost use Rattle.numbers.specs.Sums.{sum};
 ghost use Rattle.words.specs.Bits.{Bits};
-ghost use Rattle.words.specs.Word.{transform};
-ghost use Rattle.words.specs.Kinds.{kinds, dimension, encoded};
+ghost use Rattle.words.specs.Kinds.{kinds, encoded};
 ghost use Rattle.words.specs.Inverse.{takenBack};
-ghost use Rattle.code.specs.Sound.{Sound};
 ghost use Rattle.encode.specs.Outcome.{told, encoding, inverting, takingBack, takingRow};
+ghost use Rattle.encode.specs.Work.{Sized};
 
 pub enum Encoded {
     Done,
@@ -20,7 +18,8 @@ pub enum Encoded {
 
 // Writes the word of the information bits into the lent buffer.
 pub fn encode(r: u32, m: u32, bits: &[u8], word: &mut [u8]) -> Encoded
-    ensures { λ answer. ⌜ told answer (now (word .exit)) ≡ encoding r m (now (bits .entry)) (now (word .entry)) ⌝ }
+    ensures { λ answer. ⌜ told answer (now (word .exit))
+        ≡ encoding r m (now (bits .entry)) (now (word .entry)) ⌝ }
 {
     let Made::Good(code) = Code::new(r, m) else {
         return Encoded::Refused(Refusal::Parameters);
@@ -41,7 +40,8 @@ pub fn encode(r: u32, m: u32, bits: &[u8], word: &mut [u8]) -> Encoded
 
 // Writes the information bits of the word into the lent buffer.
 pub fn inverse(r: u32, m: u32, word: &[u8], bits: &mut [u8]) -> Encoded
-    ensures { λ answer. ⌜ told answer (now (bits .exit)) ≡ inverting r m (now (word .entry)) (now (bits .entry)) ⌝ }
+    ensures { λ answer. ⌜ told answer (now (bits .exit))
+        ≡ inverting r m (now (word .entry)) (now (bits .entry)) ⌝ }
 {
     let Made::Good(code) = Code::new(r, m) else {
         return Encoded::Refused(Refusal::Parameters);
@@ -61,8 +61,9 @@ pub fn inverse(r: u32, m: u32, word: &[u8], bits: &mut [u8]) -> Encoded
 
 // The row u goes into the buffer, whatever it held, and is transformed there.
 fn put_word(code: Code, bits: &[u8], word: &mut [u8])
-    requires { ⌜ Sound code × (length (now bits) ≡ dimension (code .r) (code .m)) × (length (now word) ≡ 2 ^ (code .m)) × Bits (now bits) ⌝ }
-    ensures { λ _. ⌜ now (word .exit) ≡ encoded (code .m) (kinds (code .r) (code .m)) (now (bits .entry)) ⌝ }
+    requires { ⌜ Sized code (now bits) (now word) × Bits (now bits) ⌝ }
+    ensures { λ _. ⌜ now (word .exit)
+        ≡ encoded (code .m) (kinds (code .r) (code .m)) (now (bits .entry)) ⌝ }
 {
     let mut kinds = [0u8; 256];
     let n = code.length();
@@ -72,30 +73,25 @@ fn put_word(code: Code, bits: &[u8], word: &mut [u8])
 }
 
 fn take_back(code: Code, word: &[u8], bits: &mut [u8]) -> Encoded
-    requires { ⌜ Sound code × (length (now word) ≡ 2 ^ (code .m)) × (length (now bits) ≡ dimension (code .r) (code .m)) × Bits (now word) ⌝ }
-    ensures { λ answer. ⌜ told answer (now (bits .exit)) ≡ takingBack (takenBack (code .m) (kinds (code .r) (code .m)) (now (word .entry))) (now (bits .entry)) ⌝ }
+    requires { ⌜ Sized code (now bits) (now word) × Bits (now word) ⌝ }
+    ensures { λ answer. ⌜ told answer (now (bits .exit))
+        ≡ takingBack (takenBack (code .m) (kinds (code .r) (code .m)) (now (word .entry)))
+        (now (bits .entry)) ⌝ }
 {
     let mut kinds = [0u8; 256];
     let mut row = [0u8; 256];
     let n = code.length();
     code::put_kinds(code, &mut kinds[0..n]);
-    put_row(word, &mut row[0..n], code.m as usize);
+    half::put_row(word, &mut row[0..n], code.m as usize);
     take_row(&kinds[0..n], &row[0..n], bits)
-}
-
-// The row u that a word comes from: the transform is its own inverse. The word itself is not written.
-fn put_row(word: &[u8], row: &mut [u8], m: usize)
-    requires { ⌜ (length (now word) ≡ 2 ^ m) × (length (now row) ≡ 2 ^ m) × Bits (now word) ⌝ }
-    ensures { λ _. ⌜ now (row .exit) ≡ transform m (now (word .entry)) ⌝ }
-{
-    half::copy(word, row);
-    half::transform(row, m);
 }
 
 // Nothing is written before every frozen index is seen to be 0.
 fn take_row(kinds: &[u8], row: &[u8], bits: &mut [u8]) -> Encoded
-    requires { ⌜ (length (now row) ≡ length (now kinds)) × (length (now bits) ≡ sum (now kinds)) × Bits (now kinds) ⌝ }
-    ensures { λ answer. ⌜ told answer (now (bits .exit)) ≡ takingRow (now (kinds .entry)) (now (row .entry)) (now (bits .entry)) ⌝ }
+    requires { ⌜ (length (now row) ≡ length (now kinds))
+        × (length (now bits) ≡ sum (now kinds)) × Bits (now kinds) ⌝ }
+    ensures { λ answer. ⌜ told answer (now (bits .exit))
+        ≡ takingRow (now (kinds .entry)) (now (row .entry)) (now (bits .entry)) ⌝ }
 {
     let index = half::first_frozen_one(kinds, row);
     if index < kinds.len() {

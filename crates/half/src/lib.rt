@@ -1,4 +1,5 @@
-// On lent bytes: fold, the in-place transform, filling a row with information bits and taking them back.
+// On lent bytes: fold, the in-place transform, filling a row with information bits and taking
+// them back.
 ghost use mathlib.Core.Path.{_≡_};
 ghost use Prim.Native.Nat.{_+_, _^_, _≤_};
 ghost use lib.ListN.{length};
@@ -68,7 +69,8 @@ pub fn fill(kinds: &[u8], bits: &[u8], row: &mut [u8])
 
 // The bits of a row at the information indices.
 pub fn pick(kinds: &[u8], row: &[u8], bits: &mut [u8])
-    requires { ⌜ (length (now row) ≡ length (now kinds)) × (length (now bits) ≡ sum (now kinds)) × Bits (now kinds) ⌝ }
+    requires { ⌜ (length (now row) ≡ length (now kinds))
+        × (length (now bits) ≡ sum (now kinds)) × Bits (now kinds) ⌝ }
     ensures { λ _. ⌜ now (bits .exit) ≡ pick (now (kinds .entry)) (now (row .entry)) ⌝ }
 {
     let mut i = 0;
@@ -109,7 +111,8 @@ pub fn put_row(word: &[u8], row: &mut [u8], m: usize)
 // The information bits of a word of at most 256 bits.
 pub fn take_bits(kinds: &[u8], word: &[u8], bits: &mut [u8], m: usize)
     requires { ⌜ (m ≤ 8) × Takeable m (now kinds) (now word) (now bits) ⌝ }
-    ensures { λ _. ⌜ now (bits .exit) ≡ pick (now (kinds .entry)) (transform m (now (word .entry))) ⌝ }
+    ensures { λ _. ⌜ now (bits .exit)
+        ≡ pick (now (kinds .entry)) (transform m (now (word .entry))) ⌝ }
 {
     let mut row = [0u8; 256];
     let n = word.len();
