@@ -8,6 +8,7 @@ pub mod BenchFigures
 pub mod Examples
 pub mod StepLaws
 pub mod PathLaws
+pub mod BoundLaws
 pub mod BestLaws
 pub mod OfferLaws
 pub mod WalkLaws

@@ -1,11 +1,11 @@
 -- The answer read off the walk under an allowance, as a search does it; and what a larger allowance changes.
-use mathlib.Core.Path.{_≡_, ap, sym, _∙_, subst}
+use mathlib.Core.Path.{_≡_, refl, ap, sym, _∙_, subst}
 use mathlib.Core.Logic.{_↔_, ⊎-elim}
 use mathlib.Core.Bool.{cond}
-use mathlib.Core.List.{List, []}
-use Prim.Native.Nat.{ℕ, _-_, _^_, _≤_, _<_}
+use mathlib.Core.List.{List, [], _∷_}
+use Prim.Native.Nat.{ℕ, zero, suc, _-_, _^_, _≤_, _<_}
 use native.Mathlib.Omega.{arith}
-use native.Mathlib.Nat.{le-trans}
+use native.Mathlib.Nat.{le-trans, not-suc-le-zero}
 use lib.ListN.{length}
 use lib.IntN.{ℤ}
 use lib.Dec.{eqb}
@@ -47,6 +47,13 @@ module _ (m : ℕ) (ks : List ℕ) (l : List ℤ) (allowed : ℕ) where
   pub answer-of-out : walkWithin allowed m l ks [] 0 start ≡ out → answer m ks l allowed ≡ outOfVisits
   answer-of-out e =
       ⊎-elim (answer-out m ks l allowed) (λ h. absurd (subst Ends (sym (within-ends allowed m ks l h) ∙ e) tt)) (lt-or-le allowed (needed m ks l))
+
+-- with nothing allowed it is always out of visits
+pub none-allowed : (m : ℕ) (ks : List ℕ) (l : List ℤ) → 0 < length ks → answer m ks l 0 ≡ outOfVisits
+unfolding walkWithin
+none-allowed m [] l h = absurd (not-suc-le-zero h)
+none-allowed m (zero ∷ ks) l h = answer-of-out m (zero ∷ ks) l 0 refl
+none-allowed m (suc k ∷ ks) l h = answer-of-out m (suc k ∷ ks) l 0 refl
 
 module _ (m : ℕ) (ks : List ℕ) (l : List ℤ) (e : length l ≡ 2 ^ m) (f : length ks ≡ 2 ^ m) (kinds : Bits ks) (information : 1 ≤ sum ks) (allowed : ℕ) where
   pub ended-two : (s : State) → walkWithin allowed m l ks [] 0 start ≡ ended s → (a : Full) × (b : Full) × (s .held ≡ two a b)

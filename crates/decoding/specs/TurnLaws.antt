@@ -15,7 +15,7 @@ use Rattle.numbers.specs.Halves.{length-first, length-second, drop-take}
 use Rattle.words.specs.Bits.{Bits, xors}
 use Rattle.words.specs.Word.{transform}
 use Rattle.words.specs.TransformLaws.{length-xors, take-xors, drop-xors, bits-take, bits-drop, length-transform, bits-transform, transform-xors}
-use Rattle.decoding.specs.Readings.{loss, turn, penalty, sizes, turns, Within}
+use Rattle.decoding.specs.Readings.{loss, turn, penalty, turns, Within}
 use Rattle.decoding.specs.Quick.{lower, upper, lowers, uppers, lowerRow, upperRow}
 use Rattle.decoding.specs.Walk.{value}
 use Rattle.decoding.specs.StepLaws.{lower-comm, lower-negated, long-lowerRow, long-upperRow}
@@ -40,13 +40,6 @@ pub length-turns : (c : List ℕ) (l : List ℤ) → length c ≡ length l → l
 length-turns [] l e = e
 length-turns (b ∷ c) [] e = absurd (suc-ne-zero (length c) e)
 length-turns (b ∷ c) (r ∷ l) e = ap suc (length-turns c l (suc-inj e))
-
-pub sizes-turns : (c : List ℕ) (l : List ℤ) → length c ≡ length l → sizes (turns c l) ≡ sizes l
-unfolding sizes
-sizes-turns [] [] e = refl
-sizes-turns [] (r ∷ l) e = absurd (suc-ne-zero (length l) (sym e))
-sizes-turns (b ∷ c) [] e = absurd (suc-ne-zero (length c) e)
-sizes-turns (b ∷ c) (r ∷ l) e = ap₂ _+_ (size-turn b r) (sizes-turns c l (suc-inj e))
 
 pub within-turns : (largest : ℕ) (c : List ℕ) (l : List ℤ) → Within largest l → Within largest (turns c l)
 within-turns largest [] l h i = omega arith

@@ -7,7 +7,7 @@ use native.Mathlib.Omega.{arith}
 use lib.IntN.{ℤ, pos, negsuc, natAbs, _+ℤ_, negℤ, subℕ}
 use lib.Dec.{ltb}
 use lib.Signed.{ltZ}
-use borrow.Author.Tests.{ltb-true, ltb-false, lt-ltb, le-ltb}
+use borrow.Author.Tests.{ltb-true, ltb-false}
 use mir.Syntax.{Width}
 use mir.Val.{SFits, hbits}
 use Rattle.numbers.specs.Parts.{up, down}
@@ -57,7 +57,7 @@ sign (negsuc n) = inr refl
 pub by-signs : {P : Type 0} (x y : ℤ) → (down x ≡ 0 → down y ≡ 0 → P) → (down x ≡ 0 → up y ≡ 0 → P) → (up x ≡ 0 → down y ≡ 0 → P) → (up x ≡ 0 → up y ≡ 0 → P) → P
 by-signs x y a b c d = ⊎-elim (λ h. ⊎-elim (a h) (b h) (sign y)) (λ h. ⊎-elim (c h) (d h) (sign y)) (sign x)
 
--- a signed test, as a fact of the parts, and back
+-- a signed test, as a fact of the parts
 pub less-parts : (a b : ℤ) → ltZ a b ≡ true → up a + down b < up b + down a
 less-parts (pos a) (pos b) e = omega (arith, ltb-true a b e)
 less-parts (pos a) (negsuc b) e = absurd (false≢true e)
@@ -69,18 +69,6 @@ not-less-parts (pos a) (pos b) e = omega (arith, ltb-false a b e)
 not-less-parts (pos a) (negsuc b) e = omega arith
 not-less-parts (negsuc a) (pos b) e = absurd (true≢false e)
 not-less-parts (negsuc a) (negsuc b) e = omega (arith, ltb-false b a e)
-
-pub less-of : (a b : ℤ) → up a + down b < up b + down a → ltZ a b ≡ true
-less-of (pos a) (pos b) h = lt-ltb a b (omega arith)
-less-of (pos a) (negsuc b) h = absurd (omega arith)
-less-of (negsuc a) (pos b) h = refl
-less-of (negsuc a) (negsuc b) h = lt-ltb b a (omega arith)
-
-pub not-less-of : (a b : ℤ) → up b + down a ≤ up a + down b → ltZ a b ≡ false
-not-less-of (pos a) (pos b) h = le-ltb a b (omega arith)
-not-less-of (pos a) (negsuc b) h = refl
-not-less-of (negsuc a) (pos b) h = absurd (omega arith)
-not-less-of (negsuc a) (negsuc b) h = le-ltb b a (omega arith)
 
 -- a number of this size fits the signed type of that width
 pub fits-size : {w : Width} (z : ℤ) → natAbs z < 2 ^ hbits w → SFits w z
