@@ -17,9 +17,9 @@ use Rattle.code.specs.declared.Refusal.{Refusal}
 use Rattle.code.specs.declared.Refusal.the-variants.{Parameters, InputLength, OutputLength, Entry}
 use Rattle.code.specs.declared.Admitted.the-variants.{Allowed, Refused}
 use Rattle.code.specs.Sound.{made, largestReading, numberOf}
-use Rattle.code.specs.SoundLaws.{MadeOf, made-of}
+use Rattle.code.specs.SoundLaws.{MadeOf, made-of, made-good}
 use Rattle.code.specs.Entries.{firstBadReading}
-use Rattle.code.specs.EntriesLaws.{good-readings}
+use Rattle.code.specs.EntriesLaws.{first-none, good-readings}
 use Rattle.code.specs.Admitted.{admitted}
 
 module _ (r m : ℕ) (l : List ℤ) (k n : ℕ) where
@@ -104,3 +104,10 @@ module _ (r m : ℕ) (l : List ℤ) (k n : ℕ) where
         | allows d f a ↦ let z : _≡_ {A = ℕ} 0 1 = cc in absurd (omega arith)
         | refuses w f h ↦ let same : why ≡ w = cc in rw same h
       ]
+
+  pub all-allowed : (c : Code) → Allows r m l k n c → Allowed c ≡ admitted r m l k n
+  all-allowed c a =
+      let small = a .code .sound in
+      let good : made r m ≡ Good c = rw (a .code .same) (made-good r m (rw (a .code .same) at (small .m-small)) (rw (a .code .same) at (small .r-small))) in
+      let none = first-none (pos 0) natAbs largestReading l (length l) (λ j h. a .within j) refl in
+      allowed r m l k n c good (a .long) (a .bits) (a .word) (omega (arith, none))

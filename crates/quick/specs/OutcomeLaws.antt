@@ -1,7 +1,7 @@
 -- The outcome at each place where `quick` returns, and what the work between asks.
 use mathlib.Core.Path.{_≡_, ap, sym, _∙_}
 use mathlib.Core.List.{List}
-use Prim.Native.Nat.{ℕ, _-_, _*_, _^_, _≤_}
+use Prim.Native.Nat.{ℕ, _-_, _^_}
 use native.Mathlib.Omega.{arith}
 use lib.IntN.{ℤ}
 use lib.ListN.{length}
@@ -10,19 +10,18 @@ use Rattle.numbers.specs.Lent.{lent-again}
 use Rattle.words.specs.Word.{transform}
 use Rattle.words.specs.Kinds.{kinds, pick}
 use Rattle.words.specs.KindLaws.{length-kinds, sum-kinds, bits-kinds}
-use Rattle.decoding.specs.Readings.{penalty, sizes}
-use Rattle.decoding.specs.StepLaws.{sizes-within}
+use Rattle.decoding.specs.Readings.{penalty}
 use Rattle.decoding.specs.Quick.{quickWord, quickBits, quickPenalty}
 use Rattle.decoding.specs.QuickLaws.{length-quick, bits-quick}
 use Rattle.code.specs.declared.Code.{Code}
 use Rattle.code.specs.declared.Refusal.{Refusal}
 use Rattle.code.specs.declared.Admitted.the-variants.{Allowed, Refused}
-use Rattle.code.specs.Sound.{largestReading}
 use Rattle.code.specs.SoundLaws.{length-most}
 use Rattle.code.specs.Admitted.{admitted}
 use Rattle.code.specs.AdmittedLaws.{Allows}
 use Rattle.half.specs.Takeable.{Takeable}
 use Rattle.quick.specs.Engine.{Given}
+use Rattle.quick.specs.RunningSums.{sums-most}
 use Rattle.quick.specs.Outcome.{Outcome, done, refused, readingBy, reading}
 
 -- ---- the tests
@@ -35,16 +34,15 @@ module _ (r m : ℕ) (l : List ℤ) (bits word : List ℕ) where
   unfolding reading
   reading-done c o e f = rw (← e) f
 
-  -- no running sum of 256 readings is above 524,032
   pub given : (c : Code) → Allows r m l (length bits) (length word) c → Given c l bits word
   given c a =
-      let most : sizes l ≤ length l * largestReading = sizes-within largestReading l (a .within) in
+      let most = sums-most l (omega (arith, a .long, length-most (a .code .sound))) (a .within) in
       record {
         sound = a .code .sound;
         long-bits = a .bits;
         long-word = a .word;
         long-row = a .long;
-        small = omega (arith, most, a .long, length-most (a .code .sound));
+        small = omega (arith, most);
       }
 
 -- ---- the work: a scratch array z whose front, of n bytes, came back as the kinds k

@@ -1,0 +1,85 @@
+-- What an outcome of `quick` says: of one that is done, the bits encode to the word, which is a word of the code, with its own penalty, at least the least;
+-- of one that is refused, the number is that of the first test that applies, and both buffers are as they were.
+use mathlib.Core.Path.{_≡_, refl, ap, sym}
+use mathlib.Core.List.{List}
+use Prim.Native.Nat.{ℕ, _≤_, _<_}
+use native.Mathlib.Omega.{arith}
+use lib.IntN.{ℤ}
+use lib.ListN.{length}
+use Rattle.words.specs.Kinds.{kinds, encoded, Word}
+use Rattle.words.specs.KindLaws.{length-kinds, bits-kinds}
+use Rattle.decoding.specs.Readings.{penalty}
+use Rattle.decoding.specs.Best.{leastPenalty}
+use Rattle.decoding.specs.Quick.{quickPenalty}
+use Rattle.decoding.specs.QuickLaws.{encoded-quick, quick-word, quick-least}
+use Rattle.code.specs.declared.Code.{Code}
+use Rattle.code.specs.declared.Refusal.{Refusal}
+use Rattle.code.specs.declared.Refusal.the-variants.{Parameters, InputLength, OutputLength, Entry, NotAWord, OutOfVisits, Tied, Torn, Pad}
+use Rattle.code.specs.Sound.{numberOf, penaltyOf}
+use Rattle.code.specs.AdmittedLaws.{Allows, allows, refuses, decided, all-allowed}
+use Rattle.quick.specs.Outcome.{Outcome, readingBy, reading}
+use Rattle.quick.specs.OutcomeLaws.{reading-refused, reading-done}
+
+pub record QuickDone (r m : ℕ) (l : List ℤ) (o : Outcome) : Type 0 where
+  pub encodes : encoded m (kinds r m) (o .bits) ≡ o .word
+  pub is-word : Word m (kinds r m) (o .word)
+  pub own-penalty : o .penalty ≡ penalty l (o .word)
+  pub not-below : leastPenalty m (kinds r m) l ≤ o .penalty
+
+pub record QuickRefused (bits word : List ℕ) (o : Outcome) : Type 0 where
+  pub first-tests : o .number < 5
+  pub no-penalty : o .penalty ≡ 0
+  pub kept-bits : o .bits ≡ bits
+  pub kept-word : o .word ≡ word
+
+done-by : (r m : ℕ) (l : List ℤ) → QuickDone r m l (readingBy (record { r = r; m = m }) l)
+unfolding quickPenalty
+done-by r m l =
+    let ks = kinds r m in
+    record {
+      encodes = encoded-quick m ks l (length-kinds r m) (bits-kinds r m);
+      is-word = quick-word m ks l (length-kinds r m) (bits-kinds r m);
+      own-penalty = refl;
+      not-below = quick-least m ks l (length-kinds r m) (bits-kinds r m);
+    }
+
+first-penalty : (why : Refusal) → numberOf why < 5 → penaltyOf why ≡ 0
+first-penalty Parameters h = refl
+first-penalty InputLength h = refl
+first-penalty OutputLength h = refl
+first-penalty (Entry place) h = refl
+first-penalty (NotAWord index) h = refl
+first-penalty (OutOfVisits allowed) h = refl
+first-penalty (Tied penalty visits) h = absurd (omega arith)
+first-penalty Torn h = refl
+first-penalty Pad h = refl
+
+above-zero : (why : Refusal) → 0 < numberOf why
+above-zero Parameters = omega arith
+above-zero InputLength = omega arith
+above-zero OutputLength = omega arith
+above-zero (Entry place) = omega arith
+above-zero (NotAWord index) = omega arith
+above-zero (OutOfVisits allowed) = omega arith
+above-zero (Tied penalty visits) = omega arith
+above-zero Torn = omega arith
+above-zero Pad = omega arith
+
+module _ (r m : ℕ) (l : List ℤ) (bits word : List ℕ) where
+  -- done exactly if none of the tests applies
+  pub quick-done : reading r m l bits word .number ≡ 0 → Allows r m l (length bits) (length word) (record { r = r; m = m }) × QuickDone r m l (reading r m l bits word)
+  quick-done z =
+      elim (decided r m l (length bits) (length word)) [
+        | allows c e a ↦ (rw (a .code .same) at a, rw (← reading-done r m l bits word c (readingBy c l) e refl, a .code .same) (done-by r m l))
+        | refuses why e h ↦ absurd (omega (arith, above-zero why, ap (λ (o : Outcome). o .number) (reading-refused r m l bits word why e)))
+      ]
+
+  pub quick-answers : (c : Code) → Allows r m l (length bits) (length word) c → reading r m l bits word .number ≡ 0
+  quick-answers c a = ap (λ (o : Outcome). o .number) (sym (reading-done r m l bits word c (readingBy c l) (all-allowed r m l (length bits) (length word) c a) refl))
+
+  pub quick-refused : 0 < reading r m l bits word .number → QuickRefused bits word (reading r m l bits word)
+  quick-refused z =
+      elim (decided r m l (length bits) (length word)) [
+        | allows c e a ↦ absurd (omega (arith, ap (λ (o : Outcome). o .number) (reading-done r m l bits word c (readingBy c l) e refl)))
+        | refuses why e h ↦ rw (← reading-refused r m l bits word why e) (record { first-tests = h; no-penalty = first-penalty why h; kept-bits = refl; kept-word = refl })
+      ]
