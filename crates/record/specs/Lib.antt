@@ -3,3 +3,4 @@ pub mod LayoutLaws
 pub mod Reader
 pub mod ReaderLaws
 pub mod Accepted
+pub mod OnlyHeader

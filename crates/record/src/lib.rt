@@ -7,7 +7,7 @@ ghost use Rattle.code.specs.Sound.{Sound, largestReading};
 ghost use Rattle.code.specs.Entries.{firstBadReading};
 ghost use Rattle.record.specs.Layout.{reading, unpacked, partLength};
 ghost use Rattle.record.specs.Reader.{codeOf, lengthBy, framedBy, frameOf};
-ghost use Rattle.record.specs.Reader.{railedBy, headerOf, partBy, laidOver};
+ghost use Rattle.record.specs.Reader.{railedBy, headerOf, told, partBy, laidOver};
 use code::Code;
 use code::Made;
 use code::Refusal;
@@ -147,8 +147,8 @@ fn railed(s: &[u8], code: Code) -> Header
     Header::Record(code)
 }
 
-// The code of the record that the bytes begin with, or the refusal: 1, 8, 9, then 4.
-pub fn header_of(s: &[u8]) -> Header
+// The refusals 1, 8, 9, then 4.
+fn read_header(s: &[u8]) -> Header
     ensures { λ answer. ⌜ answer ≡ headerOf (now (s .entry)) ⌝ }
 {
     match frame(s) {
@@ -157,12 +157,19 @@ pub fn header_of(s: &[u8]) -> Header
     }
 }
 
+// The code of the record that the bytes begin with, or the refusal.
+pub fn header_of(s: &[u8]) -> Header
+    ensures { λ answer. ⌜ told answer ≡ told (headerOf (now (s .entry))) ⌝ }
+{
+    read_header(s)
+}
+
 // The part of the bytes that holds the packed values: all of the record's bytes after its first.
 // Empty on refusal.
 pub fn packed(s: &[u8]) -> &[u8]
     ensures { λ part. ⌜ now part ≡ partBy (headerOf (now (s .entry))) (now (s .entry)) ⌝ }
 {
-    match header_of(s) {
+    match read_header(s) {
         Header::Record(code) => {
             let end = 1 + part_length(code);
             &s[1..end]
