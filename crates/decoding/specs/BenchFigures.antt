@@ -42,7 +42,8 @@ pub record BenchFigures : Type 0 where
   pub tree-13 : tree (kinds 1 3) ≡ 35
 
 pub bench-figures : BenchFigures
-unfolding kinds kind ones digit tabulate total sum dimension choose transform allBits penalty correlation penalties leastPenalty gap bestBits bestWord least without next firstWith value walk walked tree answer firstFrozenOne takenBack
+unfolding kinds kind ones digit tabulate total sum dimension choose transform allBits penalty correlation penalties leastPenalty gap bestBits bestWord
+    least without next firstWith value walk walked tree answer firstFrozenOne takenBack
 bench-figures =
     record {
       k-00 = refl;

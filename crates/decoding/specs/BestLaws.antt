@@ -68,8 +68,10 @@ module _ (m : ℕ) (ks : List ℕ) (l : List ℤ) (information : 1 ≤ sum ks) w
       let all = allBits (sum ks) in
       let a = leastPenalty m ks l in
       let second = least-two (penalties m ks l) (two-penalties m ks l information) .second a in
-      let once : upto a (map f all) ≤ 1 = ⊎-elim (λ i. omega arith) (λ i. absurd (omega (arith, second .0 i, next-penalty))) (lt-or-le (upto a (map f all)) 2) in
-      counted-once f a b (bestBits m ks l) all once (in-allBits (sum ks) b (h .0) (h .1)) (best-entry m ks l .0) (omega arith) (omega (arith, best-attains m ks l))
+      let once : upto a (map f all) ≤ 1 =
+      ⊎-elim (λ i. omega arith) (λ i. absurd (omega (arith, second .0 i, next-penalty))) (lt-or-le (upto a (map f all)) 2) in
+      let b-in = in-allBits (sum ks) b (h .0) (h .1) in
+      counted-once f a b (bestBits m ks l) all once b-in (best-entry m ks l .0) (omega arith) (omega (arith, best-attains m ks l))
 
   -- all other bits have a word of the next penalty or more
   pub others-more : (b : List ℕ) → InformationBits ks b → (b ≡ bestBits m ks l → ⊥) → leastPenalty m ks l + gap m ks l ≤ penaltyOf m ks l b

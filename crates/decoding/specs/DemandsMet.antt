@@ -30,7 +30,8 @@ use Rattle.decoding.specs.TurnLaws.{length-turns, within-turns}
 use Rattle.decoding.specs.TurnedBest.{least-turned, gap-turned, bestBits-turned, bestWord-turned}
 use Rattle.decoding.specs.TurnedWalk.{walked-turned}
 use Rattle.decoding.specs.AllOnes.{turns-ones, needed-negated}
-use Rattle.decoding.specs.Demands.{Published, PublishedCode, BestFound, BestTied, Demand2, Together, both-tied, both-found, plusWord, Demand3, Demand3AllOnes, Demands}
+use Rattle.decoding.specs.Demands.{Published, PublishedCode, BestFound, BestTied, Demand2}
+use Rattle.decoding.specs.Demands.{Together, both-tied, both-found, plusWord, Demand3, Demand3AllOnes, Demands}
 
 -- ---- Demand 2
 module _ (m : ℕ) (ks : List ℕ) (l : List ℤ) (e : length l ≡ 2 ^ m) (f : length ks ≡ 2 ^ m) (kinds : Bits ks) (information : 0 < sum ks) where

@@ -62,7 +62,8 @@ pub record Examples : Type 0 where
   pub best-missed : answer 3 (kinds 1 3) quickMisses 21 ≡ found (1 ∷ 0 ∷ 0 ∷ 0 ∷ []) (1 ∷ 1 ∷ 1 ∷ 1 ∷ 0 ∷ 0 ∷ 0 ∷ 0 ∷ []) 0 1 21
 
 pub examples : Examples
-unfolding kinds kind ones digit tabulate total sum transform allBits penalty penalties leastPenalty gap bestBits bestWord least without next firstWith value walk walked answer quickWord quickBits quickPenalty
+unfolding kinds kind ones digit tabulate total sum transform allBits penalty penalties leastPenalty gap bestBits bestWord
+    least without next firstWith value walk walked answer quickWord quickBits quickPenalty
 examples =
     record {
       lower-differ = refl;

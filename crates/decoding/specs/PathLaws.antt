@@ -18,7 +18,8 @@ use Rattle.words.specs.TransformLaws.{length-xors, length-transform, bits-trans
 use Rattle.decoding.specs.Readings.{loss, penalty, sizes}
 use Rattle.decoding.specs.Quick.{hard, lowerRow, upperRow}
 use Rattle.decoding.specs.Walk.{value, addedBy, pathPenalty}
-use Rattle.decoding.specs.StepLaws.{long-lowerRow, long-upperRow, halves-penalty, penalty-append, entry-sizes, sizes-lowerRow, sizes-upperRow, penalty-sizes}
+use Rattle.decoding.specs.StepLaws.{long-lowerRow, long-upperRow, halves-penalty, penalty-append}
+use Rattle.decoding.specs.StepLaws.{entry-sizes, sizes-lowerRow, sizes-upperRow, penalty-sizes}
 
 -- ---- values
 pub value-sizes : (m : ℕ) (l : List ℤ) (u : List ℕ) → natAbs (value m l u) ≤ sizes l

@@ -1,4 +1,4 @@
--- Readings negated where a word has 1: sizes stay, and the rows and values of the steps change sign with the row u that the word comes from.
+-- Readings negated where a word has 1: each keeps its size, and the rows and values of the steps change sign with the row u that the word comes from.
 use mathlib.Core.Path.{_≡_, refl, ap, ap₂, sym, _∙_}
 use mathlib.Core.Logic.{⊎-elim}
 use mathlib.Core.List.{List, [], _∷_, _++_}

@@ -54,7 +54,8 @@ sign (pos n) = inl refl
 sign (negsuc n) = inr refl
 
 -- a fact of two numbers, by their signs
-pub by-signs : {P : Type 0} (x y : ℤ) → (down x ≡ 0 → down y ≡ 0 → P) → (down x ≡ 0 → up y ≡ 0 → P) → (up x ≡ 0 → down y ≡ 0 → P) → (up x ≡ 0 → up y ≡ 0 → P) → P
+pub by-signs : {P : Type 0} (x y : ℤ) → (down x ≡ 0 → down y ≡ 0 → P) → (down x ≡ 0 → up y ≡ 0 → P)
+    → (up x ≡ 0 → down y ≡ 0 → P) → (up x ≡ 0 → up y ≡ 0 → P) → P
 by-signs x y a b c d = ⊎-elim (λ h. ⊎-elim (a h) (b h) (sign y)) (λ h. ⊎-elim (c h) (d h) (sign y)) (sign x)
 
 -- a signed test, as a fact of the parts

@@ -14,7 +14,8 @@ use Rattle.words.specs.Bits.{Bits, xors}
 use Rattle.words.specs.Word.{transform}
 use Rattle.words.specs.Kinds.{fill, pick, encoded, Frozen, Word}
 use Rattle.words.specs.Inverse.{LowestFrozenOne, taken, frozenOne, firstFrozenOne, takenBack}
-use Rattle.words.specs.TransformLaws.{length-xors, bits-xors, bits-zeros, length-transform, bits-transform, transform-xors, transform-twice, transform-zeros}
+use Rattle.words.specs.TransformLaws.{length-xors, bits-xors, bits-zeros}
+use Rattle.words.specs.TransformLaws.{length-transform, bits-transform, transform-xors, transform-twice, transform-zeros}
 use Rattle.words.specs.FillLaws.{length-fill, bits-fill, frozen-fill, length-pick, bits-pick, pick-fill, fill-pick, fill-xors, fill-zeros}
 
 -- ---- the lowest frozen index where a row is 1

@@ -1,16 +1,19 @@
+-- Definitions, to be read beside 01, "The code"
 pub mod Bits
 pub mod Word
 pub mod Kinds
-pub mod Polynomial
 pub mod Inverse
+pub mod Polynomial
+pub mod Distance
+-- Laws: encoding and taking back, for any row of kinds
 pub mod TransformLaws
 pub mod BitLaws
 pub mod KindLaws
 pub mod FillLaws
 pub mod InverseLaws
+-- Laws: the published forms are one, and the least distance of RM(r,m)
 pub mod TableLaws
 pub mod PublishedLaws
 pub mod HalfLaws
 pub mod PolynomialLaws
-pub mod Distance
 pub mod DistanceLaws

@@ -122,7 +122,14 @@ below-degree d (suc m) x b =
       degree = by-halves (λ (i : ℕ). d ≤ ones (suc m) i → getD (c1 ++ c2) i 0 ≡ 0) m
           (λ i l k. getD-first c1 c2 n (g .long) i 0 l ∙ g .degree i l (omega (arith, ones-first m i l)))
           (λ i l k. getD-second c1 c2 n (g .long) i 0 ∙ h .degree i l (omega (arith, ones-second m i l)));
-      table-is = rw (values-halves m (c1 ++ c2), take-at c1 c2 n (g .long), drop-at c1 c2 n (g .long), g .table-is, h .table-is, xors-undo x1 x2 e (h2 .are-bits))
+      table-is = rw (
+        values-halves m (c1 ++ c2),
+        take-at c1 c2 n (g .long),
+        drop-at c1 c2 n (g .long),
+        g .table-is,
+        h .table-is,
+        xors-undo x1 x2 e (h2 .are-bits),
+      )
           (take-append-drop n x);
     }
 
