@@ -5,3 +5,4 @@ pub mod PathLaws
 pub mod StandsLaws
 pub mod MakeLaws
 pub mod ValueLaws
+pub mod RefreshLaws

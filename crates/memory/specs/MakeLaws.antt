@@ -31,10 +31,10 @@ none-made (suc m) u s z = absurd (suc-ne-zero m z)
 
 -- ---- s1 is s with the row v of h sums put in its place; the rows below that are made in t
 module _ (p h : ℕ) (half : h ≡ 2 ^ p) (s v s1 : List ℤ) (room : h + h ≤ length s) (long : length v ≡ h) (is : s1 ≡ withRow h s v) where
-  step-row : rowOf h s1 ≡ v
+  pub step-row : rowOf h s1 ≡ v
   step-row = rw is (rowOf-withRow h s v room long)
 
-  step-ready : sizes v < 2 ^ 31 → (i : ℕ) (x : List ℕ) → PathReady p i x → RowReady p i s1 x
+  pub step-ready : sizes v < 2 ^ 31 → (i : ℕ) (x : List ℕ) → PathReady p i x → RowReady p i s1 x
   step-ready small i x r =
       let l : length s1 ≡ length s = rw is (length-withRow h s v room long) in
       record { path = r; room = omega arith; small = subst (λ (k : ℕ). sizes (rowOf k s1) < 2 ^ 31) half (rw step-row small) }
@@ -43,15 +43,15 @@ module _ (p h : ℕ) (half : h ≡ 2 ^ p) (s v s1 : List ℤ) (room : h + h ≤ 
     same : drop h t ≡ drop h s1
     same = subst (λ (k : ℕ). drop k t ≡ drop k s1) (sym half) (made .kept)
 
-    row-stays : rowOf h t ≡ v
+    pub row-stays : rowOf h t ≡ v
     row-stays = ap (take h) same ∙ step-row
 
-    step-stands : Stands p (rowOf h t) u (take h t)
+    pub step-stands : Stands p (rowOf h t) u (take h t)
     step-stands =
         subst (λ (l : List ℤ). Stands p l u (take h t)) (sym (ap (take h) same))
         (subst (λ (k : ℕ). Stands p (rowOf k s1) u (take k t)) (sym half) (made .stands))
 
-    step-kept : drop (h + h) t ≡ drop (h + h) s
+    pub step-kept : drop (h + h) t ≡ drop (h + h) s
     step-kept = behind-more h h t s1 same ∙ rw is (behind-withRow h s v room long)
 
 -- ---- below the row of 2^m sums that stands in s; the bytes x hold the path

@@ -35,6 +35,18 @@ stands-upper p l a u s la b e f =
     let w : transform p (take (2 ^ p) (transform p a ++ u)) ≡ a = rw (take-at (transform p a) u (2 ^ p) lt) (transform-twice p a la b) in
     rw (le-ltb (length (transform p a ++ u)) (2 ^ p) (simp length-append (omega arith)), w, drop-at (transform p a) u (2 ^ p) lt) (e, f)
 
+-- the other way round
+pub stood-lower : (p : ℕ) (l : List ℤ) (u : List ℕ) (s : List ℤ) → length u < 2 ^ p → Stands (suc p) l u s
+    → (rowOf (2 ^ p) s ≡ lowerRow (2 ^ p) l) × Stands p (lowerRow (2 ^ p) l) u (take (2 ^ p) s)
+unfolding Stands
+stood-lower p l u s k f = rw (lt-ltb (length u) (2 ^ p) k) at f
+
+pub stood-upper : (p : ℕ) (l : List ℤ) (u : List ℕ) (s : List ℤ) → 2 ^ p ≤ length u → Stands (suc p) l u s
+    → (rowOf (2 ^ p) s ≡ upperRow (2 ^ p) l (transform p (take (2 ^ p) u)))
+    × Stands p (upperRow (2 ^ p) l (transform p (take (2 ^ p) u))) (drop (2 ^ p) u) (take (2 ^ p) s)
+unfolding Stands
+stood-upper p l u s k f = rw (le-ltb (length u) (2 ^ p) k) at f
+
 -- ---- the row of the half that index i is in, made in s1; the rows below it, made in s2
 -- of the row l of 2h entries, where m is p + 1 and h is 2^p
 abbrev LowerMade : ℕ → ℕ → ℕ → Type 0
@@ -48,17 +60,17 @@ UpperMade m p h =
     → Stands p (rowOf h s) (pathOf p (i - h) (drop h x)) (take h s)
     → Stands m l (pathOf m i x) (take (h + h) s)
 
-rowOf-take : (h : ℕ) (s : List ℤ) → rowOf h (take (h + h) s) ≡ rowOf h s
+pub rowOf-take : (h : ℕ) (s : List ℤ) → rowOf h (take (h + h) s) ≡ rowOf h s
 rowOf-take h s = ap (take h) (sym (rowOf-front h s)) ∙ take-take h h (drop h s) (omega arith)
 
-lower-plain : (p : ℕ) → LowerMade (suc p) p (2 ^ p)
+pub lower-plain : (p : ℕ) → LowerMade (suc p) p (2 ^ p)
 lower-plain p l x i s long k e f =
     let lt = length-path p i (take (2 ^ p) x) (length-take-le (2 ^ p) x (omega arith)) (omega arith) in
     rw (path-lower p i x k)
     (stands-lower p l (pathOf p i (take (2 ^ p) x)) (take (2 ^ p + 2 ^ p) s) (omega (arith, lt)) (rowOf-take (2 ^ p) s ∙ e)
     (rw (take-take (2 ^ p) (2 ^ p + 2 ^ p) s (omega arith)) (subst (λ (k : List ℤ). Stands p k (pathOf p i (take (2 ^ p) x)) (take (2 ^ p) s)) e f)))
 
-upper-plain : (p : ℕ) → UpperMade (suc p) p (2 ^ p)
+pub upper-plain : (p : ℕ) → UpperMade (suc p) p (2 ^ p)
 upper-plain p l x i s long k j b e f =
     let la = length-take-le (2 ^ p) x (omega arith) in
     rw (path-upper p i x k (omega (arith, two-pow-succ p)))

@@ -12,3 +12,5 @@ pub mod EntryLaws
 pub mod Halves
 pub mod Front
 pub mod Lent
+pub mod Lowest
+pub mod LowestLaws
