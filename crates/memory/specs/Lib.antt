@@ -6,3 +6,4 @@ pub mod StandsLaws
 pub mod MakeLaws
 pub mod ValueLaws
 pub mod RefreshLaws
+pub mod FreshLaws

@@ -49,6 +49,7 @@ pub record RowsMade (m : ℕ) (u : List ℕ) (s t : List ℤ) : Type 0 where
 -- the readings l, with room for their rows in s; the bytes y hold the path
 pub record TopReady (m i : ℕ) (l s : List ℤ) (y : List ℕ) : Type 0 where
   pub more : 0 < m
+  pub most : m ≤ 8
   pub long : length l ≡ 2 ^ m
   pub inside : i < 2 ^ m
   pub small : sizes l < 2 ^ 31

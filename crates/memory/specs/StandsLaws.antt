@@ -15,6 +15,8 @@ use Rattle.words.specs.Bits.{Bits}
 use Rattle.words.specs.Word.{transform}
 use Rattle.words.specs.TransformLaws.{length-transform, transform-twice, bits-take}
 use Rattle.decoding.specs.Quick.{lowerRow, upperRow}
+use Rattle.decoding.specs.Readings.{sizes}
+use Rattle.decoding.specs.StepLaws.{sizes-lowerRow, sizes-upperRow}
 use Rattle.decoding.specs.Walk.{value}
 use Rattle.rows.specs.Rows.{rowOf}
 use Rattle.rows.specs.PlaceLaws.{rowOf-front}
@@ -87,15 +89,17 @@ module _ (m p h : ℕ) (above : m ≡ suc p) (half : h ≡ 2 ^ p) where
 -- ---- the last row is the value
 -- u goes on in one of the halves: what the array stands for there
 data Onward (m : ℕ) (l : List ℤ) (u : List ℕ) (s : List ℤ) : Type 0 where
-  onward : (row : List ℤ) (v : List ℕ) → value (suc m) l u ≡ value m row v → rowOf (2 ^ m) s ≡ row → Stands m row v (take (2 ^ m) s) → Onward m l u s
+  onward : (row : List ℤ) (v : List ℕ) → sizes row ≤ sizes l → value (suc m) l u ≡ value m row v → rowOf (2 ^ m) s ≡ row → Stands m row v (take (2 ^ m) s) → Onward m l u s
 
 goes-on : (m : ℕ) (l : List ℤ) (u : List ℕ) (s : List ℤ) → Stands (suc m) l u s → Onward m l u s
 unfolding value Stands
 goes-on m l u s f =
     ⊎-elim
-    (λ (k : length u < 2 ^ m). let g = rw (lt-ltb (length u) (2 ^ m) k) at f in onward (lowerRow (2 ^ m) l) u (rw (lt-ltb (length u) (2 ^ m) k)) (g .0) (g .1))
+    (λ (k : length u < 2 ^ m). let g = rw (lt-ltb (length u) (2 ^ m) k) at f in
+    onward (lowerRow (2 ^ m) l) u (sizes-lowerRow (2 ^ m) l) (rw (lt-ltb (length u) (2 ^ m) k)) (g .0) (g .1))
     (λ (k : 2 ^ m ≤ length u). let g = rw (le-ltb (length u) (2 ^ m) k) at f in
-    onward (upperRow (2 ^ m) l (transform m (take (2 ^ m) u))) (drop (2 ^ m) u) (rw (le-ltb (length u) (2 ^ m) k)) (g .0) (g .1))
+    onward (upperRow (2 ^ m) l (transform m (take (2 ^ m) u))) (drop (2 ^ m) u) (sizes-upperRow (2 ^ m) l (transform m (take (2 ^ m) u)))
+    (rw (le-ltb (length u) (2 ^ m) k)) (g .0) (g .1))
     (lt-or-le (length u) (2 ^ m))
 
 row-value : (m : ℕ) (row : List ℤ) (v : List ℕ) (s : List ℤ) → rowOf (2 ^ m) s ≡ row → Stands m row v (take (2 ^ m) s) → value m row v ≡ getD s 1 (pos 0)
@@ -104,8 +108,23 @@ row-value zero row v s e f =
     ap (λ (k : List ℤ). getD k 0 (pos 0)) (sym e) ∙ getD-take 1 (drop 1 s) 0 (pos 0) (omega arith) ∙ getD-drop 1 s 0 (pos 0)
 row-value (suc m) row v s e f =
     elim (goes-on m row v (take (2 ^ suc m) s) f)
-    [ onward row′ v′ a b g ↦ a ∙ row-value m row′ v′ (take (2 ^ suc m) s) b g ∙ getD-take (2 ^ suc m) s 1 (pos 0) (omega (arith, two-pow-succ m, pow-pos m)) ]
+    [ onward row′ v′ n a b g ↦ a ∙ row-value m row′ v′ (take (2 ^ suc m) s) b g ∙ getD-take (2 ^ suc m) s 1 (pos 0) (omega (arith, two-pow-succ m, pow-pos m)) ]
 
 pub value-stands : (m : ℕ) (l : List ℤ) (u : List ℕ) (s : List ℤ) → 0 < m → Stands m l u s → value m l u ≡ getD s 1 (pos 0)
 value-stands zero l u s k f = absurd (omega arith)
-value-stands (suc m) l u s k f = elim (goes-on m l u s f) [ onward row v a b g ↦ a ∙ row-value m row v s b g ]
+value-stands (suc m) l u s k f = elim (goes-on m l u s f) [ onward row v n a b g ↦ a ∙ row-value m row v s b g ]
+
+-- ---- no row that stands has a larger sum of sizes
+pub sizes-stand : (m k : ℕ) (l : List ℤ) (u : List ℕ) (s : List ℤ) → k < m → Stands m l u (take (2 ^ m) s) → sizes (rowOf (2 ^ k) s) ≤ sizes l
+sizes-stand zero k l u s h f = absurd (omega arith)
+sizes-stand (suc m) k l u s h f =
+    let front : take (2 ^ suc m) s ≡ take (2 ^ m + 2 ^ m) s = ap (λ (n : ℕ). take n s) (two-pow-succ m) in
+    elim (goes-on m l u (take (2 ^ suc m) s) f) [
+      | onward row v n a b g ↦
+          let here : rowOf (2 ^ m) s ≡ row = sym (ap (rowOf (2 ^ m)) front ∙ rowOf-take (2 ^ m) s) ∙ b in
+          ⊎-elim
+          (λ (j : k < m). omega (arith, sizes-stand m k row v s j (subst (Stands m row v) (take-take (2 ^ m) (2 ^ suc m) s (omega (arith, two-pow-succ m))) g)))
+          (λ (j : m ≤ k). let e : k ≡ m = omega arith in
+          subst (λ (i : ℕ). sizes (rowOf (2 ^ i) s) ≤ sizes l) (sym e) (subst (λ (w : List ℤ). sizes w ≤ sizes l) (sym here) n))
+          (lt-or-le k m)
+    ]

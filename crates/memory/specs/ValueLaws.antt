@@ -48,6 +48,7 @@ top-ready l zero fresh i s y r a b more = absurd (more refl)
 top-ready l (suc m) fresh i s y r a b more =
     record {
       more = omega arith;
+      most = r .most;
       long = r .long;
       inside = r .inside;
       small = r .small;

@@ -1,9 +1,12 @@
 // The walk's memory: the value at the next index, a bit put on the path and taken back.
 ghost use mathlib.Core.Path.{_≡_};
 ghost use mathlib.Core.List.{_++_, _∷_, []};
-ghost use Prim.Native.Nat.{ℕ, _+_, _^_, _≤_, _<_};
+ghost use Prim.Native.Nat.{ℕ, _+_, _-_, _^_, _≤_, _<_};
 ghost use lib.ListN.{length, take};
+ghost use Rattle.numbers.specs.Lowest.{LowestOne};
 ghost use Rattle.words.specs.Bits.{Bits};
+ghost use Rattle.decoding.specs.Readings.{sizes};
+ghost use Rattle.rows.specs.Rows.{rowOf};
 ghost use Rattle.memory.specs.Memory.{pathOf, Stands};
 ghost use Rattle.decoding.specs.Walk.{value};
 ghost use Rattle.memory.specs.Ready.{PathReady, BitPut, BitBack, RowReady, RowsMade, TopReady, ValueReady};
@@ -137,6 +140,45 @@ fn make_all(readings: &[i16], rows: &mut [i32], half: &[u8], m: usize, i: usize)
     make_rows(rows, &half[h..n], m - 1, i - h);
 }
 
+// The place of the lowest one of i.
+fn lowest_one(i: usize) -> usize
+    requires { ⌜ 0 < i ⌝ }
+    ensures { λ t. ⌜ LowestOne t i ⌝ }
+{
+    usize::trailing_zeros(i) as usize
+}
+
+// Makes the rows below the row of 2^m sums stand for its first index.
+fn lower_rows(rows: &mut [i32], m: usize)
+    requires { ⌜ (m ≤ 8) × (2 ^ m + 2 ^ m ≤ length (now rows)) × (sizes (rowOf (2 ^ m) (now rows)) < 2 ^ 31) ⌝ }
+    ensures { λ _. ⌜ RowsMade m [] (now (rows .entry)) (now (rows .exit)) ⌝ }
+{
+    let mut t = m;
+    while 0 < t {
+        t -= 1;
+        let h = length(t);
+        rows::lower_row(rows, h);
+    }
+}
+
+// The rows stand for the index before i: makes those of the blocks that start at i again.
+fn refresh(readings: &[i16], rows: &mut [i32], half: &[u8], m: usize, i: usize)
+    requires { ⌜ TopReady m i (now readings) (now rows) (now half)
+        × (0 < i)
+        × Stands m (now readings) (take (i - 1) (pathOf m i (take (2 ^ m) (now half)))) (take (2 ^ m) (now rows)) ⌝ }
+    ensures { λ _. ⌜ Stands m (now (readings .entry)) (pathOf m i (take (2 ^ m) (now (half .entry)))) (take (2 ^ m) (now (rows .exit))) ⌝ }
+{
+    let t = lowest_one(i);
+    let h = length(t);
+    if h + h == readings.len() {
+        rows::upper_top(readings, rows, h, half);
+        lower_rows(rows, t);
+        return;
+    }
+    rows::upper_row(rows, h, &half[i - h..i]);
+    lower_rows(rows, t);
+}
+
 fn value_front(
     readings: &[i16],
     rows: &mut [i32],
@@ -154,6 +196,10 @@ fn value_front(
 {
     if m == 0 {
         return readings[0] as i32;
+    }
+    if fresh && 0 < i {
+        refresh(readings, rows, half, m, i);
+        return rows[1];
     }
     make_all(readings, rows, half, m, i);
     rows[1]

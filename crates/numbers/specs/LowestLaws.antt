@@ -59,3 +59,7 @@ pub power-lowest : (p t : ℕ) → LowestOne t (2 ^ p) → t ≡ p
 power-lowest p t e =
     ⊎-elim (λ (s : (t ≡ p) × (2 ^ p ≡ 2 ^ p)). s .0) (λ (s : Inside p t (2 ^ p)). absurd (omega (arith, s .behind)))
     (lowest-second p t (2 ^ p) e (omega arith) (omega (arith, two-pow-succ p, pow-pos p)))
+
+pub lowest-within : (m t n : ℕ) → LowestOne t n → n < 2 ^ m → t < m
+lowest-within m t n e h =
+    ⊎-elim (λ (k : t < m). k) (λ (k : m ≤ t). absurd (omega (arith, pow-mono {i = m} {j = t} k, lowest-le t n e))) (lt-or-le t m)

@@ -1,5 +1,6 @@
 -- `value_front`: one reading is its own value; of more the value is the row of one sum.
-use Prim.Native.Nat.{_^_}
+use Prim.Native.Nat.{_^_, _<_}
+use borrow.Author.Tests.{ltb-true}
 use lib.IntN.{pos}
 use lib.ListN.{getD, take}
 use Rattle.rows.specs.RowLaws.{reading-fits}
@@ -24,13 +25,14 @@ returns c =
     let y = g .args .half .now in
     single (g .args .m) l (pathOf (g .args .m) (g .args .i) (take (2 ^ g .args .m) y)) (take (2 ^ g .args .m) s) (c .before .if1 .taken) (record { sfits = c .result .given })
 
-make-all-requires : tie.Need-make-all-requires
-make-all-requires c κs =
-    let g = c .before .before .before in
+refresh-requires : tie.Need-refresh-requires
+refresh-requires c κs =
+    let g = c .before .before .before .before .before in
     let l = g .args .readings .now in
     let s = g .args .rows .now in
     let y = g .args .half .now in
-    top-ready l (g .args .m) (g .args .fresh) (g .args .i) s y (g .pre .0) (g .pre .1) (g .pre .2) (λ e. omega arith)
+    let some : 0 < g .args .i = ltb-true 0 (g .args .i) (c .before .if3 .taken) in
+    (top-ready l (g .args .m) (g .args .fresh) (g .args .i) s y (g .pre .0) (g .pre .1) (g .pre .2) (λ e. omega arith), some, g .pre .0 .stands (c .before .before .if2 .taken) some)
 
 slice-copy-out-result : tie.Need-slice-copy-out-result
 slice-copy-out-result c = search needs
@@ -40,7 +42,30 @@ same-length c = search needs
 
 returns-2 : tie.Need-returns-2
 returns-2 c =
-    let g = c .before .before .before .before .before .before in
+    let g = c .before .before .before .before .before .before .before .before in
+    let l = g .args .readings .now in
+    let s = g .args .rows .now in
+    let y = g .args .half .now in
+    let a = c .before .before .refresh in
+    last-row (g .args .m) l (pathOf (g .args .m) (g .args .i) (take (2 ^ g .args .m) y)) (a .last .1 .0) (λ e. omega arith) (g .pre .0 .small) (a .ensures)
+
+make-all-requires : tie.Need-make-all-requires
+make-all-requires c κs =
+    let g = c .before .before .before .before in
+    let l = g .args .readings .now in
+    let s = g .args .rows .now in
+    let y = g .args .half .now in
+    top-ready l (g .args .m) (g .args .fresh) (g .args .i) s y (g .pre .0) (g .pre .1) (g .pre .2) (λ e. omega arith)
+
+slice-copy-out-result-2 : tie.Need-slice-copy-out-result-2
+slice-copy-out-result-2 c = search needs
+
+same-length-2 : tie.Need-same-length-2
+same-length-2 c = search needs
+
+returns-3 : tie.Need-returns-3
+returns-3 c =
+    let g = c .before .before .before .before .before .before .before in
     let l = g .args .readings .now in
     let s = g .args .rows .now in
     let y = g .args .half .now in
@@ -54,7 +79,11 @@ value-front-spec =
     shared-slice-copy-out-result
     cast-result
     returns
-    make-all-requires
+    refresh-requires
     slice-copy-out-result
     same-length
-    returns-2)
+    returns-2
+    make-all-requires
+    slice-copy-out-result-2
+    same-length-2
+    returns-3)
