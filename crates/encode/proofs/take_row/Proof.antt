@@ -1,5 +1,5 @@
 -- Each return is the outcome after the search for a frozen one.
-use mathlib.Core.Path.{ap, sym, _∙_}
+use mathlib.Core.Path.{ap, _∙_}
 use Rattle.encode.specs.Outcome.{done}
 use Rattle.encode.specs.OutcomeLaws.{taking-refused, taking-done}
 use borrow.Author.Needs.{needs}
