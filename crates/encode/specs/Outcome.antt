@@ -1,11 +1,14 @@
 -- What `encode` and `inverse` tell and leave, for all that they can be given, in 01's numbers ("Refusal numbers and their order").
+use mathlib.Core.Path.{_≡_}
 use mathlib.Core.List.{List}
 use mathlib.Core.Bool.{Bool, true, false, not, cond}
 use Prim.Native.Nat.{ℕ, _^_}
 use lib.ListN.{length}
 use lib.Dec.{ltb, eqb}
+use Rattle.words.specs.Bits.{Bits}
 use Rattle.words.specs.Kinds.{kinds, dimension, pick, encoded}
 use Rattle.words.specs.Inverse.{TakenBack, taken, frozenOne, firstFrozenOne, takenBack}
+use Rattle.code.specs.declared.Code.{Code}
 use Rattle.code.specs.declared.Made.{Made}
 use Rattle.code.specs.declared.Made.the-variants.{Good, Bad}
 use Rattle.code.specs.Sound.{made, numberOf, placeOf}
@@ -52,6 +55,14 @@ tested r m input long output room rest =
     (cond (not (eqb (length input) long)) (refused 2 0 output)
     (cond (not (eqb (length output) room)) (refused 3 0 output)
     (cond (ltb (firstBadBit input) (length input)) (refused 4 (firstBadBit input) output) rest)))
+
+-- none of them applies
+pub record Passes (r m : ℕ) (input : List ℕ) (long : ℕ) (output : List ℕ) (room : ℕ) : Type 0 where
+  pub code : Code
+  pub is-made : made r m ≡ Good code
+  pub input-long : length input ≡ long
+  pub output-long : length output ≡ room
+  pub are-bits : Bits input
 
 -- of r, m, the information bits, and the buffer for the word
 unfoldable pub encoding : ℕ → ℕ → List ℕ → List ℕ → Outcome

@@ -21,7 +21,7 @@ use Rattle.code.specs.Sound.{made}
 use Rattle.code.specs.SoundLaws.{made-of}
 use Rattle.code.specs.Entries.{firstBadBit}
 use Rattle.code.specs.EntriesLaws.{first-none, good-bits}
-use Rattle.encode.specs.Outcome.{Outcome, done, refused, tested, takingRow, takingBack}
+use Rattle.encode.specs.Outcome.{Outcome, Passes, done, refused, tested, takingRow, takingBack}
 
 -- ---- the tests, one after the other, with the numbers k and n that the code compares
 module _ (r m : ℕ) (input : List ℕ) (long : ℕ) (output : List ℕ) (room : ℕ) (rest : Outcome) where
@@ -57,14 +57,6 @@ module _ (r m : ℕ) {c : Code} (good : made r m ≡ Good c) where
 
   pub its-dimension : {k : ℕ} → k ≡ dimension (c .r) (c .m) → k ≡ dimension r m
   its-dimension e = e ∙ ap (λ (d : Code). dimension (d .r) (d .m)) (made-of r m c good .same)
-
--- none of the tests 1 to 4 applies
-pub record Passes (r m : ℕ) (input : List ℕ) (long : ℕ) (output : List ℕ) (room : ℕ) : Type 0 where
-  pub code : Code
-  pub is-made : made r m ≡ Good code
-  pub input-long : length input ≡ long
-  pub output-long : length output ≡ room
-  pub are-bits : Bits input
 
 good-or-bad : (x : Made) → ((c : Code) × (x ≡ Good c)) ⊎ (x ≡ Bad)
 good-or-bad (Good c) = inl (c, refl)

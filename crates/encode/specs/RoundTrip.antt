@@ -14,12 +14,12 @@ use Rattle.words.specs.TransformLaws.{length-transform, bits-transform}
 use Rattle.words.specs.KindLaws.{length-kinds, bits-kinds, sum-kinds}
 use Rattle.words.specs.FillLaws.{length-fill, bits-fill}
 use Rattle.words.specs.InverseLaws.{taken-encoded, taken-gives, lowest-refused, refused-no-word, no-word-refused}
-use Rattle.encode.specs.Outcome.{Outcome, done, refused, encoding, inverting, takingBack}
-use Rattle.encode.specs.OutcomeLaws.{Passes, passes, passes-all}
+use Rattle.encode.specs.Outcome.{Outcome, Passes, done, refused, encoding, inverting, takingBack}
+use Rattle.encode.specs.OutcomeLaws.{passes, passes-all}
 
 -- ---- there and back
 module _ (r m : ℕ) where
-  -- what `inverse` is given is right where `encode` was given what is right, and the other way round
+  -- the word of bits that pass the tests passes those of `inverse`
   word-passes : (bits word room : List ℕ) → Passes r m bits (dimension r m) word (2 ^ m) → length room ≡ dimension r m
       → Passes r m (encoded m (kinds r m) bits) (2 ^ m) room (dimension r m)
   word-passes bits word room p l =
@@ -32,6 +32,7 @@ module _ (r m : ℕ) where
         are-bits = bits-transform m u (bits-fill (kinds r m) bits (p .are-bits));
       }
 
+  -- what `encode` wrote, `inverse` takes back
   pub inverse-of-encode : (bits word x room : List ℕ) → encoding r m bits word ≡ done x → length room ≡ dimension r m → inverting r m x room ≡ done bits
   unfolding encoding inverting
   inverse-of-encode bits word x room e l =
@@ -66,6 +67,7 @@ module _ (r m : ℕ) where
         let g = taken-gives m ks word (length-kinds r m) (bits-kinds r m) (p .input-long) (p .are-bits) b is in
         (g .0 ∙ sum-kinds r m, g .1, g .2)
 
+  -- what `inverse` wrote, `encode` gives again
   pub encode-of-inverse : (word bits b room : List ℕ) → inverting r m word bits ≡ done b → length room ≡ 2 ^ m → encoding r m b room ≡ done word
   unfolding encoding inverting
   encode-of-inverse word bits b room e l =
@@ -96,6 +98,7 @@ module _ (r m : ℕ) where
     five-no-word =
         refused-no-word m (kinds r m) word (length-kinds r m) (bits-kinds r m) (five-passes .input-long) (five-passes .are-bits) i five-frozen
 
+  -- and the other way: what no information bits give is refused so
   pub no-word-five : (word bits : List ℕ) → Passes r m word (2 ^ m) bits (dimension r m) → (Word m (kinds r m) word → ⊥)
       → (i : ℕ) × (inverting r m word bits ≡ refused 5 i bits)
   no-word-five word bits p none =
