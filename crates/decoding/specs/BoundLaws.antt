@@ -1,15 +1,21 @@
--- How large a running sum can be (01, "The quick reading"): at most n times the largest reading, whatever that is; 524,032 for 256 readings of 2,047.
-use mathlib.Core.List.{List, [], _∷_}
-use Prim.Native.Nat.{ℕ, _*_, _≤_}
+-- How large a running sum can be (01, "The quick reading"): at most n times the largest reading, whatever that is; 524,032 for 256 readings of 2,047. It is attained.
+use mathlib.Core.Path.{_≡_, refl, ap, sym, _∙_}
+use mathlib.Core.List.{List, [], _∷_, _++_}
+use Prim.Native.Nat.{ℕ, zero, suc, _+_, _-_, _*_, _^_, _≤_}
 use native.Mathlib.Omega.{arith}
-use native.Mathlib.Nat.{le-refl, le-trans}
-use lib.ListN.{length, getD}
-use lib.IntN.{ℤ, pos, natAbs}
+use native.Mathlib.Nat.{le-refl, le-trans, two-pow-succ, mul-add, add-mul}
+use lib.ListN.{length, getD, replicate, length-replicate, replicate-append-replicate}
+use lib.Seq.{take-at, drop-at}
+use lib.Pow.{pow-pos}
+use lib.IntN.{ℤ, pos, natAbs, _+ℤ_}
+use Rattle.words.specs.Word.{transform}
+use Rattle.words.specs.TransformLaws.{transform-zeros}
 use Rattle.decoding.specs.Readings.{sizes, Within}
-use Rattle.decoding.specs.Quick.{lowerRow, upperRow}
+use Rattle.decoding.specs.Quick.{uppers, lowerRow, upperRow}
 use Rattle.decoding.specs.Walk.{value}
 use Rattle.decoding.specs.StepLaws.{entry-sizes, sizes-lowerRow, sizes-upperRow, sizes-within}
 use Rattle.decoding.specs.PathLaws.{value-sizes}
+use Rattle.decoding.specs.QuickLaws.{value-upper}
 
 -- a row is cut at h, and gone on with its lower row, or with its upper row by the word a
 pub data Step : Type 0 where
@@ -38,3 +44,24 @@ module _ (largest : ℕ) (l : List ℤ) (within : Within largest l) where
 
 pub running-sum-524032 : (l : List ℤ) → Within 2047 l → length l ≤ 256 → (s : List Step) (i : ℕ) → natAbs (getD (sumsAfter l s) i (pos 0)) ≤ 524032
 running-sum-524032 l within short s i = omega (arith, running-sum-most 2047 l within s i)
+
+-- ---- the bound is attained: with all readings b, the value at the last index of the zero path is n × b
+uppers-equal : (n : ℕ) (x : ℤ) → uppers (replicate n x) (replicate n x) (replicate n 0) ≡ replicate n (x +ℤ x)
+uppers-equal zero x = refl
+uppers-equal (suc n) x = ap (λ (l : List ℤ). (x +ℤ x) ∷ l) (uppers-equal n x)
+
+pub value-attained : (m b : ℕ) → value m (replicate (2 ^ m) (pos b)) (replicate (2 ^ m - 1) 0) ≡ pos (2 ^ m * b)
+unfolding value
+value-attained zero b = ap pos (omega arith)
+value-attained (suc m) b =
+    let n = 2 ^ m in
+    let l = replicate n (pos b) in
+    let z : List ℕ = replicate n 0 in
+    let last : 2 ^ suc m - 1 ≡ n + (n - 1) = omega (arith, two-pow-succ m, pow-pos m) in
+    let row : upperRow n (l ++ l) (transform m z) ≡ replicate n (pos (b + b)) =
+    rw (transform-zeros m, take-at l l n (length-replicate n (pos b)), drop-at l l n (length-replicate n (pos b))) (uppers-equal n (pos b)) in
+    rw (last, two-pow-succ m, ← replicate-append-replicate n n (pos b), ← replicate-append-replicate {A = ℕ} n (n - 1) 0)
+    (value-upper m (l ++ l) z (replicate (n - 1) 0) (length-replicate n 0)
+    ∙ ap (λ (k : List ℤ). value m k (replicate (n - 1) 0)) row
+    ∙ value-attained m (b + b)
+    ∙ ap pos (mul-add n b b ∙ sym (add-mul n n b)))

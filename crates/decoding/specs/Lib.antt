@@ -24,6 +24,7 @@ pub mod TreeLaws
 pub mod AllowanceLaws
 pub mod AnswerLaws
 pub mod SearchLaws
+pub mod ZeroLaws
 -- Laws of readings that are negated by a word
 pub mod TurnLaws
 pub mod HeldLaws

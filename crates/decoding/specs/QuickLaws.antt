@@ -118,7 +118,7 @@ value-lower : (m : ℕ) (l : List ℤ) (w : List ℕ) → length w < 2 ^ m → v
 unfolding value
 value-lower m l w h = rw (lt-ltb (length w) (2 ^ m) h)
 
-value-upper : (m : ℕ) (l : List ℤ) (u w : List ℕ) → length u ≡ 2 ^ m → value (suc m) l (u ++ w) ≡ value m (upperRow (2 ^ m) l (transform m u)) w
+pub value-upper : (m : ℕ) (l : List ℤ) (u w : List ℕ) → length u ≡ 2 ^ m → value (suc m) l (u ++ w) ≡ value m (upperRow (2 ^ m) l (transform m u)) w
 unfolding value
 value-upper m l u w e =
     rw (le-ltb (length (u ++ w)) (2 ^ m) (rw (length-append u w) (omega arith)), take-at u w (2 ^ m) e, drop-at u w (2 ^ m) e)

@@ -1,4 +1,4 @@
--- A word of RM(r,m) that is not the zero row has at least 2^(m-r) ones, one has as many; so two words differ in at least 2^(m-r) places.
+-- A word of RM(r,m) that is not the zero row has at least 2^(m-r) ones, and one has as many; so the least distance of two words is 2^(m-r).
 use mathlib.Core.Path.{_≡_, refl, ap, ap₂, sym, subst, _∙_}
 use mathlib.Core.Logic.{_⊎_, inl, inr, ⊎-elim}
 use mathlib.Core.Bool.{cond}
@@ -15,7 +15,7 @@ use Rattle.numbers.specs.Halves.{length-first, length-second}
 use Rattle.words.specs.Bits.{Bits, xors}
 use Rattle.words.specs.Kinds.{kinds, Word, allOnes}
 use Rattle.words.specs.Distance.{weight, distance}
-use Rattle.words.specs.TransformLaws.{xors-twice, xors-self, xors-zeros, bits-take, bits-drop}
+use Rattle.words.specs.TransformLaws.{xors-twice, xors-self, xors-zeros, bits-take, bits-drop, bits-zeros}
 use Rattle.words.specs.KindLaws.{length-kinds}
 use Rattle.words.specs.InverseLaws.{word-length, word-bits, word-xors}
 use Rattle.words.specs.HalfLaws.{Below, word-below, below-word, below-first, below-second, below-joined, below-zero, below-zeros, below-ones}
@@ -147,5 +147,12 @@ below-lightest (suc r) (suc m) h =
     subst (λ (l : List ℕ). Below (suc (suc r)) (suc m) (l ++ zeros)) (xors-zeros (2 ^ m) a (g .long) (g .are-bits))
     (below-joined (suc (suc r)) m a zeros (subst (λ (d : ℕ). Below d m a) e g) (below-zeros (suc (suc r)) m))
 
-pub lightest-word : (r m : ℕ) → r ≤ m → Word m (kinds r m) (lightest r m) × (weight (lightest r m) ≡ 2 ^ (m - r))
-lightest-word r m h = (below-word r m (lightest r m) (below-lightest r m h), weight-lightest r m h)
+pub lightest-word : (r m : ℕ) → r ≤ m → Word m (kinds r m) (lightest r m)
+lightest-word r m h = below-word r m (lightest r m) (below-lightest r m h)
+
+-- it and the zero row, which is a word, are just so far apart
+pub distance-attained : (r m : ℕ) → r ≤ m → distance (lightest r m) (replicate (2 ^ m) 0) ≡ 2 ^ (m - r)
+distance-attained r m h =
+    let b = below-lightest r m h in
+    distance-weight (lightest r m) (replicate (2 ^ m) 0) (b .are-bits) (bits-zeros (2 ^ m))
+    ∙ ap weight (xors-zeros (2 ^ m) (lightest r m) (b .long) (b .are-bits)) ∙ weight-lightest r m h
