@@ -1,13 +1,26 @@
 -- An export tells the outcome of the call that it makes.
-use mathlib.Core.Path.{_≡_, ap, ap₂, _∙_}
-use mathlib.Core.List.{List}
+use mathlib.Core.Path.{_≡_, refl, ap, ap₂, _∙_}
+use mathlib.Core.List.{List, [], _∷_}
 use Prim.Native.Nat.{ℕ}
 use Rattle.encode.specs.declared.Encoded.{Encoded}
 use Rattle.encode.specs.Outcome as Encode
-use Rattle.pumpbox.specs.Told.{numbers, told, shown}
+use Rattle.search.specs.declared.Searched.{Searched}
+use Rattle.search.specs.declared.Searched.the-variants.{Found, Refused}
+use Rattle.search.specs.Outcome as Search
+use Rattle.pumpbox.specs.Told.{numbers, told, shown, shownSearch, searchedNumber, searchedNumbers}
 
 pub told-encoded : (answer : Encoded) (buffer : List ℕ) (o : Encode.Outcome) (returned place : ℕ) (out : List ℕ)
     → Encode.told answer buffer ≡ o → returned ≡ Encode.numberIn answer → place ≡ Encode.placeIn answer → out ≡ numbers 0 0 0 place
-    → told returned out buffer ≡ shown o
+    → told returned out (buffer ∷ []) ≡ shown o
 told-encoded answer buffer o returned place out e f g h =
-    ap₂ (λ (n : ℕ) (l : List ℕ). told n l buffer) f (h ∙ ap (numbers 0 0 0) g) ∙ ap shown e
+    ap₂ (λ (n : ℕ) (l : List ℕ). told n l (buffer ∷ [])) f (h ∙ ap (numbers 0 0 0) g) ∙ ap shown e
+
+by-answer : (answer : Searched) (bits word : List ℕ)
+    → told (searchedNumber answer) (searchedNumbers answer) (bits ∷ word ∷ []) ≡ shownSearch (Search.told answer bits word)
+by-answer (Found penalty gap visits) bits word = refl
+by-answer (Refused why) bits word = refl
+
+pub told-searched : (answer : Searched) (bits word : List ℕ) (o : Search.Outcome) (returned : ℕ) (out : List ℕ)
+    → Search.told answer bits word ≡ o → returned ≡ searchedNumber answer → out ≡ searchedNumbers answer → told returned out (bits ∷ word ∷ []) ≡ shownSearch o
+told-searched answer bits word o returned out e f g =
+    ap₂ (λ (n : ℕ) (l : List ℕ). told n l (bits ∷ word ∷ [])) f g ∙ by-answer answer bits word ∙ ap shownSearch e

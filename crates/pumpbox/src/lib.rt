@@ -1,8 +1,12 @@
 // The C exports, one per public call: include/cinorbis.h says what each means. A call returns 0 or its refusal's number.
 use encode::Encoded;
+use search::Searched;
 ghost use mathlib.Core.Path.{_≡_};
+ghost use mathlib.Core.List.{[], _∷_};
 ghost use Rattle.encode.specs.Outcome.{numberIn, placeIn, encoding, inverting};
-ghost use Rattle.pumpbox.specs.Told.{numbers, told, shown};
+ghost use Rattle.search.specs.Outcome.{searching};
+ghost use Rattle.code.specs.Sound.{defaultAllowance};
+ghost use Rattle.pumpbox.specs.Told.{numbers, told, shown, shownSearch, searchedNumber, searchedPenalty, searchedGap, searchedVisits, searchedPlace, searchedNumbers};
 
 // Penalty, gap, visits and place, in the order of the header's struct.
 fn put_numbers(out: &mut [u64; 4], penalty: u32, gap: u32, visits: u32, place: usize)
@@ -38,7 +42,7 @@ pub extern "C" fn cinorbis_encode(
     word: &mut [u8],
     out: &mut [u64; 4],
 ) -> u32
-    ensures { λ number. ⌜ told number (now (out .exit)) (now (word .exit)) ≡ shown (encoding r m (now (bits .entry)) (now (word .entry))) ⌝ }
+    ensures { λ number. ⌜ told number (now (out .exit)) (now (word .exit) ∷ []) ≡ shown (encoding r m (now (bits .entry)) (now (word .entry))) ⌝ }
 {
     let answer = encode::encode(r, m, bits, word);
     put_numbers(out, 0, 0, 0, place_of(answer));
@@ -53,9 +57,122 @@ pub extern "C" fn cinorbis_inverse(
     bits: &mut [u8],
     out: &mut [u64; 4],
 ) -> u32
-    ensures { λ number. ⌜ told number (now (out .exit)) (now (bits .exit)) ≡ shown (inverting r m (now (word .entry)) (now (bits .entry))) ⌝ }
+    ensures { λ number. ⌜ told number (now (out .exit)) (now (bits .exit) ∷ []) ≡ shown (inverting r m (now (word .entry)) (now (bits .entry))) ⌝ }
 {
     let answer = encode::inverse(r, m, word, bits);
     put_numbers(out, 0, 0, 0, place_of(answer));
     number_of(answer)
+}
+
+// The parts of a search's answer.
+fn searched_number(answer: Searched) -> u32
+    ensures { λ r. ⌜ r ≡ searchedNumber answer ⌝ }
+{
+    match answer {
+        Searched::Found {
+            penalty: _,
+            gap: _,
+            visits: _,
+        } => 0,
+        Searched::Refused(why) => why.number(),
+    }
+}
+
+fn searched_penalty(answer: Searched) -> u32
+    ensures { λ r. ⌜ r ≡ searchedPenalty answer ⌝ }
+{
+    match answer {
+        Searched::Found {
+            penalty,
+            gap: _,
+            visits: _,
+        } => penalty,
+        Searched::Refused(why) => why.penalty(),
+    }
+}
+
+fn searched_gap(answer: Searched) -> u32
+    ensures { λ r. ⌜ r ≡ searchedGap answer ⌝ }
+{
+    match answer {
+        Searched::Found {
+            penalty: _,
+            gap,
+            visits: _,
+        } => gap,
+        Searched::Refused(_) => 0,
+    }
+}
+
+fn searched_visits(answer: Searched) -> u32
+    ensures { λ r. ⌜ r ≡ searchedVisits answer ⌝ }
+{
+    match answer {
+        Searched::Found {
+            penalty: _,
+            gap: _,
+            visits,
+        } => visits,
+        Searched::Refused(why) => why.visits(),
+    }
+}
+
+fn searched_place(answer: Searched) -> usize
+    ensures { λ r. ⌜ r ≡ searchedPlace answer ⌝ }
+{
+    match answer {
+        Searched::Found {
+            penalty: _,
+            gap: _,
+            visits: _,
+        } => 0,
+        Searched::Refused(why) => why.place(),
+    }
+}
+
+// The values of a search's answer go into the numbers; its number is returned.
+fn put_searched(answer: Searched, out: &mut [u64; 4]) -> u32
+    ensures { λ number. ⌜ (number ≡ searchedNumber answer) × (now (out .exit) ≡ searchedNumbers answer) ⌝ }
+{
+    put_numbers(
+        out,
+        searched_penalty(answer),
+        searched_gap(answer),
+        searched_visits(answer),
+        searched_place(answer),
+    );
+    searched_number(answer)
+}
+
+#[no_mangle]
+pub extern "C" fn cinorbis_search_within(
+    r: u32,
+    m: u32,
+    allowed: u32,
+    readings: &[i16],
+    bits: &mut [u8],
+    word: &mut [u8],
+    out: &mut [u64; 4],
+) -> u32
+    ensures { λ number. ⌜ told number (now (out .exit)) (now (bits .exit) ∷ now (word .exit) ∷ [])
+        ≡ shownSearch (searching r m allowed (now (readings .entry)) (now (bits .entry)) (now (word .entry))) ⌝ }
+{
+    let answer = search::search_within(r, m, allowed, readings, bits, word);
+    put_searched(answer, out)
+}
+
+#[no_mangle]
+pub extern "C" fn cinorbis_search(
+    r: u32,
+    m: u32,
+    readings: &[i16],
+    bits: &mut [u8],
+    word: &mut [u8],
+    out: &mut [u64; 4],
+) -> u32
+    ensures { λ number. ⌜ told number (now (out .exit)) (now (bits .exit) ∷ now (word .exit) ∷ [])
+        ≡ shownSearch (searching r m defaultAllowance (now (readings .entry)) (now (bits .entry)) (now (word .entry))) ⌝ }
+{
+    let answer = search::search(r, m, readings, bits, word);
+    put_searched(answer, out)
 }
