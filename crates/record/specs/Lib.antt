@@ -4,3 +4,4 @@ pub mod Reader
 pub mod ReaderLaws
 pub mod Accepted
 pub mod OnlyHeader
+pub mod Searching

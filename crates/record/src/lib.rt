@@ -8,9 +8,12 @@ ghost use Rattle.code.specs.Entries.{firstBadReading};
 ghost use Rattle.record.specs.Layout.{reading, unpacked, partLength};
 ghost use Rattle.record.specs.Reader.{codeOf, lengthBy, framedBy, frameOf};
 ghost use Rattle.record.specs.Reader.{railedBy, headerOf, told, partBy, laidOver};
+ghost use Rattle.search.specs.Outcome as Search;
+ghost use Rattle.record.specs.Searching.{searchingBy, searchingRecord};
 use code::Code;
 use code::Made;
 use code::Refusal;
+use search::Searched;
 
 // What bytes begin with: a record of a code, or why not.
 pub enum Header {
@@ -176,4 +179,27 @@ pub fn packed(s: &[u8]) -> &[u8]
         }
         Header::Refused(_) => &s[..0],
     }
+}
+
+// Searches the record that the bytes begin with. The refusals are 1, 8, 9, 3, 4, 6, 7, in this order.
+pub fn search_record(s: &[u8], allowed: u32, bits: &mut [u8], word: &mut [u8]) -> Searched
+    ensures { λ answer. ⌜ Search.told answer (now (bits .exit)) (now (word .exit))
+        ≡ searchingRecord allowed (now (s .entry)) (now (bits .entry)) (now (word .entry)) ⌝ }
+{
+    match frame(s) {
+        Header::Record(code) => search_framed(s, code, allowed, bits, word),
+        Header::Refused(why) => Searched::Refused(why),
+    }
+}
+
+fn search_framed(s: &[u8], code: Code, allowed: u32, bits: &mut [u8], word: &mut [u8]) -> Searched
+    requires { ⌜ Sound code × (suc (partLength (code .m)) ≤ length (now s)) ⌝ }
+    ensures { λ answer. ⌜ Search.told answer (now (bits .exit)) (now (word .exit))
+        ≡ searchingBy (Header.Record code) allowed (now (s .entry)) (now (bits .entry)) (now (word .entry)) ⌝ }
+{
+    let mut readings = [0i16; 256];
+    let n = code.length();
+    let end = 1 + part_length(code);
+    unpack(&s[1..end], &mut readings);
+    search::search_within(code.r, code.m, allowed, &readings[0..n], bits, word)
 }
