@@ -45,6 +45,11 @@ module _ (allowed : ℕ) (bits word : List ℕ) where
   answered-only : (a a′ : Answer) → answered allowed bits word a ≡ answered allowed bits word a′ → a ≡ a′
   answered-only a a′ e = sym (answer-back a) ∙ ap answerOf e ∙ answer-back a′
 
+  number-out : (a : Answer) → answered allowed bits word a .number ≡ 6 → a ≡ outOfVisits
+  number-out (found b x p g v) e = absurd (omega arith)
+  number-out (tied p v) e = absurd (omega arith)
+  number-out outOfVisits e = refl
+
 plus-together : {b c : List ℕ} {a a′ : Answer} (allowed allowed′ : ℕ) (bits word bits′ word′ : List ℕ) → Together b c a a′
     → PlusWord b c (answered allowed bits word a) (answered allowed′ bits′ word′ a′)
 plus-together allowed allowed′ bits word bits′ word′ (both-tied p v v′) =
@@ -89,6 +94,9 @@ outcome-demands {r} {m} {l} {bits} {word} x =
             same-search = λ never allowed.
                 rw (is allowed, admitted-answered y allowed, n .same-answer never allowed) (plus-same (w .bits) c (answer m (kinds r m) l allowed) allowed bits word bits′ word′);
           };
+      whole-tree = λ allowed h n.
+          d .whole-tree allowed h
+          (number-out allowed bits word (answer m (kinds r m) l allowed) (ap (λ (o : Outcome). o .number) (sym (is allowed)) ∙ n));
       demand-3-all-ones = λ w bits′ word′ e f.
           let n = d .demand-3-all-ones w in
           let t = d .demand-3 (allOnes m) w in
