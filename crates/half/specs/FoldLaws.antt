@@ -6,10 +6,9 @@ use native.Mathlib.Omega.{arith}
 use native.Mathlib.Numerals.{add-one}
 use lib.ListN.{length, getD, set, take, drop, length-append}
 use lib.Seq.{take-at, drop-at, getD-drop, getD-take, take-all}
-use borrow.Rule.Slice.PartMut.{midOf, putMid}
 use Rattle.numbers.specs.Front.{front, front-suc, front-after}
 use Rattle.numbers.specs.Halves.{halved, length-first-half, length-second-half, equal-halves}
-use Rattle.numbers.specs.Lent.{lent-to, back-to, lent-from, back-from}
+use Rattle.numbers.specs.Lent.{lent-to, back-to, lent-from, back-from, firstOut, firstBack, secondOut, secondBack}
 use Rattle.words.specs.Bits.{Bits, xors}
 use Rattle.words.specs.Word.{transform}
 use Rattle.words.specs.TransformLaws.{length-xors, getD-xors, length-transform, bits-transform, bits-append, bits-take, bits-drop}
@@ -40,26 +39,16 @@ module _ (d : List ℕ) (h : ℕ) (e : length d ≡ h + h) where
   all-turns = ap (λ (l : List ℕ). l ++ drop h d) (take-all h (sums d h) (omega (arith, length-sums)))
 
 -- ---- a word x of 2^m bits, lent by halves
--- `w` is the word when its first half is back as a; the second goes out then, and comes back as b
-abbrev pub firstBack : List ℕ → List ℕ → List ℕ
-firstBack x a = putMid 0 (length x / 2 - 0) x a
-
-abbrev pub secondOut : List ℕ → List ℕ → List ℕ
-secondOut x w = midOf (length x / 2) (length w - length x / 2) w
-
-abbrev pub secondBack : List ℕ → List ℕ → List ℕ → List ℕ
-secondBack x w b = putMid (length x / 2) (length w - length x / 2) w b
-
 module _ (m : ℕ) (x : List ℕ) (long : length x ≡ 2 ^ m) (bits : Bits x) (more : m ≡ 0 → ⊥) where
   first-long : length (take (length x / 2) x) ≡ length x / 2
   first-long = length-first-half (length x / 2) x (halved (length x) m long more .whole)
 
-  pub first-asked : (length (midOf 0 (length x / 2 - 0) x) ≡ 2 ^ (m - 1)) × Bits (midOf 0 (length x / 2 - 0) x)
+  pub first-asked : (length (firstOut x) ≡ 2 ^ (m - 1)) × Bits (firstOut x)
   first-asked =
       let e = lent-to (length x / 2) x in
       (ap length e ∙ first-long ∙ halved (length x) m long more .half, subst Bits (sym e) (bits-take (length x / 2) x bits))
 
-  module _ (a : List ℕ) (is : a ≡ transform (m - 1) (midOf 0 (length x / 2 - 0) x)) where
+  module _ (a : List ℕ) (is : a ≡ transform (m - 1) (firstOut x)) where
     is-first : a ≡ transform (m - 1) (take (length x / 2) x)
     is-first = rw (← lent-to (length x / 2) x) is
 

@@ -9,7 +9,7 @@ use lib.ListN.{length, take, drop, length-drop}
 use lib.Seq.{length-take-le, take-take}
 use borrow.Rule.Slice.PartMut.{midOf}
 use Rattle.numbers.specs.Halves.{Halved, halved, drop-take}
-use Rattle.numbers.specs.Lent.{lent-to, lent-from}
+use Rattle.numbers.specs.Lent.{lent-to, lent-from, firstOut, secondOut}
 use Rattle.words.specs.Bits.{Bits}
 use Rattle.words.specs.TransformLaws.{bits-take, bits-drop}
 use Rattle.decoding.specs.Readings.{sizes}
@@ -20,7 +20,7 @@ use Rattle.rows.specs.RowLaws.{length-rowOf}
 use Rattle.rows.specs.PlaceLaws.{rowOf-withRow, behind-withRow, length-withRow, behind-more}
 use Rattle.memory.specs.Memory.{pathOf, Stands}
 use Rattle.memory.specs.Ready.{PathReady, RowReady, RowsMade, TopReady}
-use Rattle.memory.specs.PathLaws.{firstOut, secondOut, first-ready, second-ready}
+use Rattle.memory.specs.PathLaws.{first-ready, second-ready}
 use Rattle.memory.specs.StandsLaws.{made-lower, made-upper}
 
 -- ---- no row below a row of one sum

@@ -4,11 +4,11 @@ use mathlib.Core.List.{List, [], _∷_, _++_, append-assoc}
 use Prim.Native.Nat.{ℕ, zero, suc, _+_, _-_, _^_, _/_, _≤_, _<_}
 use native.Mathlib.Omega.{arith}
 use native.Mathlib.Nat.{two-pow-succ, suc-ne-zero}
-use lib.ListN.{length, take, drop, set, length-append, length-drop, take-append-drop}
+use lib.ListN.{length, take, drop, set, length-append, take-append-drop}
 use lib.Seq.{take-at, drop-at, length-take-le, take-append-add}
 use borrow.Rule.Slice.PartMut.{midOf, putMid, same-len-mid}
 use Rattle.numbers.specs.Halves.{halved, length-first-half, length-second-half}
-use Rattle.numbers.specs.Lent.{lent-to, back-to, lent-from, back-from}
+use Rattle.numbers.specs.Lent.{lent-to, back-to, lent-from, back-from, firstOut, firstBack, secondOut, secondBack}
 use Rattle.words.specs.Bits.{Bits, xors}
 use Rattle.words.specs.Word.{transform}
 use Rattle.words.specs.TransformLaws.{length-xors, length-transform, transform-xors, xors-twice, bits-transform, bits-take, bits-drop, bits-append, bits-xors}
@@ -173,24 +173,12 @@ module _ (m p h : ℕ) (above : m ≡ suc p) (half : h ≡ 2 ^ p) where
         }
 
 -- ---- the same in the words of the code: the bytes x are lent by halves
-abbrev pub firstOut : List ℕ → List ℕ
-firstOut x = midOf 0 (length x / 2 - 0) x
-
-abbrev pub firstBack : List ℕ → List ℕ → List ℕ
-firstBack x a = putMid 0 (length x / 2 - 0) x a
-
-abbrev pub secondOut : List ℕ → List ℕ → List ℕ
-secondOut x w = midOf (length x / 2) (length w - length x / 2) w
-
-abbrev pub secondBack : List ℕ → List ℕ → List ℕ → List ℕ
-secondBack x w q = putMid (length x / 2) (length w - length x / 2) w q
-
 module _ (m i : ℕ) (x : List ℕ) (r : PathReady m i x) (more : m ≡ 0 → ⊥) where
   first-half : length (take (length x / 2) x) ≡ length x / 2
   first-half = length-first-half (length x / 2) x (halved (length x) m (r .long) more .whole)
 
   second-half : length (drop (length x / 2) x) ≡ length x / 2
-  second-half = simp length-drop (omega (arith, halved (length x) m (r .long) more .whole))
+  second-half = length-second-half (length x / 2) x (halved (length x) m (r .long) more .whole)
 
   pub first-ready : i < length x / 2 → PathReady (m - 1) i (firstOut x)
   first-ready k =
