@@ -3,6 +3,9 @@ use mathlib.Core.List.{List, [], _∷_}
 use Prim.Native.Nat.{ℕ}
 use Rattle.code.specs.Sound.{numberOf, placeOf, penaltyOf, visitsOf}
 use Rattle.encode.specs.Outcome as Encode
+use Rattle.quick.specs.Outcome as Quick
+use Rattle.quick.specs.declared.Read.{Read}
+use Rattle.quick.specs.declared.Read.the-variants as read
 use Rattle.search.specs.Outcome as Search
 use Rattle.search.specs.declared.Searched.{Searched}
 use Rattle.search.specs.declared.Searched.the-variants.{Found, Refused}
@@ -24,9 +27,26 @@ told returned out buffers = record { returned = returned; out = out; buffers = b
 abbrev pub shown : Encode.Outcome → Told
 shown o = told (o .number) (numbers 0 0 0 (o .place)) (o .buffer ∷ [])
 
+-- an outcome of the quick reading
+abbrev pub shownQuick : Quick.Outcome → Told
+shownQuick o = told (o .number) (numbers (o .penalty) 0 0 (o .place)) (o .bits ∷ o .word ∷ [])
+
 -- an outcome of a search
 abbrev pub shownSearch : Search.Outcome → Told
 shownSearch o = told (o .number) (numbers (o .penalty) (o .gap) (o .visits) (o .place)) (o .bits ∷ o .word ∷ [])
+
+-- ---- the parts of a quick reading's answer
+abbrev pub readNumber : Read → ℕ
+readNumber (read.Done penalty) = 0
+readNumber (read.Refused why) = numberOf why
+
+abbrev pub readPenalty : Read → ℕ
+readPenalty (read.Done penalty) = penalty
+readPenalty (read.Refused why) = penaltyOf why
+
+abbrev pub readPlace : Read → ℕ
+readPlace (read.Done penalty) = 0
+readPlace (read.Refused why) = placeOf why
 
 -- ---- the parts of a search's answer
 abbrev pub searchedNumber : Searched → ℕ

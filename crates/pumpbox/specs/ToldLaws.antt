@@ -4,16 +4,30 @@ use mathlib.Core.List.{List, [], _∷_}
 use Prim.Native.Nat.{ℕ}
 use Rattle.encode.specs.declared.Encoded.{Encoded}
 use Rattle.encode.specs.Outcome as Encode
+use Rattle.quick.specs.declared.Read.{Read}
+use Rattle.quick.specs.declared.Read.the-variants as read
+use Rattle.quick.specs.Outcome as Quick
 use Rattle.search.specs.declared.Searched.{Searched}
 use Rattle.search.specs.declared.Searched.the-variants.{Found, Refused}
 use Rattle.search.specs.Outcome as Search
-use Rattle.pumpbox.specs.Told.{numbers, told, shown, shownSearch, searchedNumber, searchedNumbers}
+use Rattle.pumpbox.specs.Told.{numbers, told, shown, shownQuick, shownSearch, readNumber, readPenalty, readPlace, searchedNumber, searchedNumbers}
 
 pub told-encoded : (answer : Encoded) (buffer : List ℕ) (o : Encode.Outcome) (returned place : ℕ) (out : List ℕ)
     → Encode.told answer buffer ≡ o → returned ≡ Encode.numberIn answer → place ≡ Encode.placeIn answer → out ≡ numbers 0 0 0 place
     → told returned out (buffer ∷ []) ≡ shown o
 told-encoded answer buffer o returned place out e f g h =
     ap₂ (λ (n : ℕ) (l : List ℕ). told n l (buffer ∷ [])) f (h ∙ ap (numbers 0 0 0) g) ∙ ap shown e
+
+by-read : (answer : Read) (bits word : List ℕ)
+    → told (readNumber answer) (numbers (readPenalty answer) 0 0 (readPlace answer)) (bits ∷ word ∷ []) ≡ shownQuick (Quick.told answer bits word)
+by-read (read.Done penalty) bits word = refl
+by-read (read.Refused why) bits word = refl
+
+pub told-read : (answer : Read) (bits word : List ℕ) (o : Quick.Outcome) (returned penalty place : ℕ) (out : List ℕ)
+    → Quick.told answer bits word ≡ o → returned ≡ readNumber answer → penalty ≡ readPenalty answer → place ≡ readPlace answer
+    → out ≡ numbers penalty 0 0 place → told returned out (bits ∷ word ∷ []) ≡ shownQuick o
+told-read answer bits word o returned penalty place out e f g h k =
+    ap₂ (λ (n : ℕ) (l : List ℕ). told n l (bits ∷ word ∷ [])) f (k ∙ ap₂ (λ (p q : ℕ). numbers p 0 0 q) g h) ∙ by-read answer bits word ∙ ap shownQuick e
 
 by-answer : (answer : Searched) (bits word : List ℕ)
     → told (searchedNumber answer) (searchedNumbers answer) (bits ∷ word ∷ []) ≡ shownSearch (Search.told answer bits word)

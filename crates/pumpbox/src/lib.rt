@@ -1,12 +1,14 @@
 // The C exports, one per public call: include/cinorbis.h says what each means. A call returns 0 or its refusal's number.
 use encode::Encoded;
+use quick::Read;
 use search::Searched;
 ghost use mathlib.Core.Path.{_≡_};
 ghost use mathlib.Core.List.{[], _∷_};
 ghost use Rattle.encode.specs.Outcome.{numberIn, placeIn, encoding, inverting};
+ghost use Rattle.quick.specs.Outcome.{reading};
 ghost use Rattle.search.specs.Outcome.{searching};
 ghost use Rattle.code.specs.Sound.{defaultAllowance};
-ghost use Rattle.pumpbox.specs.Told.{numbers, told, shown, shownSearch, searchedNumber, searchedPenalty, searchedGap, searchedVisits, searchedPlace, searchedNumbers};
+ghost use Rattle.pumpbox.specs.Told.{numbers, told, shown, shownQuick, shownSearch, readNumber, readPenalty, readPlace, searchedNumber, searchedPenalty, searchedGap, searchedVisits, searchedPlace, searchedNumbers};
 
 // Penalty, gap, visits and place, in the order of the header's struct.
 fn put_numbers(out: &mut [u64; 4], penalty: u32, gap: u32, visits: u32, place: usize)
@@ -62,6 +64,51 @@ pub extern "C" fn cinorbis_inverse(
     let answer = encode::inverse(r, m, word, bits);
     put_numbers(out, 0, 0, 0, place_of(answer));
     number_of(answer)
+}
+
+// The parts of a quick reading's answer.
+fn read_number(answer: Read) -> u32
+    ensures { λ r. ⌜ r ≡ readNumber answer ⌝ }
+{
+    match answer {
+        Read::Done { penalty: _ } => 0,
+        Read::Refused(why) => why.number(),
+    }
+}
+
+fn read_penalty(answer: Read) -> u32
+    ensures { λ r. ⌜ r ≡ readPenalty answer ⌝ }
+{
+    match answer {
+        Read::Done { penalty } => penalty,
+        Read::Refused(why) => why.penalty(),
+    }
+}
+
+fn read_place(answer: Read) -> usize
+    ensures { λ r. ⌜ r ≡ readPlace answer ⌝ }
+{
+    match answer {
+        Read::Done { penalty: _ } => 0,
+        Read::Refused(why) => why.place(),
+    }
+}
+
+#[no_mangle]
+pub extern "C" fn cinorbis_quick(
+    r: u32,
+    m: u32,
+    readings: &[i16],
+    bits: &mut [u8],
+    word: &mut [u8],
+    out: &mut [u64; 4],
+) -> u32
+    ensures { λ number. ⌜ told number (now (out .exit)) (now (bits .exit) ∷ now (word .exit) ∷ [])
+        ≡ shownQuick (reading r m (now (readings .entry)) (now (bits .entry)) (now (word .entry))) ⌝ }
+{
+    let answer = quick::quick(r, m, readings, bits, word);
+    put_numbers(out, read_penalty(answer), 0, 0, read_place(answer));
+    read_number(answer)
 }
 
 // The parts of a search's answer.
