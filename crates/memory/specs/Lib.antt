@@ -7,3 +7,5 @@ pub mod MakeLaws
 pub mod ValueLaws
 pub mod RefreshLaws
 pub mod FreshLaws
+pub mod Blocks
+pub mod BlockLaws

@@ -8,7 +8,7 @@ use lib.IntN.{ℤ}
 use lib.ListN.{length, take, drop, length-drop}
 use lib.Seq.{length-take-le, take-take}
 use borrow.Rule.Slice.PartMut.{midOf}
-use Rattle.numbers.specs.Halves.{Halved, halved, drop-take}
+use Rattle.numbers.specs.Halves.{Halved, halved, drop-take, length-first-half, length-second-half}
 use Rattle.numbers.specs.Lent.{lent-to, lent-from, firstOut, secondOut}
 use Rattle.words.specs.Bits.{Bits}
 use Rattle.words.specs.TransformLaws.{bits-take, bits-drop}
@@ -20,8 +20,25 @@ use Rattle.rows.specs.RowLaws.{length-rowOf}
 use Rattle.rows.specs.PlaceLaws.{rowOf-withRow, behind-withRow, length-withRow, behind-more}
 use Rattle.memory.specs.Memory.{pathOf, Stands}
 use Rattle.memory.specs.Ready.{PathReady, RowReady, RowsMade, TopReady}
-use Rattle.memory.specs.PathLaws.{first-ready, second-ready}
 use Rattle.memory.specs.StandsLaws.{made-lower, made-upper}
+
+-- ---- the bytes x lent by halves
+module _ (m i : ℕ) (x : List ℕ) (r : PathReady m i x) (more : m ≡ 0 → ⊥) where
+  first-ready : i < length x / 2 → PathReady (m - 1) i (firstOut x)
+  first-ready k =
+      let H = halved (length x) m (r .long) more in
+      let e = lent-to (length x / 2) x in
+      record { long = ap length e ∙ length-first-half (length x / 2) x (H .whole) ∙ H .half; inside = omega (arith, H .half); bits = subst Bits (sym e) (bits-take (length x / 2) x (r .bits)) }
+
+  second-ready : length x / 2 ≤ i → PathReady (m - 1) (i - length x / 2) (secondOut x x)
+  second-ready k =
+      let H = halved (length x) m (r .long) more in
+      let e = lent-from (length x / 2) x in
+      record {
+        long = ap length e ∙ length-second-half (length x / 2) x (H .whole) ∙ H .half;
+        inside = omega (arith, H .half, H .whole, r .long, r .inside);
+        bits = subst Bits (sym e) (bits-drop (length x / 2) x (r .bits));
+      }
 
 -- ---- no row below a row of one sum
 pub none-made : (m : ℕ) (u : List ℕ) (s : List ℤ) → m ≡ 0 → RowsMade m u s s

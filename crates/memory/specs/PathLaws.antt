@@ -1,14 +1,12 @@
--- A bit put on the path by halves, and taken back: what each call on a half of the bytes is asked, and what its answer makes of the whole.
+-- A bit put on the path, and taken back: in one byte, in the first or second half of the bytes, and at their end, where the halves are folded.
 use mathlib.Core.Path.{_≡_, refl, ap, ap₂, sym, _∙_, subst}
 use mathlib.Core.List.{List, [], _∷_, _++_, append-assoc}
-use Prim.Native.Nat.{ℕ, zero, suc, _+_, _-_, _^_, _/_, _≤_, _<_}
+use Prim.Native.Nat.{ℕ, zero, suc, _+_, _-_, _^_, _≤_, _<_}
 use native.Mathlib.Omega.{arith}
 use native.Mathlib.Nat.{two-pow-succ, suc-ne-zero}
 use lib.ListN.{length, take, drop, set, length-append, take-append-drop}
-use lib.Seq.{take-at, drop-at, length-take-le, take-append-add}
-use borrow.Rule.Slice.PartMut.{midOf, putMid, same-len-mid}
-use Rattle.numbers.specs.Halves.{halved, length-first-half, length-second-half}
-use Rattle.numbers.specs.Lent.{lent-to, back-to, lent-from, back-from, firstOut, firstBack, secondOut, secondBack}
+use lib.Seq.{take-at, drop-at, take-append-add}
+use Rattle.numbers.specs.Halves.{length-first-half, length-second-half}
 use Rattle.words.specs.Bits.{Bits, xors}
 use Rattle.words.specs.Word.{transform}
 use Rattle.words.specs.TransformLaws.{length-xors, length-transform, transform-xors, xors-twice, bits-transform, bits-take, bits-drop, bits-append, bits-xors}
@@ -18,7 +16,7 @@ use Rattle.memory.specs.MemoryLaws.{path-first, path-upper, path-full}
 use Rattle.memory.specs.Ready.{PathReady, BitPut, BitBack}
 
 -- ---- one byte
-bits-set : (x : List ℕ) (i b : ℕ) → b < 2 → Bits x → Bits (set x i b)
+pub bits-set : (x : List ℕ) (i b : ℕ) → b < 2 → Bits x → Bits (set x i b)
 bits-set [] i b k h j = h j
 bits-set (a ∷ x) zero b k h zero = k
 bits-set (a ∷ x) zero b k h (suc j) = h (suc j)
@@ -171,126 +169,3 @@ module _ (m p h : ℕ) (above : m ≡ suc p) (half : h ≡ 2 ^ p) where
               ∙ ap (take i) (sym whole);
           bits = bits-append (take h (folded h x)) q (subst Bits (sym first) (bits-xors (take h x) (drop h x))) (E .bits);
         }
-
--- ---- the same in the words of the code: the bytes x are lent by halves
-module _ (m i : ℕ) (x : List ℕ) (r : PathReady m i x) (more : m ≡ 0 → ⊥) where
-  first-half : length (take (length x / 2) x) ≡ length x / 2
-  first-half = length-first-half (length x / 2) x (halved (length x) m (r .long) more .whole)
-
-  second-half : length (drop (length x / 2) x) ≡ length x / 2
-  second-half = length-second-half (length x / 2) x (halved (length x) m (r .long) more .whole)
-
-  pub first-ready : i < length x / 2 → PathReady (m - 1) i (firstOut x)
-  first-ready k =
-      let H = halved (length x) m (r .long) more in
-      let e = lent-to (length x / 2) x in
-      record { long = ap length e ∙ first-half ∙ H .half; inside = omega (arith, H .half); bits = subst Bits (sym e) (bits-take (length x / 2) x (r .bits)) }
-
-  pub second-ready : length x / 2 ≤ i → PathReady (m - 1) (i - length x / 2) (secondOut x x)
-  second-ready k =
-      let H = halved (length x) m (r .long) more in
-      let e = lent-from (length x / 2) x in
-      record {
-        long = ap length e ∙ second-half ∙ H .half;
-        inside = omega (arith, H .half, H .whole, r .long, r .inside);
-        bits = subst Bits (sym e) (bits-drop (length x / 2) x (r .bits));
-      }
-
-  pub first-put : (b : ℕ) (a : List ℕ) → i < length x / 2 → length a ≡ length (firstOut x) → BitPut (m - 1) i b (firstOut x) a → BitPut m i b x (firstBack x a)
-  first-put b a k la E =
-      let H = halved (length x) m (r .long) more in
-      let e = lent-to (length x / 2) x in
-      subst (BitPut m i b x) (sym (back-to (length x / 2) x a))
-      (put-first m (m - 1) (length x / 2) (H .above) (H .half) x i (H .whole) (r .bits) b a k (la ∙ ap length e ∙ first-half) (subst (λ (l : List ℕ). BitPut (m - 1) i b l a) e E))
-
-  pub first-taken : (a : List ℕ) → i < length x / 2 → length a ≡ length (firstOut x) → BitBack (m - 1) i (firstOut x) a → BitBack m i x (firstBack x a)
-  first-taken a k la E =
-      let H = halved (length x) m (r .long) more in
-      let e = lent-to (length x / 2) x in
-      subst (BitBack m i x) (sym (back-to (length x / 2) x a))
-      (back-first m (m - 1) (length x / 2) (H .above) (H .half) x i (H .whole) (r .bits) a k (la ∙ ap length e ∙ first-half) (subst (λ (l : List ℕ). BitBack (m - 1) i l a) e E))
-
-  module _ (q : List ℕ) (k : length x / 2 ≤ i) (lq : length q ≡ length (secondOut x x)) where
-    long-q : length q ≡ length x / 2
-    long-q = lq ∙ ap length (lent-from (length x / 2) x) ∙ second-half
-
-    pub second-put : (b : ℕ) → i + 1 < length x → BitPut (m - 1) (i - length x / 2) b (secondOut x x) q → BitPut m i b x (secondBack x x q)
-    second-put b j E =
-        let H = halved (length x) m (r .long) more in
-        subst (BitPut m i b x) (sym (back-from (length x / 2) x q))
-        (put-second m (m - 1) (length x / 2) (H .above) (H .half) x i (H .whole) (r .bits) b q k (omega (arith, H .whole)) long-q
-        (subst (λ (l : List ℕ). BitPut (m - 1) (i - length x / 2) b l q) (lent-from (length x / 2) x) E))
-
-    pub second-taken : i + 1 < length x → BitBack (m - 1) (i - length x / 2) (secondOut x x) q → BitBack m i x (secondBack x x q)
-    second-taken j E =
-        let H = halved (length x) m (r .long) more in
-        subst (BitBack m i x) (sym (back-from (length x / 2) x q))
-        (back-second m (m - 1) (length x / 2) (H .above) (H .half) x i (H .whole) (r .bits) q k (omega (arith, H .whole)) long-q
-        (subst (λ (l : List ℕ). BitBack (m - 1) (i - length x / 2) l q) (lent-from (length x / 2) x) E))
-
-    pub put-fold-asked : Bits q → (length (secondBack x x q) ≡ length x / 2 + length x / 2) × Bits (secondBack x x q)
-    put-fold-asked b =
-        let H = halved (length x) m (r .long) more in
-        let e = back-from (length x / 2) x q in
-        (same-len-mid (length x / 2) (length x - length x / 2) x q lq ∙ H .whole, subst Bits (sym e) (bits-append (take (length x / 2) x) q (bits-take (length x / 2) x (r .bits)) b))
-
-    pub last-put : (b : ℕ) → length x ≤ i + 1 → BitPut (m - 1) (i - length x / 2) b (secondOut x x) q → BitPut m i b x (folded (length x / 2) (secondBack x x q))
-    last-put b j E =
-        let H = halved (length x) m (r .long) more in
-        subst (λ (l : List ℕ). BitPut m i b x (folded (length x / 2) l)) (sym (back-from (length x / 2) x q))
-        (put-last m (m - 1) (length x / 2) (H .above) (H .half) x i (H .whole) (r .bits) b q (omega (arith, H .whole, r .long, r .inside)) long-q
-        (subst (λ (l : List ℕ). BitPut (m - 1) (i - length x / 2) b l q) (lent-from (length x / 2) x) E))
-
-  module _ (w : List ℕ) (is : w ≡ folded (length x / 2) x) (j : length x ≤ i + 1) where
-    last-out : secondOut x w ≡ drop (length x / 2) (folded (length x / 2) x)
-    last-out = lent-from (length x / 2) w ∙ ap (drop (length x / 2)) is
-
-    last-is : drop (length x / 2) (folded (length x / 2) x) ≡ drop (length x / 2) x
-    last-is =
-        drop-at (xors (take (length x / 2) x) (drop (length x / 2) x)) (drop (length x / 2) x) (length x / 2)
-        (length-xors (take (length x / 2) x) (drop (length x / 2) x) (first-half ∙ sym second-half) ∙ first-half)
-
-    last-long : length (secondOut x w) ≡ length x / 2
-    last-long = ap length (last-out ∙ last-is) ∙ second-half
-
-    pub last-ready : PathReady (m - 1) (i - length x / 2) (secondOut x w)
-    last-ready =
-        let H = halved (length x) m (r .long) more in
-        record {
-          long = last-long ∙ H .half;
-          inside = omega (arith, H .half, H .whole, r .long, r .inside);
-          bits = subst Bits (sym (last-out ∙ last-is)) (bits-drop (length x / 2) x (r .bits));
-        }
-
-    pub last-taken : (q : List ℕ) → length q ≡ length (secondOut x w) → BitBack (m - 1) (i - length x / 2) (secondOut x w) q → BitBack m i x (secondBack x w q)
-    last-taken q lq E =
-        let H = halved (length x) m (r .long) more in
-        subst (BitBack m i x) (sym (back-from (length x / 2) w q ∙ ap (λ (l : List ℕ). take (length x / 2) l ++ q) is))
-        (back-last m (m - 1) (length x / 2) (H .above) (H .half) x i (H .whole) (r .bits) q (omega (arith, H .whole, r .long, r .inside)) (lq ∙ last-long)
-        (subst (λ (l : List ℕ). BitBack (m - 1) (i - length x / 2) l q) last-out E))
-
--- ---- the first n of the bytes y, lent and come back as a
-module _ (m n i : ℕ) (y : List ℕ) (is : n ≡ 2 ^ m) (room : n ≤ length y) (bits : Bits y) where
-  front-out : midOf 0 (n - 0) y ≡ take (2 ^ m) y
-  front-out = lent-to n y ∙ ap (λ (k : ℕ). take k y) is
-
-  pub front-ready : i < 2 ^ m → PathReady m i (midOf 0 (n - 0) y)
-  front-ready k =
-      record { long = ap length (lent-to n y) ∙ length-take-le n y room ∙ is; inside = k; bits = subst Bits (sym (lent-to n y)) (bits-take n y bits) }
-
-  module _ (a : List ℕ) (la : length a ≡ length (midOf 0 (n - 0) y)) where
-    front-back : take (2 ^ m) (putMid 0 (n - 0) y a) ≡ a
-    front-back = ap (take (2 ^ m)) (back-to n y a) ∙ take-at a (drop n y) (2 ^ m) (la ∙ ap length (lent-to n y) ∙ length-take-le n y room ∙ is)
-
-    front-bits : Bits a → Bits (putMid 0 (n - 0) y a)
-    front-bits b = subst Bits (sym (back-to n y a)) (bits-append a (drop n y) b (bits-drop n y bits))
-
-    pub front-put : (b : ℕ) → BitPut m i b (midOf 0 (n - 0) y) a
-        → (pathOf m (i + 1) (take (2 ^ m) (putMid 0 (n - 0) y a)) ≡ pathOf m i (take (2 ^ m) y) ++ b ∷ []) × Bits (putMid 0 (n - 0) y a)
-    front-put b E =
-        (ap (pathOf m (i + 1)) front-back ∙ E .path ∙ ap (λ (l : List ℕ). pathOf m i l ++ b ∷ []) front-out, front-bits (E .bits))
-
-    pub front-taken : BitBack m i (midOf 0 (n - 0) y) a
-        → (pathOf m i (take (2 ^ m) (putMid 0 (n - 0) y a)) ≡ take i (pathOf m (i + 1) (take (2 ^ m) y))) × Bits (putMid 0 (n - 0) y a)
-    front-taken E =
-        (ap (pathOf m i) front-back ∙ E .path ∙ ap (λ (l : List ℕ). take i (pathOf m (i + 1) l)) front-out, front-bits (E .bits))

@@ -25,6 +25,13 @@ pub record PathReady (m i : ℕ) (x : List ℕ) : Type 0 where
   pub inside : i < 2 ^ m
   pub bits : Bits x
 
+-- the blocks of 2, 4, .. 2^b bytes that end before e
+pub record BlocksReady (e b : ℕ) (x : List ℕ) : Type 0 where
+  pub some : 2 ^ b ≤ e
+  pub room : e ≤ length x
+  pub most : b ≤ 8
+  pub bits : Bits x
+
 -- y is x with one bit more on the path
 pub record BitPut (m i bit : ℕ) (x y : List ℕ) : Type 0 where
   pub path : pathOf m (i + 1) y ≡ pathOf m i x ++ bit ∷ []

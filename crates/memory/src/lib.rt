@@ -9,7 +9,8 @@ ghost use Rattle.decoding.specs.Readings.{sizes};
 ghost use Rattle.rows.specs.Rows.{rowOf};
 ghost use Rattle.memory.specs.Memory.{pathOf, Stands};
 ghost use Rattle.decoding.specs.Walk.{value};
-ghost use Rattle.memory.specs.Ready.{PathReady, BitPut, BitBack, RowReady, RowsMade, TopReady, ValueReady};
+ghost use Rattle.memory.specs.Blocks.{joined, parted};
+ghost use Rattle.memory.specs.Ready.{BlocksReady, RowReady, RowsMade, TopReady, ValueReady};
 
 fn length(m: usize) -> usize
     requires { ⌜ m ≤ 8 ⌝ }
@@ -18,70 +19,38 @@ fn length(m: usize) -> usize
     1usize << m
 }
 
-// Puts the bit of index i on the path of 2^m bytes; a block that is whole with it becomes its word.
-fn put_by_halves(half: &mut [u8], m: usize, i: usize, bit: u8)
-    requires { ⌜ PathReady m i (now half) × (bit < 2) ⌝ }
-    ensures { λ _. ⌜ BitPut m i bit (now (half .entry)) (now (half .exit)) ⌝ }
+// The place of the lowest one of i.
+fn lowest_one(i: usize) -> usize
+    requires { ⌜ 0 < i ⌝ }
+    ensures { λ t. ⌜ LowestOne t i ⌝ }
 {
-    if m == 0 {
-        half[0] = bit;
-        return;
-    }
-    let n = half.len();
-    let h = n / 2;
-    if i < h {
-        put_by_halves(&mut half[0..h], m - 1, i, bit);
-        return;
-    }
-    put_by_halves(&mut half[h..], m - 1, i - h, bit);
-    if i + 1 < n {
-        return;
-    }
-    half::fold(half, h);
+    usize::trailing_zeros(i) as usize
 }
 
-// Takes the bit of index i back.
-fn take_back_by_halves(half: &mut [u8], m: usize, i: usize)
-    requires { ⌜ PathReady m i (now half) ⌝ }
-    ensures { λ _. ⌜ BitBack m i (now (half .entry)) (now (half .exit)) ⌝ }
+// Puts together to words the blocks of 2, 4, .. 2^b bytes that end before e.
+fn join_blocks(half: &mut [u8], e: usize, b: usize)
+    requires { ⌜ BlocksReady e b (now half) ⌝ }
+    ensures { λ _. ⌜ now (half .exit) ≡ joined e b (now (half .entry)) ⌝ }
 {
-    if m == 0 {
-        return;
+    let mut t = 0;
+    while t < b {
+        let h = length(t);
+        half::fold(&mut half[e - h - h..e], h);
+        t += 1;
     }
-    let n = half.len();
-    let h = n / 2;
-    if i < h {
-        take_back_by_halves(&mut half[0..h], m - 1, i);
-        return;
-    }
-    if i + 1 < n {
-        take_back_by_halves(&mut half[h..], m - 1, i - h);
-        return;
-    }
-    half::fold(half, h);
-    take_back_by_halves(&mut half[h..], m - 1, i - h);
 }
 
-fn put_front(half: &mut [u8], m: usize, i: usize, bit: u8)
-    requires { ⌜ (length (now half) ≡ 256) × (m ≤ 8) × (i < 2 ^ m) × (bit < 2) × Bits (now half) ⌝ }
-    ensures { λ _. ⌜
-        (pathOf m (i + 1) (take (2 ^ m) (now (half .exit)))
-        ≡ pathOf m i (take (2 ^ m) (now (half .entry))) ++ bit ∷ [])
-        × Bits (now (half .exit)) ⌝ }
+// Takes the same blocks apart, the largest first.
+fn part_blocks(half: &mut [u8], e: usize, b: usize)
+    requires { ⌜ BlocksReady e b (now half) ⌝ }
+    ensures { λ _. ⌜ now (half .exit) ≡ parted e b (now (half .entry)) ⌝ }
 {
-    let n = length(m);
-    put_by_halves(&mut half[0..n], m, i, bit);
-}
-
-fn take_back_front(half: &mut [u8], m: usize, i: usize)
-    requires { ⌜ (length (now half) ≡ 256) × (m ≤ 8) × (i < 2 ^ m) × Bits (now half) ⌝ }
-    ensures { λ _. ⌜
-        (pathOf m i (take (2 ^ m) (now (half .exit)))
-        ≡ take i (pathOf m (i + 1) (take (2 ^ m) (now (half .entry)))))
-        × Bits (now (half .exit)) ⌝ }
-{
-    let n = length(m);
-    take_back_by_halves(&mut half[0..n], m, i);
+    let mut t = b;
+    while 0 < t {
+        t -= 1;
+        let h = length(t);
+        half::fold(&mut half[e - h - h..e], h);
+    }
 }
 
 // Puts the bit of index i on the path.
@@ -92,7 +61,10 @@ pub fn put(half: &mut [u8; 256], m: usize, i: usize, bit: u8)
         ≡ pathOf m i (take (2 ^ m) (now (half .entry))) ++ bit ∷ [])
         × Bits (now (half .exit)) ⌝ }
 {
-    put_front(half, m, i, bit);
+    half[i] = bit;
+    let e = i + 1;
+    let b = lowest_one(e);
+    join_blocks(half, e, b);
 }
 
 // Takes the bit of index i back.
@@ -103,7 +75,9 @@ pub fn take_back(half: &mut [u8; 256], m: usize, i: usize)
         ≡ take i (pathOf m (i + 1) (take (2 ^ m) (now (half .entry)))))
         × Bits (now (half .exit)) ⌝ }
 {
-    take_back_front(half, m, i);
+    let e = i + 1;
+    let b = lowest_one(e);
+    part_blocks(half, e, b);
 }
 
 // Makes the rows below the row of 2^m sums stand for index i of the path in it.
@@ -140,14 +114,6 @@ fn make_all(readings: &[i16], rows: &mut [i32], half: &[u8], m: usize, i: usize)
     make_rows(rows, &half[h..n], m - 1, i - h);
 }
 
-// The place of the lowest one of i.
-fn lowest_one(i: usize) -> usize
-    requires { ⌜ 0 < i ⌝ }
-    ensures { λ t. ⌜ LowestOne t i ⌝ }
-{
-    usize::trailing_zeros(i) as usize
-}
-
 // Makes the rows below the row of 2^m sums stand for its first index.
 fn lower_rows(rows: &mut [i32], m: usize)
     requires { ⌜ (m ≤ 8) × (2 ^ m + 2 ^ m ≤ length (now rows)) × (sizes (rowOf (2 ^ m) (now rows)) < 2 ^ 31) ⌝ }
@@ -179,32 +145,6 @@ fn refresh(readings: &[i16], rows: &mut [i32], half: &[u8], m: usize, i: usize)
     lower_rows(rows, t);
 }
 
-fn value_front(
-    readings: &[i16],
-    rows: &mut [i32],
-    half: &[u8],
-    m: usize,
-    fresh: bool,
-    i: usize,
-) -> i32
-    requires { ⌜ ValueReady (now readings) m fresh i (now rows) (now half)
-        × (length (now rows) ≡ 256) × (length (now half) ≡ 256) ⌝ }
-    ensures { λ r. ⌜
-        (r ≡ value m (now (readings .entry)) (pathOf m i (take (2 ^ m) (now (half .entry)))))
-        × Stands m (now (readings .entry)) (pathOf m i (take (2 ^ m) (now (half .entry))))
-        (take (2 ^ m) (now (rows .exit))) ⌝ }
-{
-    if m == 0 {
-        return readings[0] as i32;
-    }
-    if fresh && 0 < i {
-        refresh(readings, rows, half, m, i);
-        return rows[1];
-    }
-    make_all(readings, rows, half, m, i);
-    rows[1]
-}
-
 // The value at index i of the path that half holds. Where fresh, the rows stand for the index before.
 pub fn value(
     readings: &[i16],
@@ -220,5 +160,13 @@ pub fn value(
         × Stands m (now (readings .entry)) (pathOf m i (take (2 ^ m) (now (half .entry))))
         (take (2 ^ m) (now (rows .exit))) ⌝ }
 {
-    value_front(readings, rows, half, m, fresh, i)
+    if m == 0 {
+        return readings[0] as i32;
+    }
+    if fresh && 0 < i {
+        refresh(readings, rows, half, m, i);
+        return rows[1];
+    }
+    make_all(readings, rows, half, m, i);
+    rows[1]
 }

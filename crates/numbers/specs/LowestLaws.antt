@@ -6,7 +6,7 @@ use native.Mathlib.Omega.{arith}
 use native.Mathlib.Nat.{two-pow-succ, mod-le, mod-eq-of-lt}
 use native.Mathlib.Numerals.{add-one}
 use lib.Count.{trailingZeros}
-use lib.Pow.{pow-pos, pow-mono, mod-pow-add, mod-mod-pow, low}
+use lib.Pow.{pow-pos, pow-mono, pow-lt, mod-pow-add, mod-mod-pow, low}
 use Rattle.numbers.specs.Choice.{lt-or-le}
 use Rattle.numbers.specs.Lowest.{LowestOne}
 
@@ -63,3 +63,7 @@ power-lowest p t e =
 pub lowest-within : (m t n : ℕ) → LowestOne t n → n < 2 ^ m → t < m
 lowest-within m t n e h =
     ⊎-elim (λ (k : t < m). k) (λ (k : m ≤ t). absurd (omega (arith, pow-mono {i = m} {j = t} k, lowest-le t n e))) (lt-or-le t m)
+
+pub lowest-most : (m t n : ℕ) → LowestOne t n → n ≤ 2 ^ m → t ≤ m
+lowest-most m t n e h =
+    ⊎-elim (λ (k : m < t). absurd (omega (arith, pow-lt {i = m} {j = t} k, lowest-le t n e))) (λ (k : t ≤ m). k) (lt-or-le m t)
