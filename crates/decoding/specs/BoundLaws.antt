@@ -1,4 +1,4 @@
--- How large a running sum can be (01, "The quick reading"): at most n times the largest reading, whatever that is; 524,032 for 256 readings of 2,047. It is attained.
+-- How large a running sum can be (01, "The quick reading"): at most n times the largest reading, whatever that is; and one is as large.
 use mathlib.Core.Path.{_≡_, refl, ap, sym, _∙_}
 use mathlib.Core.List.{List, [], _∷_, _++_}
 use Prim.Native.Nat.{ℕ, zero, suc, _+_, _-_, _*_, _^_, _≤_}
@@ -41,9 +41,6 @@ module _ (largest : ℕ) (l : List ℤ) (within : Within largest l) where
   -- the values of the walk among them
   pub value-most : (m : ℕ) (u : List ℕ) → natAbs (value m l u) ≤ length l * largest
   value-most m u = le-trans (value-sizes m l u) (sizes-within largest l within)
-
-pub running-sum-524032 : (l : List ℤ) → Within 2047 l → length l ≤ 256 → (s : List Step) (i : ℕ) → natAbs (getD (sumsAfter l s) i (pos 0)) ≤ 524032
-running-sum-524032 l within short s i = omega (arith, running-sum-most 2047 l within s i)
 
 -- ---- the bound is attained: with all readings b, the value at the last index of the zero path is n × b
 uppers-equal : (n : ℕ) (x : ℤ) → uppers (replicate n x) (replicate n x) (replicate n 0) ≡ replicate n (x +ℤ x)
