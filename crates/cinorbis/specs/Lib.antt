@@ -1,2 +1,6 @@
 pub mod Line
 pub mod LineLaws
+pub mod Program
+pub mod Example
+pub mod Step
+pub mod StepLaws

@@ -64,6 +64,7 @@ fn put_info(w: u64, bits: &[u8], out: &mut [u8], at: usize) -> usize
 fn put_figures(penalty: u32, gap: u32, visits: u32, out: &mut [u8], at: usize) -> usize
     requires { ⌜ at + 86 ≤ length (now out) ⌝ }
     ensures { λ end. ⌜ Put (now (out .entry)) at (figuresText penalty gap visits) end (now (out .exit)) ⌝ }
+    ensures { λ end. ⌜ end ≤ length (now (out .entry)) ⌝ }
 {
     let end = put_field(b" penalty ", penalty as u64, out, at);
     let end = put_field(b" margin ", gap as u64, out, end);
@@ -84,6 +85,7 @@ pub fn put_answer(
     requires { ⌜ Bits (now bits) × (at + (length (now bits) + 112) ≤ length (now out)) ⌝ }
     ensures { λ end. ⌜ Put (now (out .entry)) at (answerLine w (now (bits .entry)) penalty gap visits) end
         (now (out .exit)) ⌝ }
+    ensures { λ end. ⌜ end ≤ length (now (out .entry)) ⌝ }
 {
     let end = put_info(w, bits, out, at);
     put_figures(penalty, gap, visits, out, end)
@@ -93,6 +95,7 @@ pub fn put_answer(
 pub fn put_refused(w: u64, why: u32, out: &mut [u8], at: usize) -> usize
     requires { ⌜ at + 50 ≤ length (now out) ⌝ }
     ensures { λ end. ⌜ Put (now (out .entry)) at (refusedLine w why) end (now (out .exit)) ⌝ }
+    ensures { λ end. ⌜ end ≤ length (now (out .entry)) ⌝ }
 {
     let end = put_number(w, out, at);
     let end = put_field(b" refused ", why as u64, out, end);
@@ -102,6 +105,7 @@ pub fn put_refused(w: u64, why: u32, out: &mut [u8], at: usize) -> usize
 pub fn put_total(read: u64, refused: u64, out: &mut [u8], at: usize) -> usize
     requires { ⌜ at + 56 ≤ length (now out) ⌝ }
     ensures { λ end. ⌜ Put (now (out .entry)) at (totalLine read refused) end (now (out .exit)) ⌝ }
+    ensures { λ end. ⌜ end ≤ length (now (out .entry)) ⌝ }
 {
     let end = put_number(read, out, at);
     let end = put_field(b" read, ", refused, out, end);

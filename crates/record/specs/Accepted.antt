@@ -103,6 +103,9 @@ good-by s c e =
     (λ k. k)
     (lt-or-le place (length (readingsOf c s)))
 
+pub accepted-within : (s : List ℕ) (c : Code) → headerOf s ≡ Record c → Within largestReading (readingsOf c s)
+accepted-within s c e = good-readings largestReading (readingsOf c s) (good-by s c e)
+
 -- the packed part's readings, written again
 written : (s : List ℕ) (c : Code) → Below 256 s → Framed s c → s ≡ recordOf (c .r) (c .m) (readingsOf c s) ++ drop (suc (partLength (c .m))) s
 unfolding recordOf packed
@@ -120,6 +123,6 @@ accepted-begins s c h e =
     record {
       sound = f .sound;
       count = length-readings-of c s (f .whole);
-      within = good-readings largestReading (readingsOf c s) (good-by s c e);
+      within = accepted-within s c e;
       whole = written s c h f;
     }

@@ -19,8 +19,10 @@ returns : tie.Need-returns
 unfolding answerLine
 returns c =
     let a = c .before .before .before .before .before .before in
-    let g = a .before .before .before .before .args in
-    put-then (g .out .now) (g .at) _ _ _ _ _ _ (omega arith) (a .put-info .ensures .0) (c .before .before .put-figures .ensures)
+    let g = a .before .before .before .before .args in (
+      put-then (g .out .now) (g .at) _ _ _ _ _ _ (omega arith) (a .put-info .ensures .0) (c .before .before .put-figures .ensures .0),
+      omega (arith, c .before .before .put-figures .ensures .1, a .put-info .kept),
+    )
 
 pub put-answer-spec : {M : Type 1} → statement M
 put-answer-spec = tie.close (tie.spec put-info-requires put-figures-requires same-length returns)

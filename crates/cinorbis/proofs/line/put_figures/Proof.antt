@@ -39,9 +39,11 @@ returns c =
     let d = c .before .before .before .before .before .before .before in
     let b = d .before .before .before .before .before in
     let a = b .before .before .before .before .before in
-    let g = a .before .before .before .before in
-    figures-put (g .args .out .now) (g .args .at) (omega (arith, g .pre)) (g .args .penalty) (g .args .gap) (g .args .visits) _ _ _ _ _ _ _ _
-    (a .put-field .ensures .0) (b .put-field2 .ensures .0) (d .put-field3 .ensures .0) (c .before .before .put-text .ensures)
+    let g = a .before .before .before .before in (
+      figures-put (g .args .out .now) (g .args .at) (omega (arith, g .pre)) (g .args .penalty) (g .args .gap) (g .args .visits) _ _ _ _ _ _ _ _
+          (a .put-field .ensures .0) (b .put-field2 .ensures .0) (d .put-field3 .ensures .0) (c .before .before .put-text .ensures),
+      omega (arith, c .before .before .put-text .ensures .end-is, d .put-field3 .ensures .1, b .put-field2 .ensures .1, a .put-field .ensures .1, g .pre),
+    )
 
 pub put-figures-spec : {M : Type 1} → statement M
 put-figures-spec =

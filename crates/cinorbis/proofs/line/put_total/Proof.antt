@@ -29,9 +29,11 @@ unfolding bytesOf totalLine
 returns c =
     let b = c .before .before .before .before .before .before .before in
     let a = b .before .before .before .before .before in
-    let g = a .before .before .before .args in
-    three-put (g .out .now) (g .at) (omega (arith, a .before .before .before .pre)) (g .read) _ _ _ _ _ _ _ _ _
-    (a .put-number .ensures .0) (b .put-field .ensures .0) (c .before .before .put-text .ensures)
+    let g = a .before .before .before .args in (
+      three-put (g .out .now) (g .at) (omega (arith, a .before .before .before .pre)) (g .read) _ _ _ _ _ _ _ _ _
+          (a .put-number .ensures .0) (b .put-field .ensures .0) (c .before .before .put-text .ensures),
+      omega (arith, c .before .before .put-text .ensures .end-is, b .put-field .ensures .1, a .put-number .ensures .1, a .before .before .before .pre),
+    )
 
 pub put-total-spec : {M : Type 1} → statement M
 put-total-spec =
