@@ -1,4 +1,4 @@
--- A list of which a part is lent and comes back: `&mut x[0..h]` and `&mut x[h..]`, in the words of `take` and `drop`.
+-- A list of which a part is lent and comes back: `&mut x[0..h]` and `&mut x[h..]`, in the words of `take` and `drop`; a list lent by halves.
 use mathlib.Core.Path.{_≡_, ap, _∙_}
 use mathlib.Core.List.{List, _++_, append-nil}
 use Prim.Native.Nat.{ℕ, _-_, _/_}

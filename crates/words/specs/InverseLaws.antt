@@ -18,8 +18,7 @@ use Rattle.words.specs.TransformLaws.{length-xors, bits-xors, bits-zeros
 use Rattle.words.specs.TransformLaws.{length-transform, bits-transform, transform-xors, transform-twice, transform-zeros}
 use Rattle.words.specs.FillLaws.{length-fill, bits-fill, frozen-fill, length-pick, bits-pick, pick-fill, fill-pick, fill-xors, fill-zeros}
 
--- ---- the lowest frozen index where a row is 1
--- no two indices are
+-- ---- the lowest frozen index where a row is 1: no two are
 lowest-only : (ks u : List ℕ) (i j : ℕ) → LowestFrozenOne ks u i → LowestFrozenOne ks u j → i ≤ j
 lowest-only ks u i j a b =
     ⊎-elim (λ (h : j < i). absurd (omega (arith, b .one, a .lowest j h (b .frozen)))) (λ h. h) (lt-or-le j i)
