@@ -42,7 +42,9 @@ lowest-second p t n e h l =
     (λ (k : t < p). let q : p - suc t + suc t ≡ p = omega arith in
     let whole : n ≡ 1 * 2 ^ p + (n - 2 ^ p) = omega arith in
     let rest : n % 2 ^ p ≡ n - 2 ^ p = ap (λ (k : ℕ). k % 2 ^ p) whole ∙ low 1 p {lo = n - 2 ^ p} (omega (arith, two-pow-succ p)) in
-    let again : LowestOne t (n - 2 ^ p) = ap (λ (k : ℕ). k % 2 ^ suc t) (sym rest) ∙ subst (λ (k : ℕ). n % 2 ^ k % 2 ^ suc t ≡ n % 2 ^ suc t) q (mod-mod-pow n (p - suc t) (suc t)) ∙ e in
+    let same : n % 2 ^ p % 2 ^ suc t ≡ n % 2 ^ suc t =
+    subst (λ (k : ℕ). n % 2 ^ k % 2 ^ suc t ≡ n % 2 ^ suc t) q (mod-mod-pow n (p - suc t) (suc t)) in
+    let again : LowestOne t (n - 2 ^ p) = ap (λ (k : ℕ). k % 2 ^ suc t) (sym rest) ∙ same ∙ e in
     inr (record { below = k; behind = omega (arith, lowest-le t (n - 2 ^ p) again, pow-pos t); again = again }))
     (λ (k : p ≤ t). let s : n ≡ 2 ^ t = sym (mod-eq-of-lt {n = n} {m = 2 ^ suc t} (omega (arith, pow-mono {i = suc p} {j = suc t} (omega arith)))) ∙ e in
     ⊎-elim
