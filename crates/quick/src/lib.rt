@@ -34,7 +34,8 @@ pub fn quick(r: u32, m: u32, readings: &[i16], bits: &mut [u8], word: &mut [u8])
 // The work, once no test refuses.
 fn take_reading(code: Code, readings: &[i16], bits: &mut [u8], word: &mut [u8]) -> u32
     requires { ⌜ Given code (now readings) (now bits) (now word) ⌝ }
-    ensures { λ penalty. ⌜ done penalty (now (bits .exit)) (now (word .exit)) ≡ readingBy code (now (readings .entry)) ⌝ }
+    ensures { λ penalty. ⌜ done penalty (now (bits .exit)) (now (word .exit))
+        ≡ readingBy code (now (readings .entry)) ⌝ }
 {
     let mut kinds = [0u8; 256];
     let n = code.length();
@@ -46,7 +47,8 @@ fn take_reading(code: Code, readings: &[i16], bits: &mut [u8], word: &mut [u8]) 
 }
 
 fn penalty(readings: &[i16], word: &[u8]) -> u32
-    requires { ⌜ (length (now word) ≡ length (now readings)) × (sizes (now readings) < 2 ^ 31) ⌝ }
+    requires { ⌜ (length (now word) ≡ length (now readings))
+        × (sizes (now readings) < 2 ^ 31) ⌝ }
     ensures { λ p. ⌜ p ≡ penalty (now (readings .entry)) (now (word .entry)) ⌝ }
 {
     let mut sum = 0u32;
@@ -69,7 +71,8 @@ fn decide(kind: u8, value: i32) -> u8
 // The word of a row of 2^m sums, down to a single one.
 fn quick_row(rows: &mut [i32], kinds: &[u8], word: &mut [u8], m: usize)
     requires { ⌜ Ready m (now rows) (now kinds) (now word) ⌝ }
-    ensures { λ _. ⌜ now (word .exit) ≡ quickWord m (now (kinds .entry)) (rowOf (2 ^ m) (now (rows .entry))) ⌝ }
+    ensures { λ _. ⌜ now (word .exit)
+        ≡ quickWord m (now (kinds .entry)) (rowOf (2 ^ m) (now (rows .entry))) ⌝ }
 {
     if m == 0 {
         word[0] = decide(kinds[0], rows[1]);
@@ -87,7 +90,10 @@ fn quick_row(rows: &mut [i32], kinds: &[u8], word: &mut [u8], m: usize)
 fn first_half(rows: &mut [i32], kinds: &[u8], word: &mut [u8], m: usize)
     requires { ⌜ HalfReady m (now rows) (now kinds) (now word) ⌝ }
     ensures { λ _. ⌜ (drop (2 ^ m) (now (rows .exit)) ≡ drop (2 ^ m) (now (rows .entry)))
-        × (now (word .exit) ≡ quickWord (m - 1) (take (2 ^ (m - 1)) (now (kinds .entry))) (rowOf (2 ^ (m - 1)) (now (rows .entry))) ++ drop (2 ^ (m - 1)) (now (word .entry))) ⌝ }
+        × (now (word .exit)
+        ≡ quickWord (m - 1) (take (2 ^ (m - 1)) (now (kinds .entry)))
+        (rowOf (2 ^ (m - 1)) (now (rows .entry)))
+        ++ drop (2 ^ (m - 1)) (now (word .entry))) ⌝ }
 {
     let n = word.len();
     let h = n / 2;
@@ -97,7 +103,10 @@ fn first_half(rows: &mut [i32], kinds: &[u8], word: &mut [u8], m: usize)
 // The second half of the word, from the half's row.
 fn second_half(rows: &mut [i32], kinds: &[u8], word: &mut [u8], m: usize)
     requires { ⌜ HalfReady m (now rows) (now kinds) (now word) ⌝ }
-    ensures { λ _. ⌜ now (word .exit) ≡ take (2 ^ (m - 1)) (now (word .entry)) ++ quickWord (m - 1) (drop (2 ^ (m - 1)) (now (kinds .entry))) (rowOf (2 ^ (m - 1)) (now (rows .entry))) ⌝ }
+    ensures { λ _. ⌜ now (word .exit)
+        ≡ take (2 ^ (m - 1)) (now (word .entry))
+        ++ quickWord (m - 1) (drop (2 ^ (m - 1)) (now (kinds .entry)))
+        (rowOf (2 ^ (m - 1)) (now (rows .entry))) ⌝ }
 {
     let n = word.len();
     let h = n / 2;
@@ -107,7 +116,8 @@ fn second_half(rows: &mut [i32], kinds: &[u8], word: &mut [u8], m: usize)
 // The word of 2^m readings. The running sums of all rows stand in one array.
 fn quick_word(readings: &[i16], kinds: &[u8], word: &mut [u8], m: usize)
     requires { ⌜ (m ≤ 8) × Sized m (now kinds) (now word) (now readings) ⌝ }
-    ensures { λ _. ⌜ now (word .exit) ≡ quickWord m (now (kinds .entry)) (now (readings .entry)) ⌝ }
+    ensures { λ _. ⌜ now (word .exit)
+        ≡ quickWord m (now (kinds .entry)) (now (readings .entry)) ⌝ }
 {
     if m == 0 {
         word[0] = decide(kinds[0], readings[0] as i32);

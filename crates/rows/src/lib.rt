@@ -57,8 +57,10 @@ pub fn loss(value: i32, bit: u8) -> u32
 
 // The row of h sums for the lower half, from the row of 2h sums.
 pub fn lower_row(rows: &mut [i32], h: usize)
-    requires { ⌜ (h + h + (h + h) ≤ length (now rows)) × (sizes (rowOf (h + h) (now rows)) < 2 ^ 31) ⌝ }
-    ensures { λ _. ⌜ now (rows .exit) ≡ withRow h (now (rows .entry)) (lowerRow h (rowOf (h + h) (now (rows .entry)))) ⌝ }
+    requires { ⌜ (h + h + (h + h) ≤ length (now rows))
+        × (sizes (rowOf (h + h) (now rows)) < 2 ^ 31) ⌝ }
+    ensures { λ _. ⌜ now (rows .exit)
+        ≡ withRow h (now (rows .entry)) (lowerRow h (rowOf (h + h) (now (rows .entry)))) ⌝ }
 {
     for j in 0..h {
         let x = rows[h + h + j];
@@ -69,8 +71,11 @@ pub fn lower_row(rows: &mut [i32], h: usize)
 
 // The row of h sums for the upper half, from the row of 2h sums and the lower half's word.
 pub fn upper_row(rows: &mut [i32], h: usize, word: &[u8])
-    requires { ⌜ (h + h + (h + h) ≤ length (now rows)) × (h ≤ length (now word)) × (sizes (rowOf (h + h) (now rows)) < 2 ^ 31) ⌝ }
-    ensures { λ _. ⌜ now (rows .exit) ≡ withRow h (now (rows .entry)) (upperRow h (rowOf (h + h) (now (rows .entry))) (take h (now (word .entry)))) ⌝ }
+    requires { ⌜ (h + h + (h + h) ≤ length (now rows)) × (h ≤ length (now word))
+        × (sizes (rowOf (h + h) (now rows)) < 2 ^ 31) ⌝ }
+    ensures { λ _. ⌜ now (rows .exit)
+        ≡ withRow h (now (rows .entry))
+        (upperRow h (rowOf (h + h) (now (rows .entry))) (take h (now (word .entry)))) ⌝ }
 {
     for j in 0..h {
         let x = rows[h + h + j];
@@ -82,7 +87,8 @@ pub fn upper_row(rows: &mut [i32], h: usize, word: &[u8])
 // The row of h sums for the lower half, from 2h readings.
 pub fn lower_top(readings: &[i16], rows: &mut [i32], h: usize)
     requires { ⌜ (length (now readings) ≡ h + h) × (h + h ≤ length (now rows)) ⌝ }
-    ensures { λ _. ⌜ now (rows .exit) ≡ withRow h (now (rows .entry)) (lowerRow h (now (readings .entry))) ⌝ }
+    ensures { λ _. ⌜ now (rows .exit)
+        ≡ withRow h (now (rows .entry)) (lowerRow h (now (readings .entry))) ⌝ }
 {
     for j in 0..h {
         let x = readings[j] as i32;
@@ -93,8 +99,11 @@ pub fn lower_top(readings: &[i16], rows: &mut [i32], h: usize)
 
 // The row of h sums for the upper half, from 2h readings and the lower half's word.
 pub fn upper_top(readings: &[i16], rows: &mut [i32], h: usize, word: &[u8])
-    requires { ⌜ (length (now readings) ≡ h + h) × (h + h ≤ length (now rows)) × (h ≤ length (now word)) ⌝ }
-    ensures { λ _. ⌜ now (rows .exit) ≡ withRow h (now (rows .entry)) (upperRow h (now (readings .entry)) (take h (now (word .entry)))) ⌝ }
+    requires { ⌜ (length (now readings) ≡ h + h) × (h + h ≤ length (now rows))
+        × (h ≤ length (now word)) ⌝ }
+    ensures { λ _. ⌜ now (rows .exit)
+        ≡ withRow h (now (rows .entry))
+        (upperRow h (now (readings .entry)) (take h (now (word .entry)))) ⌝ }
 {
     for j in 0..h {
         let x = readings[j] as i32;
