@@ -34,7 +34,8 @@ admitted-answered {r} {m} {l} {bits} {word} x allowed =
 -- ---- outcomes of two answers
 -- the answer that has this outcome
 abbrev answerOf : Outcome → Answer
-answerOf o = cond (eqb (o .number) 0) (found (o .bits) (o .word) (o .penalty) (o .gap) (o .visits)) (cond (eqb (o .number) 6) outOfVisits (tied (o .penalty) (o .visits)))
+answerOf o =
+    cond (eqb (o .number) 0) (found (o .bits) (o .word) (o .penalty) (o .gap) (o .visits)) (cond (eqb (o .number) 6) outOfVisits (tied (o .penalty) (o .visits)))
 
 module _ (allowed : ℕ) (bits word : List ℕ) where
   answer-back : (a : Answer) → answerOf (answered allowed bits word a) ≡ a
@@ -42,13 +43,13 @@ module _ (allowed : ℕ) (bits word : List ℕ) where
   answer-back (tied p v) = refl
   answer-back outOfVisits = refl
 
-  answered-only : (a a′ : Answer) → answered allowed bits word a ≡ answered allowed bits word a′ → a ≡ a′
-  answered-only a a′ e = sym (answer-back a) ∙ ap answerOf e ∙ answer-back a′
-
   number-out : (a : Answer) → answered allowed bits word a .number ≡ 6 → a ≡ outOfVisits
   number-out (found b x p g v) e = absurd (omega arith)
   number-out (tied p v) e = absurd (omega arith)
   number-out outOfVisits e = refl
+
+  answered-only : (a a′ : Answer) → answered allowed bits word a ≡ answered allowed bits word a′ → a ≡ a′
+  answered-only a a′ e = sym (answer-back a) ∙ ap answerOf e ∙ answer-back a′
 
 plus-together : {b c : List ℕ} {a a′ : Answer} (allowed allowed′ : ℕ) (bits word bits′ word′ : List ℕ) → Together b c a a′
     → PlusWord b c (answered allowed bits word a) (answered allowed′ bits′ word′ a′)
@@ -73,39 +74,54 @@ not-out : {r m : ℕ} {l : List ℤ} {bits word : List ℕ} (x : Admitted r m l 
 not-out {bits = bits} {word = word} x allowed n e = n (ap (λ (o : Outcome). o .number) (admitted-answered x allowed ∙ ap (answered allowed bits word) e))
 
 -- ---- the demands
-pub outcome-demands : {r m : ℕ} {l : List ℤ} {bits word : List ℕ} → Admitted r m l bits word → OutcomeDemands r m l bits word
-outcome-demands {r} {m} {l} {bits} {word} x =
-    let d = demands-code r m l (x .long) in
-    let is = admitted-answered x in
-    record {
-      demand-2 = λ allowed a. (
-        λ e. d .demand-2 allowed a .0 (answered-only allowed bits word (answer m (kinds r m) l allowed) a (sym (is allowed) ∙ e)),
-        λ h. is allowed ∙ ap (answered allowed bits word) (d .demand-2 allowed a .1 h),
-      );
-      demand-3 = λ c w bits′ word′ e f.
-          let n = d .demand-3 c w in
-          let y : Admitted r m (turns c l) bits′ word′ =
-          record { r-small = x .r-small; m-small = x .m-small; long = n .same-length ∙ x .long; within = n .readings-allowed largestReading (x .within); long-bits = e; long-word = f } in
-          record {
-            admitted = y;
-            together = λ allowed allowed′ g h.
-                rw (is allowed, admitted-answered y allowed′)
-                (plus-together allowed allowed′ bits word bits′ word′ (n .together allowed allowed′ (not-out x allowed g) (not-out y allowed′ h)));
-            same-search = λ never allowed.
-                rw (is allowed, admitted-answered y allowed, n .same-answer never allowed) (plus-same (w .bits) c (answer m (kinds r m) l allowed) allowed bits word bits′ word′);
-          };
-      whole-tree = λ allowed h n.
-          d .whole-tree allowed h
-          (number-out allowed bits word (answer m (kinds r m) l allowed) (ap (λ (o : Outcome). o .number) (sym (is allowed)) ∙ n));
-      demand-3-all-ones = λ w bits′ word′ e f.
-          let n = d .demand-3-all-ones w in
-          let t = d .demand-3 (allOnes m) w in
-          let y : Admitted r m (map negℤ l) bits′ word′ =
-          subst (λ (k : List ℤ). Admitted r m k bits′ word′) (n .all-negated)
-          record { r-small = x .r-small; m-small = x .m-small; long = t .same-length ∙ x .long; within = t .readings-allowed largestReading (x .within); long-bits = e; long-word = f } in
-          record {
-            admitted = y;
-            same-search = λ allowed.
-                rw (is allowed, admitted-answered y allowed, n .same-answer allowed) (plus-same (w .bits) (allOnes m) (answer m (kinds r m) l allowed) allowed bits word bits′ word′);
-          };
-    }
+module _ {r m : ℕ} {l : List ℤ} {bits word : List ℕ} (x : Admitted r m l bits word) where
+  abbrev given : ℕ → Answer
+  given allowed = answer m (kinds r m) l allowed
+
+  -- the negated readings are admitted too
+  negated-admitted : {c b : List ℕ} → Demand3 m (kinds r m) l c b → (bits′ word′ : List ℕ) → length bits′ ≡ dimension r m → length word′ ≡ 2 ^ m
+      → Admitted r m (turns c l) bits′ word′
+  negated-admitted n bits′ word′ e f =
+      record {
+        r-small = x .r-small;
+        m-small = x .m-small;
+        long = n .same-length ∙ x .long;
+        within = n .readings-allowed largestReading (x .within);
+        long-bits = e;
+        long-word = f;
+      }
+
+  pub outcome-demands : OutcomeDemands r m l bits word
+  outcome-demands =
+      let d = demands-code r m l (x .long) in
+      let is = admitted-answered x in
+      record {
+        demand-2 = λ allowed a. (
+          λ e. d .demand-2 allowed a .0 (answered-only allowed bits word (given allowed) a (sym (is allowed) ∙ e)),
+          λ h. is allowed ∙ ap (answered allowed bits word) (d .demand-2 allowed a .1 h),
+        );
+        whole-tree = λ allowed h n.
+            d .whole-tree allowed h (number-out allowed bits word (given allowed) (ap (λ (o : Outcome). o .number) (sym (is allowed)) ∙ n));
+        demand-3 = λ c w bits′ word′ e f.
+            let n = d .demand-3 c w in
+            let y = negated-admitted n bits′ word′ e f in
+            record {
+              admitted = y;
+              together = λ allowed allowed′ g h.
+                  rw (is allowed, admitted-answered y allowed′)
+                  (plus-together allowed allowed′ bits word bits′ word′ (n .together allowed allowed′ (not-out x allowed g) (not-out y allowed′ h)));
+              same-search = λ never allowed.
+                  rw (is allowed, admitted-answered y allowed, n .same-answer never allowed)
+                  (plus-same (w .bits) c (given allowed) allowed bits word bits′ word′);
+            };
+        demand-3-all-ones = λ w bits′ word′ e f.
+            let n = d .demand-3-all-ones w in
+            let y : Admitted r m (map negℤ l) bits′ word′ =
+            subst (λ (k : List ℤ). Admitted r m k bits′ word′) (n .all-negated) (negated-admitted (d .demand-3 (allOnes m) w) bits′ word′ e f) in
+            record {
+              admitted = y;
+              same-search = λ allowed.
+                  rw (is allowed, admitted-answered y allowed, n .same-answer allowed)
+                  (plus-same (w .bits) (allOnes m) (given allowed) allowed bits word bits′ word′);
+            };
+      }

@@ -14,7 +14,8 @@ use Rattle.code.specs.Sound.{made, largestReading}
 use Rattle.code.specs.Entries.{firstBadReading}
 use Rattle.search.specs.Outcome.{Outcome, refused, answered, searchingIn, searching}
 
-pub searching-made : (r m allowed : ℕ) (l : List ℤ) (bits word : List ℕ) (x : Made) → made r m ≡ x → searching r m allowed l bits word ≡ searchingIn x allowed l bits word
+pub searching-made : (r m allowed : ℕ) (l : List ℤ) (bits word : List ℕ) (x : Made) → made r m ≡ x
+    → searching r m allowed l bits word ≡ searchingIn x allowed l bits word
 unfolding searching
 searching-made r m allowed l bits word x e = ap (λ (y : Made). searchingIn y allowed l bits word) e
 

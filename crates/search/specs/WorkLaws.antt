@@ -51,7 +51,8 @@ module _ {m : ℕ} {l : List ℤ} {ks bits word : List ℕ} (s : Searchable m l 
     pub ordered : w .best ≤ w .second
     ordered =
         let same = ends-as m ks l allowed (stateOf m w best second) ends .same in
-        let r = walked-end m ks l (s .long) (s .long-kinds) (s .are-kinds) (s .information) (fullOf m best (w .best)) (fullOf m second (w .second)) (ap (λ (t : State). t .held) same ∙ holds) in
+        let two-held = ap (λ (t : State). t .held) same ∙ holds in
+        let r = walked-end m ks l (s .long) (s .long-kinds) (s .are-kinds) (s .information) (fullOf m best (w .best)) (fullOf m second (w .second)) two-held in
         omega (arith, r .least-penalty, r .next-least)
 
     abbrev read : Answer
@@ -60,7 +61,9 @@ module _ {m : ℕ} {l : List ℤ} {ks bits word : List ℕ} (s : Searchable m l 
         (found (pick ks (transform m (take (2 ^ m) best))) (transform m (transform m (take (2 ^ m) best))) (w .best) (w .second - w .best) (w .visits))
 
     answers : answer m ks l allowed ≡ read
-    answers = answer-of-walk m ks l (s .long) (s .long-kinds) (s .are-kinds) (s .information) allowed (stateOf m w best second) (fullOf m best (w .best)) (fullOf m second (w .second)) ends holds
+    answers =
+        answer-of-walk m ks l (s .long) (s .long-kinds) (s .are-kinds) (s .information) allowed
+        (stateOf m w best second) (fullOf m best (w .best)) (fullOf m second (w .second)) ends holds
 
     pub tied-answer : w .second - w .best ≡ 0 → answer m ks l allowed ≡ tied (w .best) (w .visits)
     tied-answer z = answers ∙ rw (eq-eqb (w .second - w .best) 0 z)

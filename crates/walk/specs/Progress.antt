@@ -80,7 +80,8 @@ pub record Ready (m : ℕ) (l : List ℤ) (kinds : List ℕ) (rows : List ℤ) (
   pub stands : fresh ≡ true → 0 < i → Stands m l (take (i - 1) (pathOf m i (take (2 ^ m) half))) (take (2 ^ m) rows)
 
 -- what each step gives: the walk from the path u on, and that path in memory as before
-pub record Stepped (allowed m : ℕ) (l : List ℤ) (kinds : List ℕ) (i p : ℕ) (w : Progress) (half best second : List ℕ) (w′ : Progress) (half′ best′ second′ : List ℕ) : Type 0 where
+pub record Stepped (allowed m : ℕ) (l : List ℤ) (kinds : List ℕ) (i p : ℕ)
+    (w : Progress) (half best second : List ℕ) (w′ : Progress) (half′ best′ second′ : List ℕ) : Type 0 where
   pub walks : limitedOf m w′ best′ second′ ≡ walkWithin allowed m l (drop i kinds) (pathOf m i (take (2 ^ m) half)) p (stateOf m w best second)
   pub path-stays : pathOf m i (take (2 ^ m) half′) ≡ pathOf m i (take (2 ^ m) half)
   pub bits-stay : Bits half′

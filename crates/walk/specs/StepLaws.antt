@@ -12,6 +12,7 @@ use lib.Seq.{drop-cons, take-at, take-all, length-take-le}
 use lib.Pow.{pow-mono}
 use lib.Dec.{T, ltb, leb}
 use borrow.Author.Tests.{le-ltb}
+use Rattle.numbers.specs.Choice.{cond-by}
 use Rattle.numbers.specs.Halves.{length-more}
 use Rattle.words.specs.Bits.{Bits}
 use Rattle.words.specs.Word.{transform}
@@ -41,13 +42,8 @@ pub drops-held : (m : ℕ) (w : Progress) (best second : List ℕ) (q : ℕ) →
 drops-held m w best second q = drops-by (w .held) q (fullOf m best (w .best)) (fullOf m second (w .second))
 
 -- a visit changes nothing of it
-drops-either : (z : Bool) (w : Progress) (n : ℕ) (o : Bool) (q : ℕ) → drops w q ≡ false
-    → drops (cond z (record { held = w .held; best = w .best; second = w .second; visits = n; out = w .out }) (record { held = w .held; best = w .best; second = w .second; visits = w .visits; out = o })) q ≡ false
-drops-either true w n o q h = h
-drops-either false w n o q h = h
-
 pub still-kept : (allowed q : ℕ) (w : Progress) {y : Progress} → y ≡ counted allowed w → drops w q ≡ false → drops y q ≡ false
-still-kept allowed q w e h = rw e (drops-either (ltb (w .visits) allowed) w (w .visits + 1) true q h)
+still-kept allowed q w e h = rw e (cond-by (λ (x : Progress). drops x q ≡ false) (ltb (w .visits) allowed) _ _ (λ t. h) (λ t. h))
 
 was-false : (z : Bool) (a b : Progress) → a .out ≡ false → cond z a b .out ≡ true → z ≡ false
 was-false true a b e h = true-false (sym h ∙ e)
@@ -106,12 +102,14 @@ module _ (allowed m : ℕ) (l : List ℤ) (kinds : List ℕ) (i : ℕ) (u : List
   unfolding walkWithin
   walk-end h = rw (drop-of-length-le kinds {i = i} h)
 
-  pub walk-frozen : i < length kinds → getD kinds i 0 ≡ 0 → walkWithin allowed m l (drop i kinds) u p s ≡ extendWithin allowed (rest allowed m l kinds i) (value m l u) u p 0 s
+  pub walk-frozen : i < length kinds → getD kinds i 0 ≡ 0 → walkWithin allowed m l (drop i kinds) u p s
+      ≡ extendWithin allowed (rest allowed m l kinds i) (value m l u) u p 0 s
   unfolding walkWithin
   walk-frozen h e = rw (add-one i, drop-cons kinds i 0 h, e)
 
   pub walk-info : i < length kinds → (getD kinds i 0 ≡ 0 → ⊥) → walkWithin allowed m l (drop i kinds) u p s
-      ≡ andThen (extendWithin allowed (rest allowed m l kinds i) (value m l u) u p (hard (value m l u)) s) (extendWithin allowed (rest allowed m l kinds i) (value m l u) u p (1 - hard (value m l u)))
+      ≡ andThen (extendWithin allowed (rest allowed m l kinds i) (value m l u) u p (hard (value m l u)) s)
+      (extendWithin allowed (rest allowed m l kinds i) (value m l u) u p (1 - hard (value m l u)))
   unfolding walkWithin
   walk-info h e =
       let z : getD kinds i 0 ≡ suc (getD kinds i 0 - 1) = omega arith in
@@ -135,11 +133,13 @@ module _ {m : ℕ} {l : List ℤ} {kinds : List ℕ} {rows : List ℤ} {half bes
   module _ (b : ℕ) (inside : i < 2 ^ m) (bit : b < 2) where
     pub sum-small : p + loss (value m l here) b < 2 ^ 31
     sum-small =
+        let long : length (here ++ b ∷ []) ≤ 2 ^ m = rw (length-more here b) (omega (arith, r .long-path)) in
         rw (r .penalty, ← (path-more m l here b))
-        (lt-of-le-of-lt (path-sizes m l (r .long) (here ++ b ∷ []) (rw (length-more here b) (omega (arith, r .long-path))) (bits-more here b (r .bits-path) bit)) (r .small))
+        (lt-of-le-of-lt (path-sizes m l (r .long) (here ++ b ∷ []) long (bits-more here b (r .bits-path) bit)) (r .small))
 
     -- with the bit put
-    pub next-ready : {rows′ : List ℤ} {half′ best′ second′ : List ℕ} {fresh′ : Bool} {q : ℕ} {y : Progress} → AreWords m best′ second′ → pathOf m (i + 1) (take (2 ^ m) half′) ≡ here ++ b ∷ [] → Bits half′
+    pub next-ready : {rows′ : List ℤ} {half′ best′ second′ : List ℕ} {fresh′ : Bool} {q : ℕ} {y : Progress} → AreWords m best′ second′
+        → pathOf m (i + 1) (take (2 ^ m) half′) ≡ here ++ b ∷ [] → Bits half′
         → q ≡ p + loss (value m l here) b → y .out ≡ false → drops y q ≡ false → (fresh′ ≡ true → Stands m l here (take (2 ^ m) rows′))
         → Ready m l kinds rows′ half′ best′ second′ fresh′ (i + 1) q y
     next-ready words path bits adds going kept stands =
@@ -160,22 +160,34 @@ module _ {m : ℕ} {l : List ℤ} {kinds : List ℕ} {rows : List ℤ} {half bes
         }
 
 -- ---- one extension, by the bit b of index i of the path u, from what was held to what is held
-pub record Extended (allowed m : ℕ) (l : List ℤ) (kinds : List ℕ) (i p b : ℕ) (u : List ℕ) (w : Progress) (best second : List ℕ) (z : Progress) (half′ best′ second′ : List ℕ) : Type 0 where
+pub record Extended (allowed m : ℕ) (l : List ℤ) (kinds : List ℕ) (i p b : ℕ) (u : List ℕ)
+    (w : Progress) (best second : List ℕ) (z : Progress) (half′ best′ second′ : List ℕ) : Type 0 where
   pub gives : limitedOf m z best′ second′ ≡ extendWithin allowed (rest allowed m l kinds i) (value m l u) u p b (stateOf m w best second)
   pub path-stays : pathOf m i (take (2 ^ m) half′) ≡ u
   pub bits-stay : Bits half′
   pub words : AreWords m best′ second′
 
 module _ {allowed m : ℕ} {l : List ℤ} {kinds : List ℕ} {i p b : ℕ} {u : List ℕ} {w y : Progress} (half best second : List ℕ)
-    (going : w .out ≡ false) (counts : y ≡ counted allowed w) (path : pathOf m i (take (2 ^ m) half) ≡ u) (bits : Bits half) (words : AreWords m best second) where
+    (going : w .out ≡ false) (counts : y ≡ counted allowed w)
+    (path : pathOf m i (take (2 ^ m) half) ≡ u) (bits : Bits half) (words : AreWords m best second) where
   pub extension-out : y .out ≡ true → Extended allowed m l kinds i p b u w best second y half best second
   extension-out o =
-      record { gives = extended-out allowed m (rest allowed m l kinds i) (value m l u) u p b (p + loss (value m l u) b) w y best second going counts refl o; path-stays = path; bits-stay = bits; words = words }
+      record {
+        gives = extended-out allowed m (rest allowed m l kinds i) (value m l u) u p b (p + loss (value m l u) b) w y best second going counts refl o;
+        path-stays = path;
+        bits-stay = bits;
+        words = words;
+      }
 
   module _ {q : ℕ} (adds : q ≡ p + loss (value m l u) b) (o : y .out ≡ false) where
     pub extension-dropped : drops y q ≡ true → Extended allowed m l kinds i p b u w best second y half best second
     extension-dropped d =
-        record { gives = extended-dropped allowed m (rest allowed m l kinds i) (value m l u) u p b q w y best second going counts adds o d; path-stays = path; bits-stay = bits; words = words }
+        record {
+          gives = extended-dropped allowed m (rest allowed m l kinds i) (value m l u) u p b q w y best second going counts adds o d;
+          path-stays = path;
+          bits-stay = bits;
+          words = words;
+        }
 
     -- the bit is put, the step from there on taken, and the bit taken back
     pub extension-on : {z : Progress} {half₁ half₂ half₃ best′ second′ : List ℕ} → drops y q ≡ false → length u ≡ i
@@ -201,7 +213,12 @@ module _ {m : ℕ} {l : List ℤ} {kinds : List ℕ} {rows : List ℤ} {half bes
   pub one-extension : {allowed : ℕ} {z : Progress} {half′ best′ second′ : List ℕ} → getD kinds i 0 ≡ 0
       → Extended allowed m l kinds i p 0 (here r) w best second z half′ best′ second′ → Stepped allowed m l kinds i p w half best second z half′ best′ second′
   one-extension {allowed} e x =
-      record { walks = x .gives ∙ sym (walk-frozen allowed m l kinds i (here r) p (stateOf m w best second) within e); path-stays = x .path-stays; bits-stay = x .bits-stay; words = x .words }
+      record {
+        walks = x .gives ∙ sym (walk-frozen allowed m l kinds i (here r) p (stateOf m w best second) within e);
+        path-stays = x .path-stays;
+        bits-stay = x .bits-stay;
+        words = x .words;
+      }
 
   module _ {allowed : ℕ} {z : Progress} {half′ best′ second′ : List ℕ} (e : getD kinds i 0 ≡ 0 → ⊥)
       (x : Extended allowed m l kinds i p (hard (value m l (here r))) (here r) w best second z half′ best′ second′) where

@@ -167,6 +167,7 @@ fn frozen_step(
     let v = memory::value(readings, rows, half, m, fresh, i);
     let q = p + cost(v, 0);
     if dropped(y, q) {
+        // it is counted all the same
         return y;
     }
     memory::put(half, m, i, 0);

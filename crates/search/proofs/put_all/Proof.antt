@@ -25,9 +25,13 @@ same-length-3 c = search needs
 
 returns : tie.Need-returns
 returns c =
+    let picked = c .before .before in
+    let transformed = picked .before .before .before .before .before in
+    let copied = transformed .before .before .before .before in
+    let start = copied .before .before .before .before .before .before .before in
     record {
-      word-is = c .before .before .before .before .before .before .before .before .before .before .before .copy .ensures;
-      bits-are = c .before .before .pick .ensures ∙ ap (pick (c .before .before .before .before .before .before .before .before .before .before .before .before .before .before .before .before .before .before .args .kinds .now)) (c .before .before .before .before .before .before .before .transform .ensures);
+      word-is = copied .copy .ensures;
+      bits-are = picked .pick .ensures ∙ ap (pick (start .args .kinds .now)) (transformed .transform .ensures);
     }
 
 pub put-all-spec : {M : Type 1} → statement M

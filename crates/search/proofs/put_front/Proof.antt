@@ -1,7 +1,7 @@
 -- `search::put_front` meets its contract.
 use mathlib.Core.Path.{_≡_, ap, _∙_}
 use mathlib.Core.List.{List}
-use Prim.Native.Nat.{ℕ, _-_, _^_}
+use Prim.Native.Nat.{ℕ, _-_, _^_, _≤_}
 use native.Mathlib.Omega.{arith}
 use lib.ListN.{length, take}
 use lib.Seq.{length-take-le}
@@ -29,10 +29,11 @@ part-put-all-end c =
 
 put-all-requires : tie.Need-put-all-requires
 put-all-requires c κs =
-    let s = c .before .before .before .before .before .before .before in
-    let r = s .pre .1 in
-    let e = lent-is (s .args .m) (s .args .best .now) (s .args .word .now) (r .long-word) in
-    rw e (length-take-le (2 ^ s .args .m) (s .args .best .now) (omega (arith, s .pre .0, pow-mono {i = s .args .m} {j = 8} (r .most))), r)
+    let start = c .before .before .before .before .before .before .before in
+    let s = start .args in
+    let r = start .pre .1 in
+    let fits : 2 ^ s .m ≤ length (s .best .now) = omega (arith, start .pre .0, pow-mono {i = s .m} {j = 8} (r .most)) in
+    rw (lent-is (s .m) (s .best .now) (s .word .now) (r .long-word)) (length-take-le (2 ^ s .m) (s .best .now) fits, r)
 
 same-length : tie.Need-same-length
 same-length c = search needs
@@ -45,8 +46,10 @@ same-length-3 c = search needs
 
 returns : tie.Need-returns
 returns c =
-    let s = c .before .before .before .before .before .before .before .before .before .before .before .before .before .before in
-    rw (lent-is (s .args .m) (s .args .best .now) (s .args .word .now) (s .pre .1 .long-word)) at (c .before .before .before .before .before .before .put-all .ensures)
+    let put = c .before .before .before .before .before .before in
+    let start = put .before .before .before .before .before .before .before .before in
+    let s = start .args in
+    rw (lent-is (s .m) (s .best .now) (s .word .now) (start .pre .1 .long-word)) at (put .put-all .ensures)
 
 pub put-front-spec : {M : Type 1} → statement M
 put-front-spec =

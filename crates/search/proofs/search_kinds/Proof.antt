@@ -13,16 +13,21 @@ walk-requires c κs = walkable (c .before .before .before .before .before .pre)
 
 returns : tie.Need-returns
 returns c =
-    let s = c .before .before .before .before .before .before .before in
-    sym (ap (answered (s .args .allowed) (s .args .bits .now) (s .args .word .now)) (out-answer (s .pre) (c .before .walk .ensures) (c .if1 .taken)))
+    let walked = c .before in
+    let start = walked .before .before .before .before .before .before in
+    let s = start .args in
+    sym (ap (answered (s .allowed) (s .bits .now) (s .word .now)) (out-answer (start .pre) (walked .walk .ensures) (c .if1 .taken)))
 
 sub-gap : tie.Need-sub-gap
 sub-gap c = ordered (c .before .before .before .before .before .before .before .before .pre) (c .before .before .walk .ensures) (c .before .if1 .left)
 
 returns-2 : tie.Need-returns-2
 returns-2 c =
-    let s = c .before .before .before .before .before .before .before .before .before in
-    sym (ap (answered (s .args .allowed) (s .args .bits .now) (s .args .word .now)) (tied-answer (s .pre) (c .before .before .before .walk .ensures) (c .before .before .if1 .left) (c .if2 .taken)))
+    let if1 = c .before .before in
+    let walked = if1 .before in
+    let start = walked .before .before .before .before .before .before in
+    let s = start .args in
+    sym (ap (answered (s .allowed) (s .bits .now) (s .word .now)) (tied-answer (start .pre) (walked .walk .ensures) (if1 .if1 .left) (c .if2 .taken)))
 
 put-best-requires : tie.Need-put-best-requires
 put-best-requires c κs = search needs
@@ -35,12 +40,17 @@ same-length-2 c = search needs
 
 returns-3 : tie.Need-returns-3
 returns-3 c =
-    let s = c .before .before .before .before .before .before .before .before .before .before .before .before .before .before .before .before .before in
-    let end = c .before .before .before .before .before .before .before .before .before .before .before .walk in
-    let put = c .before .before .before .before .put-best in
-    let long = ap length (sym (put .ensures .word-is)) ∙ put .kept .1 .1 .1 .1 .0 ∙ s .pre .long-word in
-    ap₂ (foundWith (end .result .best) (end .result .second - end .result .best) (end .result .visits)) (put .ensures .bits-are) (put .ensures .word-is)
-    ∙ sym (ap (answered (s .args .allowed) (s .args .bits .now) (s .args .word .now)) (found-answer (s .pre) (end .ensures) (c .before .before .before .before .before .before .before .before .before .before .if1 .left) (c .before .before .before .before .before .before .before .before .if2 .left) long))
+    let put = c .before .before .before .before in
+    let if2 = put .before .before .before .before in
+    let if1 = if2 .before .before in
+    let walked = if1 .before in
+    let start = walked .before .before .before .before .before .before in
+    let s = start .args in
+    let end = walked .walk .result in
+    let written = put .put-best .ensures in
+    let long = ap length (sym (written .word-is)) ∙ put .put-best .kept .1 .1 .1 .1 .0 ∙ start .pre .long-word in
+    ap₂ (foundWith (end .best) (end .second - end .best) (end .visits)) (written .bits-are) (written .word-is)
+    ∙ sym (ap (answered (s .allowed) (s .bits .now) (s .word .now)) (found-answer (start .pre) (walked .walk .ensures) (if1 .if1 .left) (if2 .if2 .left) long))
 
 pub search-kinds-spec : {M : Type 1} → statement M
 search-kinds-spec =

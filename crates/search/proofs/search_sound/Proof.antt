@@ -43,19 +43,24 @@ part-search-kinds-start c = search needs
 
 part-search-kinds-end : tie.Need-part-search-kinds-end
 part-search-kinds-end c =
-    let put = c .before .before .put-kinds in
-    let n = c .before .before .before .before .length .result in
-    let within : n ≤ 256 = omega (arith, length-most (c .before .before .before .before .before .before .before .pre .0 .0), c .before .before .before .before .length .ensures) in
-    omega (arith, same-len-mid 0 (n - 0) (replicate 256 0) (put .last .1 .0) (put .kept .1 .0))
+    let filled = c .before .before in
+    let sized = filled .before .before in
+    let start = sized .before .before .before in
+    let n = sized .length .result in
+    let within : n ≤ 256 = omega (arith, length-most (start .pre .0 .0), sized .length .ensures) in
+    omega (arith, same-len-mid 0 (n - 0) (replicate 256 0) (filled .put-kinds .last .1 .0) (filled .put-kinds .kept .1 .0))
 
 cast-search-kinds : tie.Need-cast-search-kinds
 cast-search-kinds c = search needs
 
 search-kinds-requires : tie.Need-search-kinds-requires
 search-kinds-requires c κs =
-    let s = c .before .before .before .before .before .before .before .before .before .before .before in
-    searchable _ (kinds-read (s .args .code .r) (s .args .code .m) (c .before .before .before .before .before .before .before .before .length .result) (c .before .before .before .before .before .before .put-kinds .last .1 .0) (c .before .before .before .before .before .before .put-kinds .ensures) (c .before .before .before .before .before .before .before .before .length .ensures))
-    (s .pre .0 .0) (s .pre .0 .1) (s .pre .0 .2) (s .pre .1 .0) (s .pre .1 .1)
+    let filled = c .before .before .before .before .before .before in
+    let sized = filled .before .before in
+    let start = sized .before .before .before in
+    let code = start .args .code in
+    let is = kinds-read (code .r) (code .m) (sized .length .result) (filled .put-kinds .last .1 .0) (filled .put-kinds .ensures) (sized .length .ensures) in
+    searchable _ is (start .pre .0 .0) (start .pre .0 .1) (start .pre .0 .2) (start .pre .1 .0) (start .pre .1 .1)
 
 same-length : tie.Need-same-length
 same-length c = search needs
@@ -65,11 +70,15 @@ same-length-2 c = search needs
 
 returns : tie.Need-returns
 returns c =
-    let s = c .before .before .before .before .before .before .before .before .before .before .before .before .before .before .before .before in
-    let code = s .args .code in
-    let is = kinds-read (code .r) (code .m) (c .before .before .before .before .before .before .before .before .before .before .before .before .before .length .result) (c .before .before .before .before .before .before .before .before .before .before .before .put-kinds .last .1 .0) (c .before .before .before .before .before .before .before .before .before .before .before .put-kinds .ensures) (c .before .before .before .before .before .before .before .before .before .before .before .before .before .length .ensures) in
-    c .before .before .before .before .search-kinds .ensures
-    ∙ ap (λ (ks : List ℕ). answered (s .args .allowed) (s .args .bits .now) (s .args .word .now) (answer (code .m) ks (s .args .readings .now) (s .args .allowed))) is
+    let done = c .before .before .before .before in
+    let filled = done .before .before .before .before .before .before .before in
+    let sized = filled .before .before in
+    let start = sized .before .before .before in
+    let s = start .args in
+    let m = s .code .m in
+    let is = kinds-read (s .code .r) m (sized .length .result) (filled .put-kinds .last .1 .0) (filled .put-kinds .ensures) (sized .length .ensures) in
+    done .search-kinds .ensures
+    ∙ ap (λ (ks : List ℕ). answered (s .allowed) (s .bits .now) (s .word .now) (answer m ks (s .readings .now) (s .allowed))) is
 
 pub search-sound-spec : {M : Type 1} → statement M
 search-sound-spec =

@@ -14,7 +14,9 @@ use borrow.Author.Needs.{needs}
 use Rattle.search.proofs.search_within.Statement.{statement}
 use Rattle.search.proofs.search_within.Tie as tie
 
-is-made : (c : tie.After-known-told) → made (c .before .before .before .before .before .before .args .r) (c .before .before .before .before .before .before .args .m) ≡ Good (c .before .code .given .0 .0)
+is-made : (c : tie.After-known-told)
+    → let s = c .before .before .before .before .before .before .args in
+    made (s .r) (s .m) ≡ Good (c .before .code .given .0 .0)
 is-made c = sym (c .before .before .before .new .ensures) ∙ c .before .code .given .1
 
 new-requires : tie.Need-new-requires
@@ -28,55 +30,98 @@ enum-told c = search needs
 
 returns : tie.Need-returns
 returns c =
-    let s = c .before .before .before .before .before in
-    sym (searching-made (s .args .r) (s .args .m) (s .args .allowed) (s .args .readings .now) (s .args .bits .now) (s .args .word .now) Bad (sym (c .before .before .new .ensures) ∙ c .enum-told .given .1))
+    let new = c .before .before in
+    let start = new .before .before .before in
+    let s = start .args in
+    sym (searching-made (s .r) (s .m) (s .allowed) (s .readings .now) (s .bits .now) (s .word .now) Bad (sym (new .new .ensures) ∙ c .enum-told .given .1))
 
 length-requires : tie.Need-length-requires
 length-requires c κs = made-of _ _ _ (is-made c) .sound
 
 returns-2 : tie.Need-returns-2
 returns-2 c =
-    let s = c .before .before .before .before .before .before .before .before in
-    let code = c .before .before .before .code .given .0 .0 in
-    let opened = searching-made (s .args .r) (s .args .m) (s .args .allowed) (s .args .readings .now) (s .args .bits .now) (s .args .word .now) (Good code) (is-made (c .before .before)) in
-    sym (opened ∙ in-readings code (s .args .allowed) (s .args .readings .now) (s .args .bits .now) (s .args .word .now) (λ e. c .if1 .taken (e ∙ sym (c .before .length .ensures))))
+    let n = c .before in
+    let told = n .before in
+    let new = told .before in
+    let start = new .before .before .before .before .before in
+    let s = start .args in
+    let code = new .code .given .0 .0 in
+    let opened = searching-made (s .r) (s .m) (s .allowed) (s .readings .now) (s .bits .now) (s .word .now) (Good code) (is-made told) in
+    sym (opened ∙ in-readings code (s .allowed) (s .readings .now) (s .bits .now) (s .word .now) (λ e. c .if1 .taken (e ∙ sym (n .length .ensures))))
 
 dimension-requires : tie.Need-dimension-requires
 dimension-requires c κs = made-of _ _ _ (is-made (c .before .before)) .sound
 
 returns-3 : tie.Need-returns-3
 returns-3 c =
-    let s = c .before .before .before .before .before .before .before .before .before .before in
-    let code = c .before .before .before .before .before .code .given .0 .0 in
-    let opened = searching-made (s .args .r) (s .args .m) (s .args .allowed) (s .args .readings .now) (s .args .bits .now) (s .args .word .now) (Good code) (is-made (c .before .before .before .before)) in
-    sym (opened ∙ in-bits code (s .args .allowed) (s .args .readings .now) (s .args .bits .now) (s .args .word .now) (c .before .before .if1 .left ∙ c .before .before .before .length .ensures) (λ e. c .if2 .taken (e ∙ sym (c .before .dimension .ensures))))
+    let k = c .before in
+    let if1 = k .before in
+    let n = if1 .before in
+    let told = n .before in
+    let new = told .before in
+    let start = new .before .before .before .before .before in
+    let s = start .args in
+    let code = new .code .given .0 .0 in
+    let opened = searching-made (s .r) (s .m) (s .allowed) (s .readings .now) (s .bits .now) (s .word .now) (Good code) (is-made told) in
+    let long = if1 .if1 .left ∙ n .length .ensures in
+    sym (opened ∙ in-bits code (s .allowed) (s .readings .now) (s .bits .now) (s .word .now) long (λ e. c .if2 .taken (e ∙ sym (k .dimension .ensures))))
 
 returns-4 : tie.Need-returns-4
 returns-4 c =
-    let s = c .before .before .before .before .before .before .before .before .before .before .before in
-    let code = c .before .before .before .before .before .before .code .given .0 .0 in
-    let opened = searching-made (s .args .r) (s .args .m) (s .args .allowed) (s .args .readings .now) (s .args .bits .now) (s .args .word .now) (Good code) (is-made (c .before .before .before .before .before)) in
-    sym (opened ∙ in-word code (s .args .allowed) (s .args .readings .now) (s .args .bits .now) (s .args .word .now) (c .before .before .before .if1 .left ∙ c .before .before .before .before .length .ensures) (c .before .if2 .left ∙ c .before .before .dimension .ensures) (λ e. c .if3 .taken (e ∙ sym (c .before .before .before .before .length .ensures))))
+    let if2 = c .before in
+    let k = if2 .before in
+    let if1 = k .before in
+    let n = if1 .before in
+    let told = n .before in
+    let new = told .before in
+    let start = new .before .before .before .before .before in
+    let s = start .args in
+    let code = new .code .given .0 .0 in
+    let opened = searching-made (s .r) (s .m) (s .allowed) (s .readings .now) (s .bits .now) (s .word .now) (Good code) (is-made told) in
+    let long = if1 .if1 .left ∙ n .length .ensures in
+    let long-bits = if2 .if2 .left ∙ k .dimension .ensures in
+    sym (opened ∙ in-word code (s .allowed) (s .readings .now) (s .bits .now) (s .word .now) long long-bits (λ e. c .if3 .taken (e ∙ sym (n .length .ensures))))
 
 first-bad-reading-requires : tie.Need-first-bad-reading-requires
 first-bad-reading-requires c κs = search needs
 
 returns-5 : tie.Need-returns-5
 returns-5 c =
-    let s = c .before .before .before .before .before .before .before .before .before .before .before .before .before in
-    let code = c .before .before .before .before .before .before .before .before .code .given .0 .0 in
-    let opened = searching-made (s .args .r) (s .args .m) (s .args .allowed) (s .args .readings .now) (s .args .bits .now) (s .args .word .now) (Good code) (is-made (c .before .before .before .before .before .before .before)) in
-    let first = c .before .first-bad-reading .ensures in
-    let before : firstBadReading largestReading (s .args .readings .now) < length (s .args .readings .now) = omega (arith, first, c .if4 .taken, c .before .before .before .before .before .if1 .left) in
-    ap (λ (place : ℕ). refused 4 place 0 0 (s .args .bits .now) (s .args .word .now)) first
-    ∙ sym (opened ∙ in-entry code (s .args .allowed) (s .args .readings .now) (s .args .bits .now) (s .args .word .now) (c .before .before .before .before .before .if1 .left ∙ c .before .before .before .before .before .before .length .ensures) (c .before .before .before .if2 .left ∙ c .before .before .before .before .dimension .ensures) (c .before .before .if3 .left ∙ c .before .before .before .before .before .before .length .ensures) before)
+    let first = c .before in
+    let if3 = first .before in
+    let if2 = if3 .before in
+    let k = if2 .before in
+    let if1 = k .before in
+    let n = if1 .before in
+    let told = n .before in
+    let new = told .before in
+    let start = new .before .before .before .before .before in
+    let s = start .args in
+    let code = new .code .given .0 .0 in
+    let opened = searching-made (s .r) (s .m) (s .allowed) (s .readings .now) (s .bits .now) (s .word .now) (Good code) (is-made told) in
+    let long = if1 .if1 .left ∙ n .length .ensures in
+    let long-bits = if2 .if2 .left ∙ k .dimension .ensures in
+    let long-word = if3 .if3 .left ∙ n .length .ensures in
+    let place = first .first-bad-reading .ensures in
+    let early : firstBadReading largestReading (s .readings .now) < length (s .readings .now) = omega (arith, place, c .if4 .taken, if1 .if1 .left) in
+    ap (λ (p : ℕ). refused 4 p 0 0 (s .bits .now) (s .word .now)) place
+    ∙ sym (opened ∙ in-entry code (s .allowed) (s .readings .now) (s .bits .now) (s .word .now) long long-bits long-word early)
 
 search-sound-requires : tie.Need-search-sound-requires
 search-sound-requires c κs =
-    let s = c .before .before .before .before .before .before .before .before .before .before .before .before .before .before .before in
-    let good : length (s .args .readings .now) ≤ firstBadReading largestReading (s .args .readings .now) = omega (arith, c .before .before .before .first-bad-reading .ensures, c .before .before .if4 .left, c .before .before .before .before .before .before .before .if1 .left) in (
-      (made-of _ _ _ (is-made (c .before .before .before .before .before .before .before .before .before)) .sound, c .before .before .before .before .before .before .before .if1 .left ∙ c .before .before .before .before .before .before .before .before .length .ensures, good-readings largestReading (s .args .readings .now) good),
-      (c .before .before .before .before .before .if2 .left ∙ c .before .before .before .before .before .before .dimension .ensures, c .before .before .before .before .if3 .left ∙ c .before .before .before .before .before .before .before .before .length .ensures),
+    let if4 = c .before .before in
+    let first = if4 .before in
+    let if3 = first .before in
+    let if2 = if3 .before in
+    let k = if2 .before in
+    let if1 = k .before in
+    let n = if1 .before in
+    let told = n .before in
+    let start = told .before .before .before .before .before .before in
+    let l = start .args .readings .now in
+    let good : length l ≤ firstBadReading largestReading l = omega (arith, first .first-bad-reading .ensures, if4 .if4 .left, if1 .if1 .left) in (
+      (made-of _ _ _ (is-made told) .sound, if1 .if1 .left ∙ n .length .ensures, good-readings largestReading l good),
+      (if2 .if2 .left ∙ k .dimension .ensures, if3 .if3 .left ∙ n .length .ensures),
     )
 
 same-length : tie.Need-same-length
@@ -87,12 +132,26 @@ same-length-2 c = search needs
 
 returns-6 : tie.Need-returns-6
 returns-6 c =
-    let s = c .before .before .before .before .before .before .before .before .before .before .before .before .before .before .before .before .before .before .before .before in
-    let code = c .before .before .before .before .before .before .before .before .before .before .before .before .before .before .before .code .given .0 .0 in
-    let opened = searching-made (s .args .r) (s .args .m) (s .args .allowed) (s .args .readings .now) (s .args .bits .now) (s .args .word .now) (Good code) (is-made (c .before .before .before .before .before .before .before .before .before .before .before .before .before .before)) in
-    let good : length (s .args .readings .now) ≤ firstBadReading largestReading (s .args .readings .now) = omega (arith, c .before .before .before .before .before .before .before .before .first-bad-reading .ensures, c .before .before .before .before .before .before .before .if4 .left, c .before .before .before .before .before .before .before .before .before .before .before .before .if1 .left) in
-    c .before .before .before .before .search-sound .ensures
-    ∙ sym (opened ∙ in-all code (s .args .allowed) (s .args .readings .now) (s .args .bits .now) (s .args .word .now) (c .before .before .before .before .before .before .before .before .before .before .before .before .if1 .left ∙ c .before .before .before .before .before .before .before .before .before .before .before .before .before .length .ensures) (c .before .before .before .before .before .before .before .before .before .before .if2 .left ∙ c .before .before .before .before .before .before .before .before .before .before .before .dimension .ensures) (c .before .before .before .before .before .before .before .before .before .if3 .left ∙ c .before .before .before .before .before .before .before .before .before .before .before .before .before .length .ensures) good)
+    let found = c .before .before .before .before in
+    let if4 = found .before .before .before in
+    let first = if4 .before in
+    let if3 = first .before in
+    let if2 = if3 .before in
+    let k = if2 .before in
+    let if1 = k .before in
+    let n = if1 .before in
+    let told = n .before in
+    let new = told .before in
+    let start = new .before .before .before .before .before in
+    let s = start .args in
+    let code = new .code .given .0 .0 in
+    let opened = searching-made (s .r) (s .m) (s .allowed) (s .readings .now) (s .bits .now) (s .word .now) (Good code) (is-made told) in
+    let long = if1 .if1 .left ∙ n .length .ensures in
+    let long-bits = if2 .if2 .left ∙ k .dimension .ensures in
+    let long-word = if3 .if3 .left ∙ n .length .ensures in
+    let good : length (s .readings .now) ≤ firstBadReading largestReading (s .readings .now) =
+    omega (arith, first .first-bad-reading .ensures, if4 .if4 .left, if1 .if1 .left) in
+    found .search-sound .ensures ∙ sym (opened ∙ in-all code (s .allowed) (s .readings .now) (s .bits .now) (s .word .now) long long-bits long-word good)
 
 pub search-within-spec : {M : Type 1} → statement M
 search-within-spec =

@@ -1,9 +1,10 @@
 -- `walk::cost` meets its contract.
 use mathlib.Core.Path.{_≡_, refl}
+use mathlib.Core.Bool.{true}
 use Prim.Native.Nat.{ℕ, zero, suc}
 use native.Mathlib.Omega.{arith}
 use lib.Dec.{T}
-use lib.Signed.{nonNeg}
+use lib.Signed.{nonNeg, ltZ}
 use lib.IntN.{ℤ, pos, negsuc, natAbs, _-ℤ_, negℤ}
 use mir.Facts.{toZ-ofZ}
 use Rattle.numbers.specs.Parts.{up, down}
@@ -30,8 +31,9 @@ cast-result : tie.Need-cast-result
 cast-result c =
     let s = c .before .before in
     let v = s .args .v in
+    let below : ltZ v (pos 0) ≡ true = rw (toZ-ofZ (s .fits .v)) at (c .if2 .taken) in
     rw (toZ-ofZ (sub-result c), toZ-ofZ (s .fits .v)) (
-      non-negative (pos 0 -ℤ v) (omega (arith, parts v, negated v, parts (pos 0 -ℤ v), sum-parts (pos 0) (negℤ v), less-parts v (pos 0) (rw (toZ-ofZ (s .fits .v)) at (c .if2 .taken)))),
+      non-negative (pos 0 -ℤ v) (omega (arith, parts v, negated v, parts (pos 0 -ℤ v), sum-parts (pos 0) (negℤ v), less-parts v (pos 0) below)),
       record { fits = omega (arith, parts v, parts (pos 0 -ℤ v), negated v, sum-parts (pos 0) (negℤ v)) },
     )
 
