@@ -46,12 +46,14 @@ module _ (r m : ℕ) (l : List ℤ) (k n : ℕ) where
           pub refused-entry : firstBadReading largestReading l < length l → Refused (Entry (firstBadReading largestReading l)) ≡ admitted r m l k n
           unfolding admitted
           refused-entry h =
-              rw (good, eq-eqb (length l) (2 ^ c .m) long, eq-eqb k (dimension (c .r) (c .m)) bits, eq-eqb n (2 ^ c .m) word, lt-ltb (firstBadReading largestReading l) (length l) h)
+              let place = firstBadReading largestReading l in
+              rw (good, eq-eqb (length l) (2 ^ c .m) long, eq-eqb k (dimension (c .r) (c .m)) bits, eq-eqb n (2 ^ c .m) word, lt-ltb place (length l) h)
 
           pub allowed : length l ≤ firstBadReading largestReading l → Allowed c ≡ admitted r m l k n
           unfolding admitted
           allowed h =
-              rw (good, eq-eqb (length l) (2 ^ c .m) long, eq-eqb k (dimension (c .r) (c .m)) bits, eq-eqb n (2 ^ c .m) word, le-ltb (firstBadReading largestReading l) (length l) h)
+              let place = firstBadReading largestReading l in
+              rw (good, eq-eqb (length l) (2 ^ c .m) long, eq-eqb k (dimension (c .r) (c .m)) bits, eq-eqb n (2 ^ c .m) word, le-ltb place (length l) h)
 
 -- ---- and back
 -- none of the tests applies

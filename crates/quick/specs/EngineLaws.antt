@@ -26,8 +26,13 @@ use Rattle.rows.specs.RowLaws.{length-rowOf}
 use Rattle.rows.specs.PlaceLaws.{length-withRow, behind-withRow, rowOf-withRow, rowOf-front}
 use Rattle.quick.specs.Engine.{Sized, Ready, HalfReady}
 
+-- half of a word's length
+abbrev pub mid : List ℕ → ℕ
+mid word = length word / 2
+
 -- ---- a single position
-pub one-word : (m : ℕ) (kinds word : List ℕ) (l : List ℤ) (b : ℕ) → m ≡ 0 → length word ≡ 2 ^ m → b ≡ decide (getD kinds 0 0) (getD l 0 (pos 0)) → set word 0 b ≡ quickWord m kinds l
+pub one-word : (m : ℕ) (kinds word : List ℕ) (l : List ℤ) (b : ℕ) → m ≡ 0 → length word ≡ 2 ^ m
+    → b ≡ decide (getD kinds 0 0) (getD l 0 (pos 0)) → set word 0 b ≡ quickWord m kinds l
 unfolding quickWord
 one-word zero kinds [] l b z e f = absurd (omega arith)
 one-word zero kinds (w ∷ []) l b z e f = ap (λ (n : ℕ). n ∷ []) f
@@ -48,10 +53,12 @@ module _ (m : ℕ) (rows : List ℤ) (kinds word : List ℕ) (r : HalfReady m ro
   same-row =
       ap (rowOf (2 ^ (m - 1))) (lent-to (length word) rows) ∙ row-of-part (2 ^ (m - 1)) (length word) rows (omega (arith, lengths .half, lengths .whole))
 
-  part-ready : (ks w : List ℕ) → length ks ≡ length word / 2 → length w ≡ length word / 2 → Ready (m - 1) (midOf 0 (length word - 0) rows) ks w
+  long-part : length (midOf 0 (length word - 0) rows) ≡ length word
+  long-part = ap length (lent-to (length word) rows) ∙ length-take-le (length word) rows (omega (arith, r .room, r .long-word))
+
+  part-ready : (ks w : List ℕ) → length ks ≡ mid word → length w ≡ mid word → Ready (m - 1) (midOf 0 (length word - 0) rows) ks w
   part-ready ks w e f =
-      let long : length (midOf 0 (length word - 0) rows) ≡ 2 ^ (m - 1) + 2 ^ (m - 1) =
-      ap length (lent-to (length word) rows) ∙ length-take-le (length word) rows (omega (arith, r .room, r .long-word)) ∙ omega (arith, lengths .half, lengths .whole) in
+      let long : length (midOf 0 (length word - 0) rows) ≡ 2 ^ (m - 1) + 2 ^ (m - 1) = long-part ∙ omega (arith, lengths .half, lengths .whole) in
       record {
         long-rows = long;
         sized =
@@ -63,36 +70,37 @@ module _ (m : ℕ) (rows : List ℤ) (kinds word : List ℕ) (r : HalfReady m ro
             };
       }
 
-  pub first-ready : Ready (m - 1) (midOf 0 (length word - 0) rows) (midOf 0 (length word / 2 - 0) kinds) (midOf 0 (length word / 2 - 0) word)
+  pub first-ready : Ready (m - 1) (midOf 0 (length word - 0) rows) (midOf 0 (mid word - 0) kinds) (midOf 0 (mid word - 0) word)
   first-ready =
-      part-ready (midOf 0 (length word / 2 - 0) kinds) (midOf 0 (length word / 2 - 0) word)
-      (ap length (lent-to (length word / 2) kinds) ∙ length-take-le (length word / 2) kinds (omega (arith, r .long-kinds, r .long-word)))
-      (ap length (lent-to (length word / 2) word) ∙ length-take-le (length word / 2) word (omega arith))
+      part-ready (midOf 0 (mid word - 0) kinds) (midOf 0 (mid word - 0) word)
+      (ap length (lent-to (mid word) kinds) ∙ length-take-le (mid word) kinds (omega (arith, r .long-kinds, r .long-word)))
+      (ap length (lent-to (mid word) word) ∙ length-take-le (mid word) word (omega arith))
 
-  pub second-ready : Ready (m - 1) (midOf 0 (length word - 0) rows) (midOf (length word / 2) (length kinds - length word / 2) kinds) (midOf (length word / 2) (length word - length word / 2) word)
+  pub second-ready :
+      Ready (m - 1) (midOf 0 (length word - 0) rows) (midOf (mid word) (length kinds - mid word) kinds) (midOf (mid word) (length word - mid word) word)
   second-ready =
-      part-ready (midOf (length word / 2) (length kinds - length word / 2) kinds) (midOf (length word / 2) (length word - length word / 2) word)
-      (ap length (lent-from (length word / 2) kinds) ∙ length-drop (length word / 2) kinds ∙ omega (arith, r .long-kinds, r .long-word, lengths .whole))
-      (ap length (lent-from (length word / 2) word) ∙ length-drop (length word / 2) word ∙ omega (arith, lengths .whole))
+      part-ready (midOf (mid word) (length kinds - mid word) kinds) (midOf (mid word) (length word - mid word) word)
+      (ap length (lent-from (mid word) kinds) ∙ length-drop (mid word) kinds ∙ omega (arith, r .long-kinds, r .long-word, lengths .whole))
+      (ap length (lent-from (mid word) word) ∙ length-drop (mid word) word ∙ omega (arith, lengths .whole))
 
   -- and what comes back
   pub behind-kept : (q : List ℤ) → length q ≡ length (midOf 0 (length word - 0) rows) → drop (2 ^ m) (putMid 0 (length word - 0) rows q) ≡ drop (2 ^ m) rows
   behind-kept q e =
-      let long : length q ≡ 2 ^ m = e ∙ ap length (lent-to (length word) rows) ∙ length-take-le (length word) rows (omega (arith, r .room, r .long-word)) ∙ r .long-word in
+      let long : length q ≡ 2 ^ m = e ∙ long-part ∙ r .long-word in
       ap (drop (2 ^ m)) (back-to (length word) rows q) ∙ drop-at q (drop (length word) rows) (2 ^ m) long ∙ ap (λ (k : ℕ). drop k rows) (r .long-word)
 
-  pub first-back : (w : List ℕ) → w ≡ quickWord (m - 1) (midOf 0 (length word / 2 - 0) kinds) (rowOf (2 ^ (m - 1)) (midOf 0 (length word - 0) rows))
-      → putMid 0 (length word / 2 - 0) word w ≡ quickWord (m - 1) (take (2 ^ (m - 1)) kinds) (rowOf (2 ^ (m - 1)) rows) ++ drop (2 ^ (m - 1)) word
+  pub first-back : (w : List ℕ) → w ≡ quickWord (m - 1) (midOf 0 (mid word - 0) kinds) (rowOf (2 ^ (m - 1)) (midOf 0 (length word - 0) rows))
+      → putMid 0 (mid word - 0) word w ≡ quickWord (m - 1) (take (2 ^ (m - 1)) kinds) (rowOf (2 ^ (m - 1)) rows) ++ drop (2 ^ (m - 1)) word
   first-back w e =
-      back-to (length word / 2) word w
-      ∙ ap (λ (x : List ℕ). x ++ drop (length word / 2) word) (e ∙ ap₂ (quickWord (m - 1)) (lent-to (length word / 2) kinds) same-row)
+      back-to (mid word) word w
+      ∙ ap (λ (x : List ℕ). x ++ drop (mid word) word) (e ∙ ap₂ (quickWord (m - 1)) (lent-to (mid word) kinds) same-row)
       ∙ ap (λ (k : ℕ). quickWord (m - 1) (take k kinds) (rowOf (2 ^ (m - 1)) rows) ++ drop k word) (lengths .half)
 
-  pub second-back : (w : List ℕ) → w ≡ quickWord (m - 1) (midOf (length word / 2) (length kinds - length word / 2) kinds) (rowOf (2 ^ (m - 1)) (midOf 0 (length word - 0) rows))
-      → putMid (length word / 2) (length word - length word / 2) word w ≡ take (2 ^ (m - 1)) word ++ quickWord (m - 1) (drop (2 ^ (m - 1)) kinds) (rowOf (2 ^ (m - 1)) rows)
+  pub second-back : (w : List ℕ) → w ≡ quickWord (m - 1) (midOf (mid word) (length kinds - mid word) kinds) (rowOf (2 ^ (m - 1)) (midOf 0 (length word - 0) rows))
+      → putMid (mid word) (length word - mid word) word w ≡ take (2 ^ (m - 1)) word ++ quickWord (m - 1) (drop (2 ^ (m - 1)) kinds) (rowOf (2 ^ (m - 1)) rows)
   second-back w e =
-      back-from (length word / 2) word w
-      ∙ ap (λ (x : List ℕ). take (length word / 2) word ++ x) (e ∙ ap₂ (quickWord (m - 1)) (lent-from (length word / 2) kinds) same-row)
+      back-from (mid word) word w
+      ∙ ap (λ (x : List ℕ). take (mid word) word ++ x) (e ∙ ap₂ (quickWord (m - 1)) (lent-from (mid word) kinds) same-row)
       ∙ ap (λ (k : ℕ). take k word ++ quickWord (m - 1) (drop k kinds) (rowOf (2 ^ (m - 1)) rows)) (lengths .half)
 
 -- ---- the word of a row l, put together from its halves' words
@@ -110,65 +118,68 @@ quick-halves (suc p) ks l more = let e : suc p - 1 ≡ p = omega arith in rw e
 
 -- v is the two halves' words, to be folded
 pub record Foldable (m : ℕ) (kinds word : List ℕ) (l : List ℤ) (v : List ℕ) : Type 0 where
-  pub long : length v ≡ length word / 2 + length word / 2
+  pub long : length v ≡ mid word + mid word
   pub bits : Bits v
-  pub gives : folded (length word / 2) v ≡ quickWord m kinds l
+  pub gives : folded (mid word) v ≡ quickWord m kinds l
 
 module _ (m : ℕ) (kinds word : List ℕ) (l : List ℤ) (s : Sized m kinds word l) (more : m ≡ 0 → ⊥) where
   pub halves : Halved (length word) m
   halves = halved (length word) m (s .long-word) more
 
-  pub row-halves : length l ≡ length word / 2 + length word / 2
+  pub row-halves : length l ≡ mid word + mid word
   row-halves = omega (arith, s .long-row, s .long-word, halves .whole)
 
   -- a half's row x stands in its place
-  placed-ready : (d x : List ℤ) (w : List ℕ) → length word ≤ length d → length x ≡ length word / 2 → sizes x ≤ sizes l → length w ≡ length word
-      → HalfReady m (withRow (length word / 2) d x) kinds w
+  placed-ready : (d x : List ℤ) (w : List ℕ) → length word ≤ length d → length x ≡ mid word → sizes x ≤ sizes l → length w ≡ length word
+      → HalfReady m (withRow (mid word) d x) kinds w
   placed-ready d x w room e b f =
-      let fits : length word / 2 + length word / 2 ≤ length d = omega (arith, halves .whole) in
+      let fits : mid word + mid word ≤ length d = omega (arith, halves .whole) in
       record {
         above = omega arith;
-        room = omega (arith, length-withRow (length word / 2) d x fits e, s .long-word);
+        room = omega (arith, length-withRow (mid word) d x fits e, s .long-word);
         long-kinds = s .long-kinds;
         long-word = f ∙ s .long-word;
-        small = subst (λ (k : ℕ). sizes (rowOf k (withRow (length word / 2) d x)) < 2 ^ 31) (halves .half) (rw (rowOf-withRow (length word / 2) d x fits e) (omega (arith, s .small)));
+        small =
+            subst (λ (k : ℕ). sizes (rowOf k (withRow (mid word) d x)) < 2 ^ 31) (halves .half)
+            (rw (rowOf-withRow (mid word) d x fits e) (omega (arith, s .small)));
       }
 
-  module _ (d : List ℤ) (room : length word ≤ length d) (rows : List ℤ) (is : rows ≡ withRow (length word / 2) d (lowerRow (length word / 2) l)) where
+  module _ (d : List ℤ) (room : length word ≤ length d) (rows : List ℤ) (is : rows ≡ withRow (mid word) d (lowerRow (mid word) l)) where
     pub lower-ready : HalfReady m rows kinds word
     lower-ready =
-        rw is (placed-ready d (lowerRow (length word / 2) l) word room (length-lowerRow (length word / 2) l row-halves) (sizes-lowerRow (length word / 2) l) refl)
+        rw is (placed-ready d (lowerRow (mid word) l) word room (length-lowerRow (mid word) l row-halves) (sizes-lowerRow (mid word) l) refl)
 
     lower-row : rowOf (2 ^ (m - 1)) rows ≡ lowerRow (2 ^ (m - 1)) l
     lower-row =
         subst (λ (k : ℕ). rowOf k rows ≡ lowerRow k l) (halves .half)
-        (ap (rowOf (length word / 2)) is
-        ∙ rowOf-withRow (length word / 2) d (lowerRow (length word / 2) l) (omega (arith, halves .whole)) (length-lowerRow (length word / 2) l row-halves))
+        (ap (rowOf (mid word)) is
+        ∙ rowOf-withRow (mid word) d (lowerRow (mid word) l) (omega (arith, halves .whole)) (length-lowerRow (mid word) l row-halves))
 
     pub lower-back : (w : List ℕ) → w ≡ quickWord (m - 1) (take (2 ^ (m - 1)) kinds) (rowOf (2 ^ (m - 1)) rows) ++ drop (2 ^ (m - 1)) word
-        → take (length word / 2) w ≡ lowerWord m kinds l
+        → take (mid word) w ≡ lowerWord m kinds l
     lower-back w e =
-        rw (e, lower-row, halves .half) (take-at (lowerWord m kinds l) (drop (2 ^ (m - 1)) word) (2 ^ (m - 1)) (length-quick (m - 1) (take (2 ^ (m - 1)) kinds) (lowerRow (2 ^ (m - 1)) l)))
+        let long = length-quick (m - 1) (take (2 ^ (m - 1)) kinds) (lowerRow (2 ^ (m - 1)) l) in
+        rw (e, lower-row, halves .half) (take-at (lowerWord m kinds l) (drop (2 ^ (m - 1)) word) (2 ^ (m - 1)) long)
 
   -- the lower half's word a stands in front
-  module _ (w : List ℕ) (long : length w ≡ length word) (a : take (length word / 2) w ≡ lowerWord m kinds l) where
-    pub upper-asked : length word / 2 ≤ length w
+  module _ (w : List ℕ) (long : length w ≡ length word) (a : take (mid word) w ≡ lowerWord m kinds l) where
+    pub upper-asked : mid word ≤ length w
     upper-asked = omega (arith, halves .whole)
 
-    long-upper : length (upperRow (length word / 2) l (take (length word / 2) w)) ≡ length word / 2
-    long-upper = length-upperRow (length word / 2) l row-halves (take (length word / 2) w) (length-take-le (length word / 2) w upper-asked)
+    long-upper : length (upperRow (mid word) l (take (mid word) w)) ≡ mid word
+    long-upper = length-upperRow (mid word) l row-halves (take (mid word) w) (length-take-le (mid word) w upper-asked)
 
-    module _ (d : List ℤ) (room : length word ≤ length d) (rows : List ℤ) (is : rows ≡ withRow (length word / 2) d (upperRow (length word / 2) l (take (length word / 2) w))) where
+    module _ (d : List ℤ) (room : length word ≤ length d) (rows : List ℤ) (is : rows ≡ withRow (mid word) d (upperRow (mid word) l (take (mid word) w))) where
       pub upper-ready : HalfReady m rows kinds w
       upper-ready =
-          rw is (placed-ready d (upperRow (length word / 2) l (take (length word / 2) w)) w room long-upper (sizes-upperRow (length word / 2) l (take (length word / 2) w)) long)
+          rw is (placed-ready d (upperRow (mid word) l (take (mid word) w)) w room long-upper (sizes-upperRow (mid word) l (take (mid word) w)) long)
 
       upper-row : rowOf (2 ^ (m - 1)) rows ≡ upperRow (2 ^ (m - 1)) l (lowerWord m kinds l)
       upper-row =
           subst (λ (k : ℕ). rowOf k rows ≡ upperRow k l (lowerWord m kinds l)) (halves .half)
-          (ap (rowOf (length word / 2)) is
-          ∙ rowOf-withRow (length word / 2) d (upperRow (length word / 2) l (take (length word / 2) w)) (omega (arith, halves .whole)) long-upper
-          ∙ ap (upperRow (length word / 2) l) a)
+          (ap (rowOf (mid word)) is
+          ∙ rowOf-withRow (mid word) d (upperRow (mid word) l (take (mid word) w)) (omega (arith, halves .whole)) long-upper
+          ∙ ap (upperRow (mid word) l) a)
 
       module _ (v : List ℕ) (e : v ≡ take (2 ^ (m - 1)) w ++ quickWord (m - 1) (drop (2 ^ (m - 1)) kinds) (rowOf (2 ^ (m - 1)) rows)) where
         both : v ≡ lowerWord m kinds l ++ upperWord m kinds l (lowerWord m kinds l)
@@ -176,10 +187,10 @@ module _ (m : ℕ) (kinds word : List ℕ) (l : List ℤ) (s : Sized m kinds wor
             e
             ∙ ap₂ (λ (x : List ℕ) (r : List ℤ). x ++ quickWord (m - 1) (drop (2 ^ (m - 1)) kinds) r) (ap (λ (k : ℕ). take k w) (sym (halves .half)) ∙ a) upper-row
 
-        long-lower : length (lowerWord m kinds l) ≡ length word / 2
+        long-lower : length (lowerWord m kinds l) ≡ mid word
         long-lower = length-quick (m - 1) (take (2 ^ (m - 1)) kinds) (lowerRow (2 ^ (m - 1)) l) ∙ sym (halves .half)
 
-        long-upper-word : length (upperWord m kinds l (lowerWord m kinds l)) ≡ length word / 2
+        long-upper-word : length (upperWord m kinds l (lowerWord m kinds l)) ≡ mid word
         long-upper-word = length-quick (m - 1) (drop (2 ^ (m - 1)) kinds) (upperRow (2 ^ (m - 1)) l (lowerWord m kinds l)) ∙ sym (halves .half)
 
         pub upper-back : Foldable m kinds word l v
@@ -191,16 +202,16 @@ module _ (m : ℕ) (kinds word : List ℕ) (l : List ℤ) (s : Sized m kinds wor
             record {
               long = ap length both ∙ length-append x y ∙ omega (arith, long-lower, long-upper-word);
               bits = subst Bits (sym both) (bits-append x y bits-x bits-y);
-              gives = ap (folded (length word / 2)) both ∙ rw (take-at x y (length word / 2) long-lower, drop-at x y (length word / 2) long-lower) (quick-halves m kinds l more);
+              gives = ap (folded (mid word)) both ∙ rw (take-at x y (mid word) long-lower, drop-at x y (mid word) long-lower) (quick-halves m kinds l more);
             }
 
 -- ---- the same where l is the row of 2^m sums of the scratch array
 -- after the first half is read: q is the array, w the word
 pub record FirstRead (m : ℕ) (rows : List ℤ) (kinds word : List ℕ) (q : List ℤ) (w : List ℕ) : Type 0 where
   pub long-rows : length q ≡ length rows
-  pub row : rowOf (length word / 2 + length word / 2) q ≡ rowOf (2 ^ m) rows
+  pub row : rowOf (mid word + mid word) q ≡ rowOf (2 ^ m) rows
   pub long : length w ≡ length word
-  pub lower : take (length word / 2) w ≡ lowerWord m kinds (rowOf (2 ^ m) rows)
+  pub lower : take (mid word) w ≡ lowerWord m kinds (rowOf (2 ^ m) rows)
 
 module _ (m : ℕ) (rows : List ℤ) (kinds word : List ℕ) (r : Ready m rows kinds word) where
   pub one-value : m ≡ 0 → toZ w32 (ofZ w32 (getD rows 1 (pos 0))) ≡ getD (rowOf (2 ^ m) rows) 0 (pos 0)
@@ -210,21 +221,21 @@ module _ (m : ℕ) (rows : List ℤ) (kinds word : List ℕ) (r : Ready m rows k
       rw (← e) (toZ-ofZ (fits-size (getD (rowOf (2 ^ m) rows) 0 (pos 0)) (omega (arith, entry-sizes (rowOf (2 ^ m) rows) 0, r .sized .small))))
 
   module _ (more : m ≡ 0 → ⊥) where
-    whole : length word / 2 + length word / 2 ≡ 2 ^ m
+    whole : mid word + mid word ≡ 2 ^ m
     whole = omega (arith, halves m kinds word (rowOf (2 ^ m) rows) (r .sized) more .whole, r .sized .long-word)
 
-    same : rowOf (length word / 2 + length word / 2) rows ≡ rowOf (2 ^ m) rows
+    same : rowOf (mid word + mid word) rows ≡ rowOf (2 ^ m) rows
     same = ap (λ (k : ℕ). rowOf k rows) whole
 
-    pub lower-asked : (length word / 2 + length word / 2 + (length word / 2 + length word / 2) ≤ length rows)
-        × (sizes (rowOf (length word / 2 + length word / 2) rows) < 2 ^ 31)
+    pub lower-asked : (mid word + mid word + (mid word + mid word) ≤ length rows)
+        × (sizes (rowOf (mid word + mid word) rows) < 2 ^ 31)
     lower-asked = (omega (arith, whole, r .long-rows), rw same (r .sized .small))
 
     room : length word ≤ length rows
     room = omega (arith, r .long-rows, r .sized .long-word)
 
-    module _ (s : List ℤ) (is : s ≡ withRow (length word / 2) rows (lowerRow (length word / 2) (rowOf (length word / 2 + length word / 2) rows))) where
-      lower-is : s ≡ withRow (length word / 2) rows (lowerRow (length word / 2) (rowOf (2 ^ m) rows))
+    module _ (s : List ℤ) (is : s ≡ withRow (mid word) rows (lowerRow (mid word) (rowOf (mid word + mid word) rows))) where
+      lower-is : s ≡ withRow (mid word) rows (lowerRow (mid word) (rowOf (2 ^ m) rows))
       lower-is = rw (← same) is
 
       pub first-asked : HalfReady m s kinds word
@@ -233,7 +244,7 @@ module _ (m : ℕ) (rows : List ℤ) (kinds word : List ℕ) (r : Ready m rows k
       pub first-read : (q : List ℤ) (w : List ℕ) → length q ≡ length s → drop (2 ^ m) q ≡ drop (2 ^ m) s → length w ≡ length word
           → w ≡ quickWord (m - 1) (take (2 ^ (m - 1)) kinds) (rowOf (2 ^ (m - 1)) s) ++ drop (2 ^ (m - 1)) word → FirstRead m rows kinds word q w
       first-read q w long behind f e =
-          let h = length word / 2 in
+          let h = mid word in
           let x = lowerRow h (rowOf (h + h) rows) in
           let long-x = length-lowerRow h (rowOf (h + h) rows) (length-rowOf (h + h) rows (lower-asked .0)) in
           let fits : h + h ≤ length rows = omega (arith, lower-asked .0) in
@@ -248,12 +259,12 @@ module _ (m : ℕ) (rows : List ℤ) (kinds word : List ℕ) (r : Ready m rows k
           }
 
     module _ (q : List ℤ) (w : List ℕ) (f : FirstRead m rows kinds word q w) where
-      pub upper-row-asked : (length word / 2 + length word / 2 + (length word / 2 + length word / 2) ≤ length q) × (length word / 2 ≤ length w)
-          × (sizes (rowOf (length word / 2 + length word / 2) q) < 2 ^ 31)
+      pub upper-row-asked : (mid word + mid word + (mid word + mid word) ≤ length q) × (mid word ≤ length w)
+          × (sizes (rowOf (mid word + mid word) q) < 2 ^ 31)
       upper-row-asked = (omega (arith, lower-asked .0, f .long-rows), omega (arith, f .long), rw (f .row) (r .sized .small))
 
-      module _ (s : List ℤ) (is : s ≡ withRow (length word / 2) q (upperRow (length word / 2) (rowOf (length word / 2 + length word / 2) q) (take (length word / 2) w))) where
-        upper-is : s ≡ withRow (length word / 2) q (upperRow (length word / 2) (rowOf (2 ^ m) rows) (take (length word / 2) w))
+      module _ (s : List ℤ) (is : s ≡ withRow (mid word) q (upperRow (mid word) (rowOf (mid word + mid word) q) (take (mid word) w))) where
+        upper-is : s ≡ withRow (mid word) q (upperRow (mid word) (rowOf (2 ^ m) rows) (take (mid word) w))
         upper-is = rw (← f .row) is
 
         room-again : length word ≤ length q
@@ -262,5 +273,6 @@ module _ (m : ℕ) (rows : List ℤ) (kinds word : List ℕ) (r : Ready m rows k
         pub second-asked : HalfReady m s kinds w
         second-asked = upper-ready m kinds word (rowOf (2 ^ m) rows) (r .sized) more w (f .long) (f .lower) q room-again s upper-is
 
-        pub second-read : (v : List ℕ) → v ≡ take (2 ^ (m - 1)) w ++ quickWord (m - 1) (drop (2 ^ (m - 1)) kinds) (rowOf (2 ^ (m - 1)) s) → Foldable m kinds word (rowOf (2 ^ m) rows) v
+        pub second-read : (v : List ℕ) → v ≡ take (2 ^ (m - 1)) w ++ quickWord (m - 1) (drop (2 ^ (m - 1)) kinds) (rowOf (2 ^ (m - 1)) s)
+            → Foldable m kinds word (rowOf (2 ^ m) rows) v
         second-read v e = upper-back m kinds word (rowOf (2 ^ m) rows) (r .sized) more w (f .long) (f .lower) q room-again s upper-is v e

@@ -56,5 +56,8 @@ module _ (r m : ℕ) (l : List ℤ) (bits word : List ℕ) where
 
   pub quick-only : (a b : Read) (x y v w : List ℕ) → told a x y ≡ reading r m l bits word → told b v w ≡ reading r m l bits word → (a ≡ b) × (x ≡ v) × (y ≡ w)
   quick-only a b x y v w e f =
-      let same = e ∙ sym f in
-      (sym (is-answer a x y e) ∙ is-answer b v w f, sym (bits-told a x y) ∙ ap (λ (o : Outcome). o .bits) same ∙ bits-told b v w, sym (word-told a x y) ∙ ap (λ (o : Outcome). o .word) same ∙ word-told b v w)
+      let same = e ∙ sym f in (
+        sym (is-answer a x y e) ∙ is-answer b v w f,
+        sym (bits-told a x y) ∙ ap (λ (o : Outcome). o .bits) same ∙ bits-told b v w,
+        sym (word-told a x y) ∙ ap (λ (o : Outcome). o .word) same ∙ word-told b v w,
+      )

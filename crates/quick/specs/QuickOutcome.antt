@@ -67,7 +67,8 @@ above-zero Pad = omega arith
 
 module _ (r m : ℕ) (l : List ℤ) (bits word : List ℕ) where
   -- done exactly if none of the tests applies
-  pub quick-done : reading r m l bits word .number ≡ 0 → Allows r m l (length bits) (length word) (record { r = r; m = m }) × QuickDone r m l (reading r m l bits word)
+  pub quick-done : reading r m l bits word .number ≡ 0
+      → Allows r m l (length bits) (length word) (record { r = r; m = m }) × QuickDone r m l (reading r m l bits word)
   quick-done z =
       elim (decided r m l (length bits) (length word)) [
         | allows c e a ↦ (rw (a .code .same) at a, rw (← reading-done r m l bits word c (readingBy c l) e refl, a .code .same) (done-by r m l))
@@ -75,11 +76,14 @@ module _ (r m : ℕ) (l : List ℤ) (bits word : List ℕ) where
       ]
 
   pub quick-answers : (c : Code) → Allows r m l (length bits) (length word) c → reading r m l bits word .number ≡ 0
-  quick-answers c a = ap (λ (o : Outcome). o .number) (sym (reading-done r m l bits word c (readingBy c l) (all-allowed r m l (length bits) (length word) c a) refl))
+  quick-answers c a =
+      let is = reading-done r m l bits word c (readingBy c l) (all-allowed r m l (length bits) (length word) c a) refl in
+      ap (λ (o : Outcome). o .number) (sym is)
 
   pub quick-refused : 0 < reading r m l bits word .number → QuickRefused bits word (reading r m l bits word)
   quick-refused z =
       elim (decided r m l (length bits) (length word)) [
         | allows c e a ↦ absurd (omega (arith, ap (λ (o : Outcome). o .number) (reading-done r m l bits word c (readingBy c l) e refl)))
-        | refuses why e h ↦ rw (← reading-refused r m l bits word why e) (record { first-tests = h; no-penalty = first-penalty why h; kept-bits = refl; kept-word = refl })
+        | refuses why e h ↦ rw (← reading-refused r m l bits word why e)
+            (record { first-tests = h; no-penalty = first-penalty why h; kept-bits = refl; kept-word = refl })
       ]

@@ -32,8 +32,8 @@ pub length-rowOf : (n : ℕ) (s : List ℤ) → n + n ≤ length s → length (r
 length-rowOf n s room = length-take-le n (drop n s) (simp length-drop (omega arith))
 
 -- of the array d, whose row of h sums becomes x and has j of them: the row above is as it was
-pub row-read : (d x s : List ℤ) (h j i : ℕ) → h + h + (h + h) ≤ length d → length x ≡ h → s ≡ paste d h x j → j < h → i < h + h → SFits w32 (getD s (h + h + i) (pos 0))
-    → toZ w32 (ofZ w32 (getD s (h + h + i) (pos 0))) ≡ getD (rowOf (h + h) d) i (pos 0)
+pub row-read : (d x s : List ℤ) (h j i : ℕ) → h + h + (h + h) ≤ length d → length x ≡ h → s ≡ paste d h x j → j < h → i < h + h
+    → SFits w32 (getD s (h + h + i) (pos 0)) → toZ w32 (ofZ w32 (getD s (h + h + i) (pos 0))) ≡ getD (rowOf (h + h) d) i (pos 0)
 row-read d x s h j i room long is more below fits =
     let e : h + h + i ≡ h + j + (h - j + i) = omega arith in
     toZ-ofZ fits
@@ -56,7 +56,8 @@ reading-size (pos n) f = omega (arith, f .sfits)
 reading-size (negsuc n) f = omega (arith, f .sfits)
 
 -- ---- what is stored
-row-turn : (d x s : List ℤ) (h j : ℕ) (v : ℤ) → h + h ≤ length d → length x ≡ h → s ≡ paste d h x j → j < h → v ≡ getD x j (pos 0) → set s (h + j) v ≡ paste d h x (j + 1)
+row-turn : (d x s : List ℤ) (h j : ℕ) (v : ℤ) → h + h ≤ length d → length x ≡ h → s ≡ paste d h x j → j < h
+    → v ≡ getD x j (pos 0) → set s (h + j) v ≡ paste d h x (j + 1)
 row-turn d x s h j v room long is more e = rw (add-one, is, e) (paste-suc d h x j (pos 0) (omega arith) (omega arith))
 
 module _ (d s l : List ℤ) (h j : ℕ) (x y v : ℤ) (room : h + h ≤ length d) (long : length l ≡ h + h) (more : j < h) (pair : Pair h j l x y) where
@@ -65,9 +66,11 @@ module _ (d s l : List ℤ) (h j : ℕ) (x y v : ℤ) (room : h + h ≤ length d
       row-turn d (lowerRow h l) s h j v room (length-lowerRow h l long) is more
       (e ∙ ap₂ lower (pair .first) (pair .second) ∙ sym (getD-lowerRow h l long j more))
 
-  pub upper-turn : (w : List ℕ) → h ≤ length w → s ≡ paste d h (upperRow h l (take h w)) j → v ≡ upper x y (getD w j 0) → set s (h + j) v ≡ paste d h (upperRow h l (take h w)) (j + 1)
+  pub upper-turn : (w : List ℕ) → h ≤ length w → s ≡ paste d h (upperRow h l (take h w)) j → v ≡ upper x y (getD w j 0)
+      → set s (h + j) v ≡ paste d h (upperRow h l (take h w)) (j + 1)
   upper-turn w k is e =
       let a = length-take-le h w k in
       row-turn d (upperRow h l (take h w)) s h j v room (length-upperRow h l long (take h w) a) is more
-      (e ∙ ap₂ (λ (p q : ℤ). upper p q (getD w j 0)) (pair .first) (pair .second) ∙ ap (upper (getD l j (pos 0)) (getD l (h + j) (pos 0))) (sym (getD-take h w j 0 more))
+      (e ∙ ap₂ (λ (p q : ℤ). upper p q (getD w j 0)) (pair .first) (pair .second)
+      ∙ ap (upper (getD l j (pos 0)) (getD l (h + j) (pos 0))) (sym (getD-take h w j 0 more))
       ∙ sym (getD-upperRow h l long j more (take h w) a))

@@ -9,7 +9,8 @@ use borrow.Fn.Kinds.{In}
 use borrow.Fn.PlainCycle.{Measures, is, falls, and}
 use Rattle.decoding.specs.Quick.{decide}
 use Rattle.rows.specs.Rows.{rowOf}
-use Rattle.quick.specs.EngineLaws.{one-word, first-ready, second-ready, behind-kept, first-back, second-back, Foldable, FirstRead, one-value, lower-asked, first-asked, first-read, upper-row-asked, second-asked, second-read}
+use Rattle.quick.specs.EngineLaws.{one-word, first-ready, second-ready, behind-kept, first-back, second-back, Foldable}
+use Rattle.quick.specs.EngineLaws.{FirstRead, one-value, lower-asked, first-asked, first-read, upper-row-asked, second-asked, second-read}
 use Rattle.quick.proofs.first_half.Reads as first-half
 use Rattle.quick.proofs.first_half.Kinds as first-half-kinds
 use Rattle.quick.proofs.+first_half+quick_row+second_half.Lts-first_half as first-half-lts
@@ -62,7 +63,20 @@ abbrev first-half-calls : ℕ → first-half-lts.Claims
 first-half-calls t = (quick-row-below t, quick-row.Post)
 
 abbrev quick-row-calls : ℕ → quick-row-lts.Claims
-quick-row-calls t = (decide-reads.Asked, decide-reads.Learnt, lower-row-reads.Asked, lower-row-reads.Learnt, first-half-below t, first-half.Post, upper-row-reads.Asked, upper-row-reads.Learnt, second-half-below t, second-half.Post, fold-reads.Asked, fold-reads.Learnt)
+quick-row-calls t = (
+  decide-reads.Asked,
+  decide-reads.Learnt,
+  lower-row-reads.Asked,
+  lower-row-reads.Learnt,
+  first-half-below t,
+  first-half.Post,
+  upper-row-reads.Asked,
+  upper-row-reads.Learnt,
+  second-half-below t,
+  second-half.Post,
+  fold-reads.Asked,
+  fold-reads.Learnt,
+)
 
 abbrev second-half-calls : ℕ → second-half-lts.Claims
 second-half-calls t = (quick-row-below t, quick-row.Post)
@@ -170,69 +184,106 @@ quick-row-first-half-requires t c κs =
     let rows = g .args .rows .now in
     let kinds = g .args .kinds .now in
     let word = g .args .word .now in
-    let o = c .before .before .before .lower-row in
-    (omega (arith, g .pre .0), first-asked m rows kinds word (g .pre .1) (c .before .before .before .before .before .if1 .left) (o .last .0) (o .ensures))
+    let o = c .before .before .before in
+    (omega (arith, g .pre .0), first-asked m rows kinds word (g .pre .1) (o .before .before .if1 .left) (o .lower-row .last .0) (o .lower-row .ensures))
+
+-- the places that the later ones look back to, each behind the next
+abbrev Lowered : ℕ → Type 0
+Lowered t = quick-row-lts.After-lower-row (quick-row-calls t) (quick-row-at t) quick-row.Post
+
+abbrev FirstDone : ℕ → Type 0
+FirstDone t = quick-row-lts.After-first-half (quick-row-calls t) (quick-row-at t) quick-row.Post
+
+abbrev Raised : ℕ → Type 0
+Raised t = quick-row-lts.After-upper-row (quick-row-calls t) (quick-row-at t) quick-row.Post
+
+abbrev SecondDone : ℕ → Type 0
+SecondDone t = quick-row-lts.After-second-half (quick-row-calls t) (quick-row-at t) quick-row.Post
+
+abbrev entry : (t : ℕ) → Lowered t → quick-row-lts.Start (quick-row-calls t) (quick-row-at t) quick-row.Post
+entry t c = c .before .before .before .before .before
+
+abbrev lowered : (t : ℕ) → FirstDone t → Lowered t
+lowered t c = c .before .before .before .before
+
+abbrev first : (t : ℕ) → Raised t → FirstDone t
+first t c = c .before .before .before .before .before .before
+
+abbrev raised : (t : ℕ) → SecondDone t → Raised t
+raised t c = c .before .before .before .before
+
+above : (t : ℕ) (c : Lowered t) → entry t c .args .m ≡ 0 → ⊥
+above t c = c .before .before .if1 .left
 
 -- what is known once the first half is read
-first-done : (t : ℕ) (c : quick-row-lts.After-first-half (quick-row-calls t) (quick-row-at t) quick-row.Post)
-    → let g = c .before .before .before .before .before .before .before .before .before .args in
+first-done : (t : ℕ) (c : FirstDone t)
+    → let g = entry t (lowered t c) .args in
     FirstRead (g .m) (g .rows .now) (g .kinds .now) (g .word .now) (c .first-half .last .0) (c .first-half .last .1 .1 .0)
 first-done t c =
-    let g = c .before .before .before .before .before .before .before .before .before in
+    let o = lowered t c in
+    let g = entry t o in
     let m = g .args .m in
     let rows = g .args .rows .now in
     let kinds = g .args .kinds .now in
     let word = g .args .word .now in
-    let o = c .before .before .before .before .lower-row in
     let f = c .first-half in
-    first-read m rows kinds word (g .pre .1) (c .before .before .before .before .before .before .if1 .left) (o .last .0) (o .ensures) (f .last .0) (f .last .1 .1 .0) (f .kept .0) (f .ensures .0) (f .kept .1 .1 .0) (f .ensures .1)
+    first-read m rows kinds word (g .pre .1) (above t o) (o .lower-row .last .0) (o .lower-row .ensures)
+    (f .last .0) (f .last .1 .1 .0) (f .kept .0) (f .ensures .0) (f .kept .1 .1 .0) (f .ensures .1)
 
 quick-row-upper-row-requires : (t : ℕ) → quick-row-lts.Need-upper-row-requires (quick-row-calls t) (quick-row-at t) quick-row.Post
 quick-row-upper-row-requires t c κs =
-    let g = c .before .before .before .before .before .before .before .before .before .before .before .before .before .before in
+    let f = c .before .before .before .before .before in
+    let o = lowered t f in
+    let g = entry t o in
     let m = g .args .m in
     let rows = g .args .rows .now in
     let kinds = g .args .kinds .now in
     let word = g .args .word .now in
-    upper-row-asked m rows kinds word (g .pre .1) (c .before .before .before .before .before .before .before .before .before .before .before .if1 .left) _ _ (first-done t (c .before .before .before .before .before))
+    upper-row-asked m rows kinds word (g .pre .1) (above t o) _ _ (first-done t f)
 
 quick-row-second-half-requires : (t : ℕ) → quick-row-lts.Need-second-half-requires (quick-row-calls t) (quick-row-at t) quick-row.Post
 quick-row-second-half-requires t c κs =
-    let g = c .before .before .before .before .before .before .before .before .before .before .before .before .before .before .before .before .before .before in
+    let u = c .before .before .before in
+    let o = lowered t (first t u) in
+    let g = entry t o in
     let m = g .args .m in
     let rows = g .args .rows .now in
     let kinds = g .args .kinds .now in
     let word = g .args .word .now in
-    let u = c .before .before .before .upper-row in
-    (omega (arith, g .pre .0), second-asked m rows kinds word (g .pre .1) (c .before .before .before .before .before .before .before .before .before .before .before .before .before .before .before .if1 .left) _ _ (first-done t (c .before .before .before .before .before .before .before .before .before)) (u .last .0) (u .ensures))
+    let done = first-done t (first t u) in
+    (omega (arith, g .pre .0), second-asked m rows kinds word (g .pre .1) (above t o) _ _ done (u .upper-row .last .0) (u .upper-row .ensures))
 
 -- and once the second half is
-second-done : (t : ℕ) (c : quick-row-lts.After-second-half (quick-row-calls t) (quick-row-at t) quick-row.Post)
-    → let g = c .before .before .before .before .before .before .before .before .before .before .before .before .before .before .before .before .before .before .before .args in
+second-done : (t : ℕ) (c : SecondDone t)
+    → let g = entry t (lowered t (first t (raised t c))) .args in
     Foldable (g .m) (g .kinds .now) (g .word .now) (rowOf (2 ^ g .m) (g .rows .now)) (c .second-half .last .1 .1 .0)
 second-done t c =
-    let g = c .before .before .before .before .before .before .before .before .before .before .before .before .before .before .before .before .before .before .before in
+    let u = raised t c in
+    let o = lowered t (first t u) in
+    let g = entry t o in
     let m = g .args .m in
     let rows = g .args .rows .now in
     let kinds = g .args .kinds .now in
     let word = g .args .word .now in
-    let u = c .before .before .before .before .upper-row in
-    second-read m rows kinds word (g .pre .1) (c .before .before .before .before .before .before .before .before .before .before .before .before .before .before .before .before .if1 .left) _ _ (first-done t (c .before .before .before .before .before .before .before .before .before .before)) (u .last .0) (u .ensures) (c .second-half .last .1 .1 .0) (c .second-half .ensures)
+    second-read m rows kinds word (g .pre .1) (above t o) _ _ (first-done t (first t u)) (u .upper-row .last .0) (u .upper-row .ensures)
+    (c .second-half .last .1 .1 .0) (c .second-half .ensures)
 
 quick-row-fold-requires : (t : ℕ) → quick-row-lts.Need-fold-requires (quick-row-calls t) (quick-row-at t) quick-row.Post
 quick-row-fold-requires t c κs = let done = second-done t (c .before .before .before .before) in (done .long, done .bits)
 
 quick-row-same-length-2 : (t : ℕ) → quick-row-lts.Need-same-length-2 (quick-row-calls t) (quick-row-at t) quick-row.Post
 quick-row-same-length-2 t c =
-    c .before .before .before .before .before .before .before .second-half .kept .0 ∙ c .before .before .before .before .before .before .before .before .before .before .before .upper-row .kept .0 ∙ c .before .before .before .before .before .before .before .before .before .before .before .before .before .before .before .before .before .first-half .kept .0 ∙ c .before .before .before .before .before .before .before .before .before .before .before .before .before .before .before .before .before .before .before .before .before .lower-row .kept .0
+    let s = c .before .before .before .before .before .before .before in
+    let u = raised t s in
+    s .second-half .kept .0 ∙ u .upper-row .kept .0 ∙ first t u .first-half .kept .0 ∙ lowered t (first t u) .lower-row .kept .0
 
 quick-row-same-length-3 : (t : ℕ) → quick-row-lts.Need-same-length-3 (quick-row-calls t) (quick-row-at t) quick-row.Post
 quick-row-same-length-3 t c =
-    c .before .before .fold .kept .0 ∙ c .before .before .before .before .before .before .before .second-half .kept .1 .1 .0 ∙ c .before .before .before .before .before .before .before .before .before .before .before .before .before .before .before .before .before .first-half .kept .1 .1 .0
+    let s = c .before .before .before .before .before .before .before in
+    c .before .before .fold .kept .0 ∙ s .second-half .kept .1 .1 .0 ∙ first t (raised t s) .first-half .kept .1 .1 .0
 
 quick-row-returns-2 : (t : ℕ) → quick-row-lts.Need-returns-2 (quick-row-calls t) (quick-row-at t) quick-row.Post
-quick-row-returns-2 t c =
-    c .before .before .fold .ensures ∙ second-done t (c .before .before .before .before .before .before .before) .gives
+quick-row-returns-2 t c = c .before .before .fold .ensures ∙ second-done t (c .before .before .before .before .before .before .before) .gives
 
 second-half-sub-quick-row : (t : ℕ) → second-half-lts.Need-sub-quick-row (second-half-calls t) (second-half-at t) second-half.Post
 second-half-sub-quick-row t c = omega arith

@@ -31,7 +31,8 @@ shared-slice-copy-out-loss c = omega arith
 
 cast-loss : tie.Need-cast-loss Inv-loop μ-loop
 cast-loss c =
-    reading-fits {z = getD (c .before .before .before .before .args .readings .now) (c .before .before .loop .j) (pos 0)} (record { sfits = c .loss-arg .given })
+    let l = c .before .before .before .before .args .readings .now in
+    reading-fits {z = getD l (c .before .before .loop .j) (pos 0)} (record { sfits = c .loss-arg .given })
 
 shared-slice-read-loss : tie.Need-shared-slice-read-loss Inv-loop μ-loop
 shared-slice-read-loss c = omega arith
@@ -81,4 +82,17 @@ returns c =
 pub penalty-spec : {M : Type 1} → statement M
 penalty-spec =
     tie.close
-    (tie.spec Inv-loop μ-loop loop-holds mul-loss shared-slice-copy-out-loss cast-loss shared-slice-read-loss loss-requires add-sum add-j loop-less loop-again returns)
+    (tie.spec
+    Inv-loop
+    μ-loop
+    loop-holds
+    mul-loss
+    shared-slice-copy-out-loss
+    cast-loss
+    shared-slice-read-loss
+    loss-requires
+    add-sum
+    add-j
+    loop-less
+    loop-again
+    returns)

@@ -24,7 +24,8 @@ take-reading-requires c κs =
     let l = g .readings .now in
     let bits = g .bits .now in
     let word = g .word .now in
-    given r (g .m) l bits word (code .0 .0) (allows-all r (g .m) l (length bits) (length word) (code .0 .0) (sym (code .1) ∙ c .before .before .before .before .before .admit .ensures))
+    let is = sym (code .1) ∙ c .before .before .before .before .before .admit .ensures in
+    given r (g .m) l bits word (code .0 .0) (allows-all r (g .m) l (length bits) (length word) (code .0 .0) is)
 
 returns : tie.Need-returns
 returns c =
@@ -42,7 +43,8 @@ returns-2 : tie.Need-returns-2
 returns-2 c =
     let g = c .before .before .before .before .before .before .before .before .before .before .before .before .before .args in
     let code = c .before .before .before .before .before .before .before .before .code .given in
-    reading-done (g .r) (g .m) (g .readings .now) (g .bits .now) (g .word .now) (code .0 .0) _ (sym (code .1) ∙ c .before .before .before .before .before .before .before .before .before .before .admit .ensures) (c .before .before .before .before .take-reading .ensures)
+    let is = sym (code .1) ∙ c .before .before .before .before .before .before .before .before .before .before .admit .ensures in
+    reading-done (g .r) (g .m) (g .readings .now) (g .bits .now) (g .word .now) (code .0 .0) _ is (c .before .before .before .before .take-reading .ensures)
 
 pub quick-spec : {M : Type 1} → statement M
 quick-spec =

@@ -1,4 +1,4 @@
--- `quick::quick_word` meets its contract.
+-- The top of the recursion: the first cut reads the readings, and all rows below stand in the scratch array of 256 sums.
 use borrow.Author.Needs.{needs}
 use mathlib.Core.Path.{_≡_, ap, _∙_}
 use mathlib.Core.List.{List}
@@ -60,71 +60,102 @@ lower-top-requires c κs =
 slice-aggregate-first-half : tie.Need-slice-aggregate-first-half
 slice-aggregate-first-half c = search needs
 
+-- the places that the later ones look back to, each behind the next
+abbrev entry : tie.After-lower-top → tie.Start
+entry c = c .before .before .before .before .before
+
+abbrev lowered : tie.After-first-half → tie.After-lower-top
+lowered c = c .before .before .before .before
+
+abbrev first : tie.After-upper-top → tie.After-first-half
+first c = c .before .before .before .before .before .before
+
+abbrev raised : tie.After-second-half → tie.After-upper-top
+raised c = c .before .before .before .before
+
+above : (c : tie.After-lower-top) → entry c .args .m ≡ 0 → ⊥
+above c = c .before .before .if1 .left
+
 first-half-requires : tie.Need-first-half-requires
 first-half-requires c κs =
-    let g = c .before .before .before .before .before .before .before .before in
+    let o = c .before .before .before in
+    let g = entry o in
     let m = g .args .m in
     let l = g .args .readings .now in
     let kinds = g .args .kinds .now in
     let word = g .args .word .now in
-    let o = c .before .before .before .lower-top in
-    lower-ready m kinds word l (g .pre .1) (c .before .before .before .before .before .if1 .left) _ (short m word (g .pre .0) (g .pre .1 .long-word)) (o .last .1 .0) (o .ensures)
+    lower-ready m kinds word l (g .pre .1) (above o) _ (short m word (g .pre .0) (g .pre .1 .long-word)) (o .lower-top .last .1 .0) (o .lower-top .ensures)
 
 slice-aggregate-upper-top : tie.Need-slice-aggregate-upper-top
 slice-aggregate-upper-top c = search needs
 
 -- the lower half's word, once it is read
 first-done : (c : tie.After-first-half)
-    → let g = c .before .before .before .before .before .before .before .before .before .args in
+    → let g = entry (lowered c) .args in
     take (length (g .word .now) / 2) (c .first-half .last .1 .1 .0) ≡ lowerWord (g .m) (g .kinds .now) (g .readings .now)
 first-done c =
-    let g = c .before .before .before .before .before .before .before .before .before in
+    let o = lowered c in
+    let g = entry o in
     let m = g .args .m in
     let l = g .args .readings .now in
     let kinds = g .args .kinds .now in
     let word = g .args .word .now in
-    let o = c .before .before .before .before .lower-top in
-    lower-back m kinds word l (g .pre .1) (c .before .before .before .before .before .before .if1 .left) _ (short m word (g .pre .0) (g .pre .1 .long-word)) (o .last .1 .0) (o .ensures) (c .first-half .last .1 .1 .0) (c .first-half .ensures .1)
+    lower-back m kinds word l (g .pre .1) (above o) _ (short m word (g .pre .0) (g .pre .1 .long-word)) (o .lower-top .last .1 .0) (o .lower-top .ensures)
+    (c .first-half .last .1 .1 .0) (c .first-half .ensures .1)
+
+-- and the scratch array is as long as before
+still-room : (c : tie.After-first-half) → length (entry (lowered c) .args .word .now) ≤ length (c .first-half .last .0)
+still-room c =
+    let o = lowered c in
+    let g = entry o in
+    omega (arith, short (g .args .m) (g .args .word .now) (g .pre .0) (g .pre .1 .long-word), c .first-half .kept .0, o .lower-top .kept .1 .0)
 
 upper-top-requires : tie.Need-upper-top-requires
 upper-top-requires c κs =
-    let g = c .before .before .before .before .before .before .before .before .before .before .before .before .before .before in
+    let f = c .before .before .before .before .before in
+    let o = lowered f in
+    let g = entry o in
     let m = g .args .m in
     let l = g .args .readings .now in
     let kinds = g .args .kinds .now in
     let word = g .args .word .now in
-    let more = c .before .before .before .before .before .before .before .before .before .before .before .if1 .left in
-    let e = row-halves m kinds word l (g .pre .1) more in
-    let f = c .before .before .before .before .before .first-half in
-    (e, omega (arith, e, g .pre .1 .long-row, pow-mono (g .pre .0), f .kept .0, c .before .before .before .before .before .before .before .before .before .lower-top .kept .1 .0), upper-asked m kinds word l (g .pre .1) more (f .last .1 .1 .0) (f .kept .1 .1 .0) (first-done (c .before .before .before .before .before)))
+    let e = row-halves m kinds word l (g .pre .1) (above o) in (
+      e,
+      omega (arith, e, still-room f, g .pre .1 .long-row, g .pre .1 .long-word),
+      upper-asked m kinds word l (g .pre .1) (above o) (f .first-half .last .1 .1 .0) (f .first-half .kept .1 .1 .0) (first-done f),
+    )
 
 slice-aggregate-second-half : tie.Need-slice-aggregate-second-half
 slice-aggregate-second-half c = search needs
 
 second-half-requires : tie.Need-second-half-requires
 second-half-requires c κs =
-    let g = c .before .before .before .before .before .before .before .before .before .before .before .before .before .before .before .before .before .before in
+    let u = c .before .before .before in
+    let f = first u in
+    let o = lowered f in
+    let g = entry o in
     let m = g .args .m in
     let l = g .args .readings .now in
     let kinds = g .args .kinds .now in
     let word = g .args .word .now in
-    let f = c .before .before .before .before .before .before .before .before .before .first-half in
-    let u = c .before .before .before .upper-top in
-    upper-ready m kinds word l (g .pre .1) (c .before .before .before .before .before .before .before .before .before .before .before .before .before .before .before .if1 .left) (f .last .1 .1 .0) (f .kept .1 .1 .0) (first-done (c .before .before .before .before .before .before .before .before .before)) (f .last .0) (omega (arith, short m word (g .pre .0) (g .pre .1 .long-word), f .kept .0, c .before .before .before .before .before .before .before .before .before .before .before .before .before .lower-top .kept .1 .0)) (u .last .1 .0) (u .ensures)
+    upper-ready m kinds word l (g .pre .1) (above o) (f .first-half .last .1 .1 .0) (f .first-half .kept .1 .1 .0) (first-done f)
+    (f .first-half .last .0) (still-room f) (u .upper-top .last .1 .0) (u .upper-top .ensures)
 
 -- both halves' words
 second-done : (c : tie.After-second-half)
-    → let g = c .before .before .before .before .before .before .before .before .before .before .before .before .before .before .before .before .before .before .before .args in
+    → let g = entry (lowered (first (raised c))) .args in
     Foldable (g .m) (g .kinds .now) (g .word .now) (g .readings .now) (c .second-half .last .1 .1 .0)
 second-done c =
-    let g = c .before .before .before .before .before .before .before .before .before .before .before .before .before .before .before .before .before .before .before in
+    let u = raised c in
+    let f = first u in
+    let o = lowered f in
+    let g = entry o in
     let m = g .args .m in
     let l = g .args .readings .now in
     let kinds = g .args .kinds .now in
     let word = g .args .word .now in
-    let f = c .before .before .before .before .before .before .before .before .before .before .first-half in
-    let u = c .before .before .before .before .upper-top in
-    upper-back m kinds word l (g .pre .1) (c .before .before .before .before .before .before .before .before .before .before .before .before .before .before .before .before .if1 .left) (f .last .1 .1 .0) (f .kept .1 .1 .0) (first-done (c .before .before .before .before .before .before .before .before .before .before)) (f .last .0) (omega (arith, short m word (g .pre .0) (g .pre .1 .long-word), f .kept .0, c .before .before .before .before .before .before .before .before .before .before .before .before .before .before .lower-top .kept .1 .0)) (u .last .1 .0) (u .ensures) (c .second-half .last .1 .1 .0) (c .second-half .ensures)
+    upper-back m kinds word l (g .pre .1) (above o) (f .first-half .last .1 .1 .0) (f .first-half .kept .1 .1 .0) (first-done f)
+    (f .first-half .last .0) (still-room f) (u .upper-top .last .1 .0) (u .upper-top .ensures) (c .second-half .last .1 .1 .0) (c .second-half .ensures)
 
 fold-requires : tie.Need-fold-requires
 fold-requires c κs = let done = second-done (c .before .before .before .before) in (done .long, done .bits)

@@ -2,8 +2,8 @@
 use borrow.Author.Needs.{needs}
 use Prim.Native.Nat.{_-_, _≤_}
 use native.Mathlib.Omega.{arith}
-use lib.ListN.{replicate}
-use borrow.Rule.Slice.PartMut.{same-len-mid}
+use lib.ListN.{length, replicate}
+use borrow.Rule.Slice.PartMut.{putMid, same-len-mid}
 use Rattle.code.specs.SoundLaws.{length-most}
 use Rattle.quick.specs.OutcomeLaws.{take-asked, all-read}
 use Rattle.quick.proofs.take_reading.Statement.{statement}
@@ -33,12 +33,26 @@ sub-quick-word c = search needs
 part-quick-word-start : tie.Need-part-quick-word-start
 part-quick-word-start c = search needs
 
+-- the places that the later ones look back to, each behind the next
+abbrev counted : tie.After-put-kinds → tie.After-length
+counted c = c .before .before .before
+
+abbrev filled : tie.After-quick-word → tie.After-put-kinds
+filled c = c .before .before .before .before .before
+
+abbrev entry : tie.After-put-kinds → tie.Start
+entry c = counted c .before .before .before
+
+-- the kinds are still within the scratch array
+still-within : (c : tie.After-put-kinds)
+    → counted c .length .result ≤ length (putMid 0 (counted c .length .result - 0) (replicate 256 0) (c .put-kinds .last .1 .0))
+still-within c =
+    let n = counted c .length in
+    let front : n .result ≤ 256 = omega (arith, length-most (entry c .pre .sound), n .ensures) in
+    omega (arith, same-len-mid 0 (n .result - 0) (replicate 256 0) (c .put-kinds .last .1 .0) (c .put-kinds .kept .1 .0))
+
 part-quick-word-end : tie.Need-part-quick-word-end
-part-quick-word-end c =
-    let n = c .before .before .before .before .before .length in
-    let put = c .before .before .put-kinds in
-    let front : n .result ≤ 256 = omega (arith, length-most (c .before .before .before .before .before .before .before .before .pre .sound), n .ensures) in
-    omega (arith, same-len-mid 0 (n .result - 0) (replicate 256 0) (put .last .1 .0) (put .kept .1 .0))
+part-quick-word-end c = still-within (c .before .before)
 
 quick-word-requires : tie.Need-quick-word-requires
 quick-word-requires c κs = search needs
@@ -50,21 +64,17 @@ part-take-bits-start : tie.Need-part-take-bits-start
 part-take-bits-start c = search needs
 
 part-take-bits-end : tie.Need-part-take-bits-end
-part-take-bits-end c =
-    let n = c .before .before .before .before .before .before .before .before .before .before .before .length in
-    let put = c .before .before .before .before .before .before .before .before .put-kinds in
-    let front : n .result ≤ 256 = omega (arith, length-most (c .before .before .before .before .before .before .before .before .before .before .before .before .before .before .pre .sound), n .ensures) in
-    omega (arith, same-len-mid 0 (n .result - 0) (replicate 256 0) (put .last .1 .0) (put .kept .1 .0))
+part-take-bits-end c = still-within (filled (c .before .before .before))
 
 take-bits-requires : tie.Need-take-bits-requires
 take-bits-requires c κs =
-    let g = c .before .before .before .before .before .before .before .before .before .before .before .before .before .before .before .before .before in
-    let n = c .before .before .before .before .before .before .before .before .before .before .before .before .before .before .length in
-    let put = c .before .before .before .before .before .before .before .before .before .before .before .put-kinds in
-    let word = c .before .before .before .before .before .before .quick-word in (
+    let w = c .before .before .before .before .before .before in
+    let put = filled w .put-kinds in
+    let n = counted (filled w) .length in
+    let g = entry (filled w) in (
       g .pre .sound .m-small,
-      take-asked (g .args .code) (g .args .readings .now) (n .result) (n .ensures) (replicate 256 0) (put .last .1 .0) (put .ensures) (word .last .1 .1 .0) (word .ensures)
-          (g .args .bits .now) (g .args .word .now) (g .pre),
+      take-asked (g .args .code) (g .args .readings .now) (n .result) (n .ensures) (replicate 256 0) (put .last .1 .0) (put .ensures)
+          (w .quick-word .last .1 .1 .0) (w .quick-word .ensures) (g .args .bits .now) (g .args .word .now) (g .pre),
     )
 
 penalty-requires : tie.Need-penalty-requires
@@ -78,13 +88,13 @@ same-length-2 c = search needs
 
 returns : tie.Need-returns
 returns c =
-    let g = c .before .before .before .before .before .before .before .before .before .before .before .before .before .before .before .before .before .before .before .before .before .before in
-    let n = c .before .before .before .before .before .before .before .before .before .before .before .before .before .before .before .before .before .before .before .length in
-    let put = c .before .before .before .before .before .before .before .before .before .before .before .before .before .before .before .before .put-kinds in
-    let word = c .before .before .before .before .before .before .before .before .before .before .before .quick-word in
+    let w = c .before .before .before .before .before .before .before .before .before .before .before in
+    let put = filled w .put-kinds in
+    let n = counted (filled w) .length in
+    let g = entry (filled w) in
     let bits = c .before .before .before .before .take-bits in
-    all-read (g .args .code) (g .args .readings .now) (n .result) (n .ensures) (replicate 256 0) (put .last .1 .0) (put .ensures) (word .last .1 .1 .0) (word .ensures)
-    (bits .last .1 .1 .0) (c .penalty .result) (bits .ensures) (c .penalty .ensures)
+    all-read (g .args .code) (g .args .readings .now) (n .result) (n .ensures) (replicate 256 0) (put .last .1 .0) (put .ensures)
+    (w .quick-word .last .1 .1 .0) (w .quick-word .ensures) (bits .last .1 .1 .0) (c .penalty .result) (bits .ensures) (c .penalty .ensures)
 
 pub take-reading-spec : {M : Type 1} → statement M
 take-reading-spec =

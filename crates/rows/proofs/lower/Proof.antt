@@ -30,9 +30,11 @@ least-is c =
     let eq : c .before .size2 .result ≡ pos (natAbs y) = rw (toZ-ofZ (s .fits .y)) at (c .before .size2 .ensures) in
     let p : SFits w32 (c .before .before .size .result) = rw ep (fits-size (pos (natAbs x)) (s .pre .0)) in
     let q : SFits w32 (c .before .size2 .result) = rw eq (fits-size (pos (natAbs y)) (s .pre .1)) in
+    let a = pos (natAbs x) in
+    let b = pos (natAbs y) in
     ⊎-elim
-    (λ w. ap (toZ w32) (w .1) ∙ toZ-ofZ q ∙ eq ∙ ap pos (omega (arith, less-parts (pos (natAbs y)) (pos (natAbs x)) (rw (toZ-ofZ p, toZ-ofZ q, ep, eq) at (w .0 .taken)))))
-    (λ w. ap (toZ w32) (w .1) ∙ toZ-ofZ p ∙ ep ∙ ap pos (omega (arith, not-less-parts (pos (natAbs y)) (pos (natAbs x)) (rw (toZ-ofZ p, toZ-ofZ q, ep, eq) at (w .0 .left)))))
+    (λ w. ap (toZ w32) (w .1) ∙ toZ-ofZ q ∙ eq ∙ ap pos (omega (arith, less-parts b a (rw (toZ-ofZ p, toZ-ofZ q, ep, eq) at (w .0 .taken)))))
+    (λ w. ap (toZ w32) (w .1) ∙ toZ-ofZ p ∙ ep ∙ ap pos (omega (arith, not-less-parts b a (rw (toZ-ofZ p, toZ-ofZ q, ep, eq) at (w .0 .left)))))
     (c .if1 .came)
 
 negative-fits : (n : ℕ) → n < 2 ^ 31 → SFits w32 (pos 0 -ℤ pos n)
@@ -58,13 +60,15 @@ returns-2 : tie.Need-returns-2
 returns-2 c =
     let s = c .before .before .before .before .before in
     toZ-ofZ (sub-result c) ∙ ap (λ (z : ℤ). pos 0 -ℤ z) (least-is (c .before .before)) ∙ +ℤ-idl _
-    ∙ sym (lower-differ (s .args .x) (s .args .y) ((rw (toZ-ofZ (s .fits .x)) at (c .before .if2 .taken)) ∙ sym (ap not (rw (toZ-ofZ (s .fits .y)) at (c .if3 .left)))))
+    ∙ sym (lower-differ (s .args .x) (s .args .y)
+    ((rw (toZ-ofZ (s .fits .x)) at (c .before .if2 .taken)) ∙ sym (ap not (rw (toZ-ofZ (s .fits .y)) at (c .if3 .left)))))
 
 returns-3 : tie.Need-returns-3
 returns-3 c =
     let s = c .before .before .before .before .before in
     toZ-ofZ (sub-result-2 c) ∙ ap (λ (z : ℤ). pos 0 -ℤ z) (least-is (c .before .before)) ∙ +ℤ-idl _
-    ∙ sym (lower-differ (s .args .x) (s .args .y) ((rw (toZ-ofZ (s .fits .x)) at (c .before .if2 .left)) ∙ sym (ap not (rw (toZ-ofZ (s .fits .y)) at (c .if4 .taken)))))
+    ∙ sym (lower-differ (s .args .x) (s .args .y)
+    ((rw (toZ-ofZ (s .fits .x)) at (c .before .if2 .left)) ∙ sym (ap not (rw (toZ-ofZ (s .fits .y)) at (c .if4 .taken)))))
 
 returns-4 : tie.Need-returns-4
 returns-4 c =

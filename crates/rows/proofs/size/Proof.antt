@@ -15,13 +15,15 @@ sub-result c =
 returns : tie.Need-returns
 returns c =
     let s = c .before in
+    let x = s .args .x in
     rw (toZ-ofZ (sub-result c), toZ-ofZ (s .fits .x))
-    (by-parts _ _ (omega (arith, parts (s .args .x), negated (s .args .x), sum-parts (pos 0) (negℤ (s .args .x)), less-parts (s .args .x) (pos 0) (rw (toZ-ofZ (s .fits .x)) at (c .if1 .taken)))))
+    (by-parts _ _ (omega (arith, parts x, negated x, sum-parts (pos 0) (negℤ x), less-parts x (pos 0) (rw (toZ-ofZ (s .fits .x)) at (c .if1 .taken)))))
 
 returns-2 : tie.Need-returns-2
 returns-2 c =
     let s = c .before in
-    rw (toZ-ofZ (s .fits .x)) (by-parts _ _ (omega (arith, parts (s .args .x), not-less-parts (s .args .x) (pos 0) (rw (toZ-ofZ (s .fits .x)) at (c .if1 .left)))))
+    let x = s .args .x in
+    rw (toZ-ofZ (s .fits .x)) (by-parts _ _ (omega (arith, parts x, not-less-parts x (pos 0) (rw (toZ-ofZ (s .fits .x)) at (c .if1 .left)))))
 
 pub size-spec : {M : Type 1} → statement M
 size-spec = tie.close (tie.spec sub-result returns returns-2)
