@@ -199,7 +199,7 @@ put-joined (suc p) t i b x o r k =
     ∙ ap (joined (i + 1) t) (set-append-left f g i b (omega arith))
     ∙ joined-first (i + 1) t c g q (omega arith) in
     subst (BitPut (suc p) i b x) (sym is)
-    (put-first (suc p) p h refl refl x i lx (r .bits) b (joined (i + 1) t c) j (length-joined (i + 1) t c q (omega arith) ∙ lc ∙ lf)
+    (put-first p x i lx (r .bits) b (joined (i + 1) t c) j (length-joined (i + 1) t c q (omega arith) ∙ lc ∙ lf)
     (put-joined p t i b f o (ready-first p i x r j) k)))
     (λ (j : h ≤ i). let c = set g (i - h) b in
     let lc = length-set g (i - h) b in
@@ -210,7 +210,7 @@ put-joined (suc p) t i b x o r k =
     let is : joined (i + 1) t (set x i b) ≡ f ++ joined e t c =
     ap₂ (λ (z : ℕ) (y : List ℕ). joined z t y) (second-end p i x (r .long) j) (set-there p i x (r .long) j b) ∙ joined-second h e t f c lf q in
     subst (BitPut (suc p) i b x) (sym is)
-    (put-second (suc p) p h refl refl x i lx (r .bits) b (joined e t c) j (omega (arith, two-pow-succ p)) (length-joined e t c q (omega (arith, r .inside, two-pow-succ p)) ∙ lc ∙ lg)
+    (put-second p x i lx (r .bits) b (joined e t c) j (omega (arith, two-pow-succ p)) (length-joined e t c q (omega (arith, r .inside, two-pow-succ p)) ∙ lc ∙ lg)
     (put-joined p t (i - h) b g o′ (ready-second p i x r j) k)))
     (λ (n : 2 ^ suc p ≤ i + 1). let last : i + 1 ≡ 2 ^ suc p = omega (arith, r .inside) in
     let o′ = half-lowest p i x (r .long) j t o last in
@@ -224,7 +224,7 @@ put-joined (suc p) t i b x o r k =
     ∙ ap (λ (z : ℕ). foldAt (h + z) h (f ++ q)) end
     ∙ foldAt-whole h (f ++ q) (length-append f q ∙ omega arith) in
     subst (BitPut (suc p) i b x) (sym is)
-    (put-last (suc p) p h refl refl x i lx (r .bits) b q (last ∙ two-pow-succ p) lq (put-joined p p (i - h) b g o′ (ready-second p i x r j) k)))
+    (put-last p x i lx (r .bits) b q (last ∙ two-pow-succ p) lq (put-joined p p (i - h) b g o′ (ready-second p i x r j) k)))
     (lt-or-le (i + 1) (2 ^ suc p)))
     (lt-or-le i h)
 
@@ -244,14 +244,14 @@ back-parted (suc p) t i x o r =
     (λ (j : i < h). let q = lowest-le t (i + 1) o in
     let is : parted (i + 1) t x ≡ parted (i + 1) t f ++ g = ap (parted (i + 1) t) whole ∙ parted-first (i + 1) t f g q (omega arith) in
     subst (BitBack (suc p) i x) (sym is)
-    (back-first (suc p) p h refl refl x i lx (r .bits) (parted (i + 1) t f) j (length-parted (i + 1) t f q (omega arith) ∙ lf) (back-parted p t i f o (ready-first p i x r j))))
+    (back-first p x i lx (r .bits) (parted (i + 1) t f) j (length-parted (i + 1) t f q (omega arith) ∙ lf) (back-parted p t i f o (ready-first p i x r j))))
     (λ (j : h ≤ i). let e = i - h + 1 in
     ⊎-elim
     (λ (n : i + 1 < 2 ^ suc p). let o′ = second-lowest p i x (r .long) j t o n in
     let q = lowest-le t e o′ in
     let is : parted (i + 1) t x ≡ f ++ parted e t g = ap₂ (λ (z : ℕ) (y : List ℕ). parted z t y) (second-end p i x (r .long) j) whole ∙ parted-second h e t f g lf q in
     subst (BitBack (suc p) i x) (sym is)
-    (back-second (suc p) p h refl refl x i lx (r .bits) (parted e t g) j (omega (arith, two-pow-succ p)) (length-parted e t g q (omega (arith, r .inside, two-pow-succ p)) ∙ lg)
+    (back-second p x i lx (r .bits) (parted e t g) j (omega (arith, two-pow-succ p)) (length-parted e t g q (omega (arith, r .inside, two-pow-succ p)) ∙ lg)
     (back-parted p t (i - h) g o′ (ready-second p i x r j))))
     (λ (n : 2 ^ suc p ≤ i + 1). let last : i + 1 ≡ 2 ^ suc p = omega (arith, r .inside) in
     let o′ = half-lowest p i x (r .long) j t o last in
@@ -269,7 +269,7 @@ back-parted (suc p) t i x o r =
     ∙ ap (parted (h + e) p) (foldAt-whole h x lx ∙ sym (take-append-drop h w))
     ∙ parted-second h e p (take h w) c lt (omega arith) in
     subst (BitBack (suc p) i x) (sym is)
-    (back-last (suc p) p h refl refl x i lx (r .bits) q (last ∙ two-pow-succ p) lq
+    (back-last p x i lx (r .bits) q (last ∙ two-pow-succ p) lq
     (back-parted p p (i - h) c o′ (record { long = lc; inside = omega (arith, r .inside, two-pow-succ p); bits = bits-drop h w (bits-folded h x (r .bits)) }))))
     (lt-or-le (i + 1) (2 ^ suc p)))
     (lt-or-le i h)

@@ -37,135 +37,135 @@ back-one zero zero x z r = record { path = refl; bits = r .bits }
 back-one zero (suc i) x z r = absurd (omega (arith, r .inside))
 back-one (suc m) i x z r = absurd (suc-ne-zero m z)
 
--- ---- a path in bytes of halves of h
-module _ (m p h : ℕ) (above : m ≡ suc p) (half : h ≡ 2 ^ p) where
-  first-path : (y : List ℕ) (i : ℕ) → length y ≡ h + h → i ≤ h → pathOf m i y ≡ pathOf p i (take h y)
-  first-path y i e k = rw (above, half) (path-first p i y (omega (arith, two-pow-succ p)) (omega arith))
+-- ---- a path in 2^(p+1) bytes
+module _ (p : ℕ) where
+  first-path : (y : List ℕ) (i : ℕ) → length y ≡ 2 ^ p + 2 ^ p → i ≤ 2 ^ p → pathOf (suc p) i y ≡ pathOf p i (take (2 ^ p) y)
+  first-path y i e k = path-first p i y (omega (arith, two-pow-succ p)) k
 
-  second-path : (y : List ℕ) (i : ℕ) → h ≤ i → i < h + h → pathOf m i y ≡ transform p (take h y) ++ pathOf p (i - h) (drop h y)
-  second-path y i k j = rw (above, half) (path-upper p i y (omega arith) (omega (arith, two-pow-succ p)))
+  second-path : (y : List ℕ) (i : ℕ) → 2 ^ p ≤ i → i < 2 ^ p + 2 ^ p → pathOf (suc p) i y ≡ transform p (take (2 ^ p) y) ++ pathOf p (i - 2 ^ p) (drop (2 ^ p) y)
+  second-path y i k j = path-upper p i y k (omega (arith, two-pow-succ p))
 
-  whole-path : (a b : List ℕ) → length a ≡ h → length b ≡ h → pathOf m (h + h) (a ++ b) ≡ xors (transform p a) (transform p b) ++ transform p b
+  whole-path : (a b : List ℕ) → length a ≡ 2 ^ p → length b ≡ 2 ^ p → pathOf (suc p) (2 ^ p + 2 ^ p) (a ++ b) ≡ xors (transform p a) (transform p b) ++ transform p b
   unfolding transform
   whole-path a b la lb =
-      let e : h + h ≡ 2 ^ suc p = omega (arith, two-pow-succ p) in
+      let e : 2 ^ p + 2 ^ p ≡ 2 ^ suc p = omega (arith, two-pow-succ p) in
       let F : pathOf (suc p) (2 ^ suc p) (a ++ b) ≡ transform (suc p) (a ++ b) = path-full (suc p) (a ++ b) (length-append a b ∙ omega arith) in
-      rw (above, e, F, take-at a b (2 ^ p) (la ∙ half), drop-at a b (2 ^ p) (la ∙ half))
+      rw (e, F, take-at a b (2 ^ p) la, drop-at a b (2 ^ p) la)
 
-  half-path : (y : List ℕ) (n : ℕ) → n ≡ h → length y ≡ h → pathOf p n y ≡ transform p y
-  half-path y n e k = rw (e, half) (path-full p y (k ∙ half))
+  half-path : (y : List ℕ) (n : ℕ) → n ≡ 2 ^ p → length y ≡ 2 ^ p → pathOf p n y ≡ transform p y
+  half-path y n e k = rw e (path-full p y k)
 
-  module _ (x : List ℕ) (i : ℕ) (long : length x ≡ h + h) (bits : Bits x) where
-    lf : length (take h x) ≡ h
-    lf = length-first-half h x long
+  module _ (x : List ℕ) (i : ℕ) (long : length x ≡ 2 ^ p + 2 ^ p) (bits : Bits x) where
+    lf : length (take (2 ^ p) x) ≡ 2 ^ p
+    lf = length-first-half (2 ^ p) x long
 
-    lg : length (drop h x) ≡ h
-    lg = length-second-half h x long
+    lg : length (drop (2 ^ p) x) ≡ 2 ^ p
+    lg = length-second-half (2 ^ p) x long
 
-    pub put-first : (b : ℕ) (a : List ℕ) → i < h → length a ≡ h → BitPut p i b (take h x) a → BitPut m i b x (a ++ drop h x)
+    pub put-first : (b : ℕ) (a : List ℕ) → i < 2 ^ p → length a ≡ 2 ^ p → BitPut p i b (take (2 ^ p) x) a → BitPut (suc p) i b x (a ++ drop (2 ^ p) x)
     put-first b a k la E =
         record {
           path =
-              first-path (a ++ drop h x) (i + 1) (length-append a (drop h x) ∙ omega (arith, lg)) (omega arith)
-              ∙ ap (pathOf p (i + 1)) (take-at a (drop h x) h la)
+              first-path (a ++ drop (2 ^ p) x) (i + 1) (length-append a (drop (2 ^ p) x) ∙ omega (arith, lg)) (omega arith)
+              ∙ ap (pathOf p (i + 1)) (take-at a (drop (2 ^ p) x) (2 ^ p) la)
               ∙ E .path
               ∙ ap (λ (l : List ℕ). l ++ b ∷ []) (sym (first-path x i long (omega arith)));
-          bits = bits-append a (drop h x) (E .bits) (bits-drop h x bits);
+          bits = bits-append a (drop (2 ^ p) x) (E .bits) (bits-drop (2 ^ p) x bits);
         }
 
-    pub put-second : (b : ℕ) (q : List ℕ) → h ≤ i → i + 1 < h + h → length q ≡ h → BitPut p (i - h) b (drop h x) q → BitPut m i b x (take h x ++ q)
+    pub put-second : (b : ℕ) (q : List ℕ) → 2 ^ p ≤ i → i + 1 < 2 ^ p + 2 ^ p → length q ≡ 2 ^ p → BitPut p (i - 2 ^ p) b (drop (2 ^ p) x) q → BitPut (suc p) i b x (take (2 ^ p) x ++ q)
     put-second b q k j lq E =
-        let z : i + 1 - h ≡ i - h + 1 = omega arith in
+        let z : i + 1 - 2 ^ p ≡ i - 2 ^ p + 1 = omega arith in
         record {
           path =
-              second-path (take h x ++ q) (i + 1) (omega arith) j
-              ∙ ap₂ (λ (u v : List ℕ). transform p u ++ pathOf p (i + 1 - h) v) (take-at (take h x) q h lf) (drop-at (take h x) q h lf)
-              ∙ ap (λ (n : ℕ). transform p (take h x) ++ pathOf p n q) z
-              ∙ ap (λ (l : List ℕ). transform p (take h x) ++ l) (E .path)
-              ∙ sym (append-assoc (transform p (take h x)) (pathOf p (i - h) (drop h x)) (b ∷ []))
+              second-path (take (2 ^ p) x ++ q) (i + 1) (omega arith) j
+              ∙ ap₂ (λ (u v : List ℕ). transform p u ++ pathOf p (i + 1 - 2 ^ p) v) (take-at (take (2 ^ p) x) q (2 ^ p) lf) (drop-at (take (2 ^ p) x) q (2 ^ p) lf)
+              ∙ ap (λ (n : ℕ). transform p (take (2 ^ p) x) ++ pathOf p n q) z
+              ∙ ap (λ (l : List ℕ). transform p (take (2 ^ p) x) ++ l) (E .path)
+              ∙ sym (append-assoc (transform p (take (2 ^ p) x)) (pathOf p (i - 2 ^ p) (drop (2 ^ p) x)) (b ∷ []))
               ∙ ap (λ (l : List ℕ). l ++ b ∷ []) (sym (second-path x i k (omega arith)));
-          bits = bits-append (take h x) q (bits-take h x bits) (E .bits);
+          bits = bits-append (take (2 ^ p) x) q (bits-take (2 ^ p) x bits) (E .bits);
         }
 
-    length-sum : (q : List ℕ) → length q ≡ h → length (xors (take h x) q) ≡ h
-    length-sum q lq = length-xors (take h x) q (lf ∙ sym lq) ∙ lf
+    length-sum : (q : List ℕ) → length q ≡ 2 ^ p → length (xors (take (2 ^ p) x) q) ≡ 2 ^ p
+    length-sum q lq = length-xors (take (2 ^ p) x) q (lf ∙ sym lq) ∙ lf
 
     -- the transform of a sum
-    sum-word : (q : List ℕ) → length q ≡ h → transform p (xors (take h x) q) ≡ xors (transform p (take h x)) (transform p q)
-    sum-word q lq = transform-xors p (take h x) q (lf ∙ half) (lq ∙ half)
+    sum-word : (q : List ℕ) → length q ≡ 2 ^ p → transform p (xors (take (2 ^ p) x) q) ≡ xors (transform p (take (2 ^ p) x)) (transform p q)
+    sum-word q lq = transform-xors p (take (2 ^ p) x) q lf lq
 
-    pub put-last : (b : ℕ) (q : List ℕ) → i + 1 ≡ h + h → length q ≡ h → BitPut p (i - h) b (drop h x) q → BitPut m i b x (folded h (take h x ++ q))
+    pub put-last : (b : ℕ) (q : List ℕ) → i + 1 ≡ 2 ^ p + 2 ^ p → length q ≡ 2 ^ p → BitPut p (i - 2 ^ p) b (drop (2 ^ p) x) q → BitPut (suc p) i b x (folded (2 ^ p) (take (2 ^ p) x ++ q))
     put-last b q k lq E =
-        let u = transform p (take h x) in
+        let u = transform p (take (2 ^ p) x) in
         let v = transform p q in
-        let y = xors (take h x) q ++ q in
-        let is : folded h (take h x ++ q) ≡ y = rw (take-at (take h x) q h lf, drop-at (take h x) q h lf) in
-        let lu : length u ≡ 2 ^ p = length-transform p (take h x) (lf ∙ half) in
-        let lv : length v ≡ 2 ^ p = length-transform p q (lq ∙ half) in
-        let last : v ≡ pathOf p (i - h) (drop h x) ++ b ∷ [] = sym (half-path q (i - h + 1) (omega arith) lq) ∙ E .path in
+        let y = xors (take (2 ^ p) x) q ++ q in
+        let is : folded (2 ^ p) (take (2 ^ p) x ++ q) ≡ y = rw (take-at (take (2 ^ p) x) q (2 ^ p) lf, drop-at (take (2 ^ p) x) q (2 ^ p) lf) in
+        let lu : length u ≡ 2 ^ p = length-transform p (take (2 ^ p) x) lf in
+        let lv : length v ≡ 2 ^ p = length-transform p q lq in
+        let last : v ≡ pathOf p (i - 2 ^ p) (drop (2 ^ p) x) ++ b ∷ [] = sym (half-path q (i - 2 ^ p + 1) (omega arith) lq) ∙ E .path in
         record {
           path =
-              ap₂ (pathOf m) k is
-              ∙ whole-path (xors (take h x) q) q (length-sum q lq) lq
+              ap₂ (pathOf (suc p)) k is
+              ∙ whole-path (xors (take (2 ^ p) x) q) q (length-sum q lq) lq
               ∙ ap (λ (l : List ℕ). xors l v ++ v) (sum-word q lq)
-              ∙ ap (λ (l : List ℕ). l ++ v) (xors-twice u v (lu ∙ sym lv) (bits-transform p (take h x) (bits-take h x bits)))
+              ∙ ap (λ (l : List ℕ). l ++ v) (xors-twice u v (lu ∙ sym lv) (bits-transform p (take (2 ^ p) x) (bits-take (2 ^ p) x bits)))
               ∙ ap (λ (l : List ℕ). u ++ l) last
-              ∙ sym (append-assoc u (pathOf p (i - h) (drop h x)) (b ∷ []))
+              ∙ sym (append-assoc u (pathOf p (i - 2 ^ p) (drop (2 ^ p) x)) (b ∷ []))
               ∙ ap (λ (l : List ℕ). l ++ b ∷ []) (sym (second-path x i (omega arith) (omega arith)));
-          bits = subst Bits (sym is) (bits-append (xors (take h x) q) q (bits-xors (take h x) q) (E .bits));
+          bits = subst Bits (sym is) (bits-append (xors (take (2 ^ p) x) q) q (bits-xors (take (2 ^ p) x) q) (E .bits));
         }
 
-    pub back-first : (a : List ℕ) → i < h → length a ≡ h → BitBack p i (take h x) a → BitBack m i x (a ++ drop h x)
+    pub back-first : (a : List ℕ) → i < 2 ^ p → length a ≡ 2 ^ p → BitBack p i (take (2 ^ p) x) a → BitBack (suc p) i x (a ++ drop (2 ^ p) x)
     back-first a k la E =
         record {
           path =
-              first-path (a ++ drop h x) i (length-append a (drop h x) ∙ omega (arith, lg)) (omega arith)
-              ∙ ap (pathOf p i) (take-at a (drop h x) h la)
+              first-path (a ++ drop (2 ^ p) x) i (length-append a (drop (2 ^ p) x) ∙ omega (arith, lg)) (omega arith)
+              ∙ ap (pathOf p i) (take-at a (drop (2 ^ p) x) (2 ^ p) la)
               ∙ E .path
               ∙ ap (take i) (sym (first-path x (i + 1) long (omega arith)));
-          bits = bits-append a (drop h x) (E .bits) (bits-drop h x bits);
+          bits = bits-append a (drop (2 ^ p) x) (E .bits) (bits-drop (2 ^ p) x bits);
         }
 
-    -- the first bits of a path whose first h are u
-    begins : (u v : List ℕ) → h ≤ i → length u ≡ h → u ++ take (i - h) v ≡ take i (u ++ v)
+    -- the first bits of a path whose first 2 ^ p are u
+    begins : (u v : List ℕ) → 2 ^ p ≤ i → length u ≡ 2 ^ p → u ++ take (i - 2 ^ p) v ≡ take i (u ++ v)
     begins u v k lu =
-        let e : length u + (i - h) ≡ i = omega arith in
-        sym (take-append-add u v (i - h)) ∙ ap (λ (n : ℕ). take n (u ++ v)) e
+        let e : length u + (i - 2 ^ p) ≡ i = omega arith in
+        sym (take-append-add u v (i - 2 ^ p)) ∙ ap (λ (n : ℕ). take n (u ++ v)) e
 
-    pub back-second : (q : List ℕ) → h ≤ i → i + 1 < h + h → length q ≡ h → BitBack p (i - h) (drop h x) q → BitBack m i x (take h x ++ q)
+    pub back-second : (q : List ℕ) → 2 ^ p ≤ i → i + 1 < 2 ^ p + 2 ^ p → length q ≡ 2 ^ p → BitBack p (i - 2 ^ p) (drop (2 ^ p) x) q → BitBack (suc p) i x (take (2 ^ p) x ++ q)
     back-second q k j lq E =
-        let z : i - h + 1 ≡ i + 1 - h = omega arith in
-        let u = transform p (take h x) in
+        let z : i - 2 ^ p + 1 ≡ i + 1 - 2 ^ p = omega arith in
+        let u = transform p (take (2 ^ p) x) in
         record {
           path =
-              second-path (take h x ++ q) i k (omega arith)
-              ∙ ap₂ (λ (u v : List ℕ). transform p u ++ pathOf p (i - h) v) (take-at (take h x) q h lf) (drop-at (take h x) q h lf)
+              second-path (take (2 ^ p) x ++ q) i k (omega arith)
+              ∙ ap₂ (λ (u v : List ℕ). transform p u ++ pathOf p (i - 2 ^ p) v) (take-at (take (2 ^ p) x) q (2 ^ p) lf) (drop-at (take (2 ^ p) x) q (2 ^ p) lf)
               ∙ ap (λ (l : List ℕ). u ++ l) (E .path)
-              ∙ ap (λ (n : ℕ). u ++ take (i - h) (pathOf p n (drop h x))) z
-              ∙ begins u (pathOf p (i + 1 - h) (drop h x)) k (length-transform p (take h x) (lf ∙ half) ∙ sym half)
+              ∙ ap (λ (n : ℕ). u ++ take (i - 2 ^ p) (pathOf p n (drop (2 ^ p) x))) z
+              ∙ begins u (pathOf p (i + 1 - 2 ^ p) (drop (2 ^ p) x)) k (length-transform p (take (2 ^ p) x) lf)
               ∙ ap (take i) (sym (second-path x (i + 1) (omega arith) j));
-          bits = bits-append (take h x) q (bits-take h x bits) (E .bits);
+          bits = bits-append (take (2 ^ p) x) q (bits-take (2 ^ p) x bits) (E .bits);
         }
 
-    pub back-last : (q : List ℕ) → i + 1 ≡ h + h → length q ≡ h → BitBack p (i - h) (drop h (folded h x)) q → BitBack m i x (take h (folded h x) ++ q)
+    pub back-last : (q : List ℕ) → i + 1 ≡ 2 ^ p + 2 ^ p → length q ≡ 2 ^ p → BitBack p (i - 2 ^ p) (drop (2 ^ p) (folded (2 ^ p) x)) q → BitBack (suc p) i x (take (2 ^ p) (folded (2 ^ p) x) ++ q)
     back-last q k lq E =
-        let a = xors (take h x) (drop h x) in
-        let la = length-sum (drop h x) lg in
-        let u = transform p (take h x) in
-        let v = transform p (drop h x) in
-        let lu : length u ≡ 2 ^ p = length-transform p (take h x) (lf ∙ half) in
-        let lv : length v ≡ 2 ^ p = length-transform p (drop h x) (lg ∙ half) in
-        let first : take h (folded h x) ≡ a = take-at a (drop h x) h la in
-        let second : drop h (folded h x) ≡ drop h x = drop-at a (drop h x) h la in
-        let whole : pathOf m (i + 1) x ≡ xors u v ++ v =
-        ap₂ (pathOf m) k (sym (take-append-drop h x)) ∙ whole-path (take h x) (drop h x) lf lg in
+        let a = xors (take (2 ^ p) x) (drop (2 ^ p) x) in
+        let la = length-sum (drop (2 ^ p) x) lg in
+        let u = transform p (take (2 ^ p) x) in
+        let v = transform p (drop (2 ^ p) x) in
+        let lu : length u ≡ 2 ^ p = length-transform p (take (2 ^ p) x) lf in
+        let lv : length v ≡ 2 ^ p = length-transform p (drop (2 ^ p) x) lg in
+        let first : take (2 ^ p) (folded (2 ^ p) x) ≡ a = take-at a (drop (2 ^ p) x) (2 ^ p) la in
+        let second : drop (2 ^ p) (folded (2 ^ p) x) ≡ drop (2 ^ p) x = drop-at a (drop (2 ^ p) x) (2 ^ p) la in
+        let whole : pathOf (suc p) (i + 1) x ≡ xors u v ++ v =
+        ap₂ (pathOf (suc p)) k (sym (take-append-drop (2 ^ p) x)) ∙ whole-path (take (2 ^ p) x) (drop (2 ^ p) x) lf lg in
         record {
           path =
-              second-path (take h (folded h x) ++ q) i (omega arith) (omega arith)
-              ∙ ap₂ (λ (u v : List ℕ). transform p u ++ pathOf p (i - h) v) (take-at (take h (folded h x)) q h (ap length first ∙ la)) (drop-at (take h (folded h x)) q h (ap length first ∙ la))
+              second-path (take (2 ^ p) (folded (2 ^ p) x) ++ q) i (omega arith) (omega arith)
+              ∙ ap₂ (λ (u v : List ℕ). transform p u ++ pathOf p (i - 2 ^ p) v) (take-at (take (2 ^ p) (folded (2 ^ p) x)) q (2 ^ p) (ap length first ∙ la)) (drop-at (take (2 ^ p) (folded (2 ^ p) x)) q (2 ^ p) (ap length first ∙ la))
               ∙ ap₂ (λ (c d : List ℕ). transform p c ++ d) first (E .path)
-              ∙ ap₂ (λ (c d : List ℕ). c ++ take (i - h) d) (sum-word (drop h x) lg) (ap (pathOf p (i - h + 1)) second ∙ half-path (drop h x) (i - h + 1) (omega arith) lg)
-              ∙ begins (xors u v) v (omega arith) (length-xors u v (lu ∙ sym lv) ∙ lu ∙ sym half)
+              ∙ ap₂ (λ (c d : List ℕ). c ++ take (i - 2 ^ p) d) (sum-word (drop (2 ^ p) x) lg) (ap (pathOf p (i - 2 ^ p + 1)) second ∙ half-path (drop (2 ^ p) x) (i - 2 ^ p + 1) (omega arith) lg)
+              ∙ begins (xors u v) v (omega arith) (length-xors u v (lu ∙ sym lv) ∙ lu)
               ∙ ap (take i) (sym whole);
-          bits = bits-append (take h (folded h x)) q (subst Bits (sym first) (bits-xors (take h x) (drop h x))) (E .bits);
+          bits = bits-append (take (2 ^ p) (folded (2 ^ p) x)) q (subst Bits (sym first) (bits-xors (take (2 ^ p) x) (drop (2 ^ p) x))) (E .bits);
         }
