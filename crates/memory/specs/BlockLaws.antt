@@ -40,12 +40,21 @@ module _ (e h : ℕ) (some : h + h ≤ e) where
   length-foldAt x room =
       let k = e - h - h in
       let f = folded h (take (h + h) (drop k x)) in
-      omega (arith, length-append (take k x) (f ++ drop e x), length-append f (drop e x), length-take-le k x (omega arith), length-folded h (take (h + h) (drop k x)) (long-block x room), length-drop e x)
+      omega (
+        arith,
+        length-append (take k x) (f ++ drop e x),
+        length-append f (drop e x),
+        length-take-le k x (omega arith),
+        length-folded h
+            (take (h + h) (drop k x)) (long-block x room),
+        length-drop e x,
+      )
 
   pub bits-foldAt : (x : List ℕ) → Bits x → Bits (foldAt e h x)
   bits-foldAt x b =
       bits-append (take (e - h - h) x) (folded h (take (h + h) (drop (e - h - h) x)) ++ drop e x) (bits-take (e - h - h) x b)
-      (bits-append (folded h (take (h + h) (drop (e - h - h) x))) (drop e x) (bits-folded h (take (h + h) (drop (e - h - h) x)) (bits-take (h + h) (drop (e - h - h) x) (bits-drop (e - h - h) x b))) (bits-drop e x b))
+      (bits-append (folded h (take (h + h) (drop (e - h - h) x))) (drop e x)
+      (bits-folded h (take (h + h) (drop (e - h - h) x)) (bits-take (h + h) (drop (e - h - h) x) (bits-drop (e - h - h) x b))) (bits-drop e x b))
 
   -- in the first part of a list
   pub foldAt-first : (a c : List ℕ) → e ≤ length a → foldAt e h (a ++ c) ≡ foldAt e h a ++ c
@@ -75,7 +84,8 @@ module _ (e h : ℕ) (some : h + h ≤ e) where
       → putMid (e - h - h) (e - (e - h - h)) x (folded h (midOf (e - h - h) (e - (e - h - h)) x)) ≡ foldAt e h x
   foldAt-lent x room =
       let size : e - (e - h - h) ≡ h + h = omega arith in
-      ap₂ (λ (p q : List ℕ). take (e - h - h) x ++ (p ++ q)) (ap (λ (k : ℕ). folded h (take k (drop (e - h - h) x))) size) (post-is (e - h - h) e x (omega arith))
+      ap₂ (λ (p q : List ℕ). take (e - h - h) x ++ (p ++ q)) (ap (λ (k : ℕ). folded h (take k (drop (e - h - h) x))) size)
+      (post-is (e - h - h) e x (omega arith))
 
 foldAt-whole : (h : ℕ) (x : List ℕ) → length x ≡ h + h → foldAt (h + h) h x ≡ folded h x
 foldAt-whole h x l =
@@ -121,7 +131,8 @@ unfolding parted
 parted-first e zero a c k room = refl
 parted-first e (suc t) a c k room =
     let some = room-for e t k in
-    ap (parted e t) (foldAt-first e (2 ^ t) some a c room) ∙ parted-first e t (foldAt e (2 ^ t) a) c (less e t k) (omega (arith, length-foldAt e (2 ^ t) some a room))
+    ap (parted e t) (foldAt-first e (2 ^ t) some a c room) ∙ parted-first e t (foldAt e (2 ^ t) a) c (less e t k)
+    (omega (arith, length-foldAt e (2 ^ t) some a room))
 
 parted-second : (n e t : ℕ) (a c : List ℕ) → length a ≡ n → 2 ^ t ≤ e → parted (n + e) t (a ++ c) ≡ a ++ parted e t c
 unfolding parted
@@ -210,7 +221,8 @@ put-joined (suc p) t i b x o r k =
     let is : joined (i + 1) t (set x i b) ≡ f ++ joined e t c =
     ap₂ (λ (z : ℕ) (y : List ℕ). joined z t y) (second-end p i x (r .long) j) (set-there p i x (r .long) j b) ∙ joined-second h e t f c lf q in
     subst (BitPut (suc p) i b x) (sym is)
-    (put-second p x i lx (r .bits) b (joined e t c) j (omega (arith, two-pow-succ p)) (length-joined e t c q (omega (arith, r .inside, two-pow-succ p)) ∙ lc ∙ lg)
+    (put-second p x i lx (r .bits) b (joined e t c) j (omega (arith, two-pow-succ p))
+    (length-joined e t c q (omega (arith, r .inside, two-pow-succ p)) ∙ lc ∙ lg)
     (put-joined p t (i - h) b g o′ (ready-second p i x r j) k)))
     (λ (n : 2 ^ suc p ≤ i + 1). let last : i + 1 ≡ 2 ^ suc p = omega (arith, r .inside) in
     let o′ = half-lowest p i x (r .long) j t o last in
@@ -249,7 +261,8 @@ back-parted (suc p) t i x o r =
     ⊎-elim
     (λ (n : i + 1 < 2 ^ suc p). let o′ = second-lowest p i x (r .long) j t o n in
     let q = lowest-le t e o′ in
-    let is : parted (i + 1) t x ≡ f ++ parted e t g = ap₂ (λ (z : ℕ) (y : List ℕ). parted z t y) (second-end p i x (r .long) j) whole ∙ parted-second h e t f g lf q in
+    let is : parted (i + 1) t x ≡ f ++ parted e t g = ap₂ (λ (z : ℕ) (y : List ℕ). parted z t y) (second-end p i x (r .long) j) whole
+    ∙ parted-second h e t f g lf q in
     subst (BitBack (suc p) i x) (sym is)
     (back-second p x i lx (r .bits) (parted e t g) j (omega (arith, two-pow-succ p)) (length-parted e t g q (omega (arith, r .inside, two-pow-succ p)) ∙ lg)
     (back-parted p t (i - h) g o′ (ready-second p i x r j))))

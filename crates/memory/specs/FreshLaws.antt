@@ -26,7 +26,8 @@ use Rattle.memory.specs.Ready.{RowsMade, TopReady}
 use Rattle.memory.specs.StandsLaws.{sizes-stand}
 use Rattle.memory.specs.RefreshLaws.{refreshed}
 
-module _ (m i t h : ℕ) (l s : List ℤ) (y : List ℕ) (r : TopReady m i l s y) (before : Stands m l (take (i - 1) (pathOf m i (take (2 ^ m) y))) (take (2 ^ m) s)) (o : LowestOne t i) (is : h ≡ 2 ^ t) where
+module _ (m i t h : ℕ) (l s : List ℤ) (y : List ℕ) (r : TopReady m i l s y) (before : Stands m l (take (i - 1) (pathOf m i (take (2 ^ m) y))) (take (2 ^ m) s))
+    (o : LowestOne t i) (is : h ≡ 2 ^ t) where
   pub row-within : t < m
   row-within = lowest-within m t i o (r .inside)
 
@@ -50,7 +51,8 @@ module _ (m i t h : ℕ) (l s : List ℤ) (y : List ℕ) (r : TopReady m i l s y
       (omega (arith, row-within, r .most), omega arith, subst (λ (k : ℕ). sizes (rowOf k s1) < 2 ^ 31) is (rw row (omega (arith, sizes-upperRow h a w))))
 
   made : (a s1 s2 : List ℤ) → length a ≡ h + h → (h + h ≡ 2 ^ m → a ≡ l) → (h + h < 2 ^ m → a ≡ rowOf (h + h) s)
-      → s1 ≡ withRow h s (upperRow h a (take h (drop (i - h) (take (2 ^ m) y)))) → RowsMade t [] s1 s2 → Stands m l (pathOf m i (take (2 ^ m) y)) (take (2 ^ m) s2)
+      → s1 ≡ withRow h s (upperRow h a (take h (drop (i - h) (take (2 ^ m) y)))) → RowsMade t [] s1 s2 → Stands m l (pathOf m i (take (2 ^ m) y))
+      (take (2 ^ m) s2)
   made a s1 s2 la top inner e f =
       let x = take (2 ^ m) y in
       refreshed m t i o l s a s1 s2 x (record {
@@ -77,7 +79,8 @@ module _ (m i t h : ℕ) (l s : List ℤ) (y : List ℕ) (r : TopReady m i l s y
     at-middle : i ≡ h
     at-middle = sym (mod-eq-of-lt {n = i} {m = 2 ^ suc t} (omega (arith, double, r .long, r .inside))) ∙ o ∙ sym is
 
-    pub refreshed-top : (s1 s2 : List ℤ) → s1 ≡ withRow h s (upperRow h l (take h y)) → RowsMade t [] s1 s2 → Stands m l (pathOf m i (take (2 ^ m) y)) (take (2 ^ m) s2)
+    pub refreshed-top : (s1 s2 : List ℤ) → s1 ≡ withRow h s (upperRow h l (take h y)) → RowsMade t [] s1 s2
+        → Stands m l (pathOf m i (take (2 ^ m) y)) (take (2 ^ m) s2)
     refreshed-top s1 s2 f g =
         let none : i - h ≡ 0 = omega (arith, at-middle) in
         let word : take h y ≡ take h (drop (i - h) (take (2 ^ m) y)) =
@@ -88,13 +91,19 @@ module _ (m i t h : ℕ) (l s : List ℤ) (y : List ℕ) (r : TopReady m i l s y
   module _ (e : h + h ≡ length l → ⊥) where
     inner-within : suc t < m
     inner-within =
-        ⊎-elim (λ (k : suc t < m). k) (λ (k : m ≤ suc t). absurd (e (double ∙ ap (λ (n : ℕ). 2 ^ n) (omega (arith, row-within)) ∙ sym (r .long)))) (lt-or-le (suc t) m)
+        ⊎-elim (λ (k : suc t < m). k) (λ (k : m ≤ suc t). absurd (e (double ∙ ap (λ (n : ℕ). 2 ^ n) (omega (arith, row-within)) ∙ sym (r .long))))
+        (lt-or-le (suc t) m)
 
     pub from-rows : (h + h + (h + h) ≤ length s) × (h ≤ length (midOf (i - h) (i - (i - h)) y)) × (sizes (rowOf (h + h) s) < 2 ^ 31)
     from-rows = (
       omega (arith, double, two-pow-succ (suc t), pow-mono {i = suc (suc t)} {j = m} inner-within, r .room),
       omega (arith, mid-len (i - h) i y (omega (arith, r .inside, r .bytes)), start-within),
-      omega (arith, subst (λ (k : ℕ). sizes (rowOf k s) ≤ sizes l) (sym double) (sizes-stand m (suc t) l (take (i - 1) (pathOf m i (take (2 ^ m) y))) s inner-within before), r .small),
+      omega (
+        arith,
+        subst (λ (k : ℕ). sizes (rowOf k s) ≤ sizes l) (sym double)
+            (sizes-stand m (suc t) l (take (i - 1) (pathOf m i (take (2 ^ m) y))) s inner-within before),
+        r .small,
+      ),
     )
 
     pub below-rows : (s1 : List ℤ) → s1 ≡ withRow h s (upperRow h (rowOf (h + h) s) (take h (midOf (i - h) (i - (i - h)) y)))

@@ -28,7 +28,12 @@ module _ (m i : ℕ) (x : List ℕ) (r : PathReady m i x) (more : m ≡ 0 → �
   first-ready k =
       let H = halved (length x) m (r .long) more in
       let e = lent-to (length x / 2) x in
-      record { long = ap length e ∙ length-first-half (length x / 2) x (H .whole) ∙ H .half; inside = omega (arith, H .half); bits = subst Bits (sym e) (bits-take (length x / 2) x (r .bits)) }
+      record {
+        long = ap length e ∙ length-first-half (length x / 2) x (H .whole) ∙ H .half;
+        inside = omega (arith, H .half);
+        bits = subst Bits (sym e)
+            (bits-take (length x / 2) x (r .bits));
+      }
 
   second-ready : length x / 2 ≤ i → PathReady (m - 1) (i - length x / 2) (secondOut x x)
   second-ready k =
@@ -96,7 +101,8 @@ module _ (m i : ℕ) (s : List ℤ) (x : List ℕ) (r : RowReady m i s x) (more 
     lower-ready =
         let h = length x / 2 in
         let l = rowOf (h + h) s in
-        step-ready (m - 1) h (halved (length x) m (r .path .long) more .half) s (lowerRow h l) s1 (omega (arith, row-asked .0)) (length-lowerRow h l long-row) is
+        step-ready (m - 1) h (halved (length x) m (r .path .long) more .half) s (lowerRow h l) s1 (omega (arith, row-asked .0))
+        (length-lowerRow h l long-row) is
         (omega (arith, sizes-lowerRow h l, row-asked .1)) i (firstOut x) (first-ready m i x (r .path) more k)
 
     pub lower-made : (t : List ℤ) → RowsMade (m - 1) (pathOf (m - 1) i (firstOut x)) s1 t → RowsMade m (pathOf m i x) s t
@@ -113,7 +119,8 @@ module _ (m i : ℕ) (s : List ℤ) (x : List ℕ) (r : RowReady m i s x) (more 
         (step-stands (m - 1) h (H .half) s (lowerRow h l) s1 room lv is u t E′))
         (step-kept (m - 1) h (H .half) s (lowerRow h l) s1 room lv is u t E′)
 
-  module _ (s1 : List ℤ) (k : length x / 2 ≤ i) (is : s1 ≡ withRow (length x / 2) s (upperRow (length x / 2) (rowOf (length x / 2 + length x / 2) s) (take (length x / 2) x))) where
+  module _ (s1 : List ℤ) (k : length x / 2 ≤ i)
+      (is : s1 ≡ withRow (length x / 2) s (upperRow (length x / 2) (rowOf (length x / 2 + length x / 2) s) (take (length x / 2) x))) where
     pub upper-ready : RowReady (m - 1) (i - length x / 2) s1 (secondOut x x)
     upper-ready =
         let h = length x / 2 in
@@ -170,7 +177,8 @@ module _ (m i : ℕ) (l s : List ℤ) (y : List ℕ) (r : TopReady m i l s y) wh
           bits = subst Bits (sym e) (bits-take h y (r .bits));
         })
 
-    pub top-lower-made : (t : List ℤ) → RowsMade (m - 1) (pathOf (m - 1) i (midOf 0 (length l / 2 - 0) y)) s1 t → Stands m l (pathOf m i (take (2 ^ m) y)) (take (2 ^ m) t)
+    pub top-lower-made : (t : List ℤ) → RowsMade (m - 1) (pathOf (m - 1) i (midOf 0 (length l / 2 - 0) y)) s1 t
+        → Stands m l (pathOf m i (take (2 ^ m) y)) (take (2 ^ m) t)
     top-lower-made t E =
         let h = length l / 2 in
         let H = top-halved in
@@ -189,7 +197,8 @@ module _ (m i : ℕ) (l s : List ℤ) (y : List ℕ) (r : TopReady m i l s y) wh
         let h = length l / 2 in
         let x = take (2 ^ m) y in
         let e : midOf h (length l - h) y ≡ drop h x = sym second-bytes in
-        step-ready (m - 1) h (top-halved .half) s (upperRow h l (take h y)) s1 (top-asked .1) (length-upperRow h l (top-halved .whole) (take h y) (length-take-le h y (top-asked .2))) is
+        step-ready (m - 1) h (top-halved .half) s (upperRow h l (take h y)) s1 (top-asked .1)
+        (length-upperRow h l (top-halved .whole) (take h y) (length-take-le h y (top-asked .2))) is
         (omega (arith, sizes-upperRow h l (take h y), r .small)) (i - h) (midOf h (length l - h) y)
         (record {
           long = ap length e ∙ simp length-drop (omega (arith, long-bytes, top-halved .half));

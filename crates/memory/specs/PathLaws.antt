@@ -42,10 +42,12 @@ module _ (p : ℕ) where
   first-path : (y : List ℕ) (i : ℕ) → length y ≡ 2 ^ p + 2 ^ p → i ≤ 2 ^ p → pathOf (suc p) i y ≡ pathOf p i (take (2 ^ p) y)
   first-path y i e k = path-first p i y (omega (arith, two-pow-succ p)) k
 
-  second-path : (y : List ℕ) (i : ℕ) → 2 ^ p ≤ i → i < 2 ^ p + 2 ^ p → pathOf (suc p) i y ≡ transform p (take (2 ^ p) y) ++ pathOf p (i - 2 ^ p) (drop (2 ^ p) y)
+  second-path : (y : List ℕ) (i : ℕ) → 2 ^ p ≤ i → i < 2 ^ p + 2 ^ p
+      → pathOf (suc p) i y ≡ transform p (take (2 ^ p) y) ++ pathOf p (i - 2 ^ p) (drop (2 ^ p) y)
   second-path y i k j = path-upper p i y k (omega (arith, two-pow-succ p))
 
-  whole-path : (a b : List ℕ) → length a ≡ 2 ^ p → length b ≡ 2 ^ p → pathOf (suc p) (2 ^ p + 2 ^ p) (a ++ b) ≡ xors (transform p a) (transform p b) ++ transform p b
+  whole-path : (a b : List ℕ) → length a ≡ 2 ^ p → length b ≡ 2 ^ p
+      → pathOf (suc p) (2 ^ p + 2 ^ p) (a ++ b) ≡ xors (transform p a) (transform p b) ++ transform p b
   unfolding transform
   whole-path a b la lb =
       let e : 2 ^ p + 2 ^ p ≡ 2 ^ suc p = omega (arith, two-pow-succ p) in
@@ -73,13 +75,15 @@ module _ (p : ℕ) where
           bits = bits-append a (drop (2 ^ p) x) (E .bits) (bits-drop (2 ^ p) x bits);
         }
 
-    pub put-second : (b : ℕ) (q : List ℕ) → 2 ^ p ≤ i → i + 1 < 2 ^ p + 2 ^ p → length q ≡ 2 ^ p → BitPut p (i - 2 ^ p) b (drop (2 ^ p) x) q → BitPut (suc p) i b x (take (2 ^ p) x ++ q)
+    pub put-second : (b : ℕ) (q : List ℕ) → 2 ^ p ≤ i → i + 1 < 2 ^ p + 2 ^ p → length q ≡ 2 ^ p → BitPut p (i - 2 ^ p) b (drop (2 ^ p) x) q
+        → BitPut (suc p) i b x (take (2 ^ p) x ++ q)
     put-second b q k j lq E =
         let z : i + 1 - 2 ^ p ≡ i - 2 ^ p + 1 = omega arith in
         record {
           path =
               second-path (take (2 ^ p) x ++ q) (i + 1) (omega arith) j
-              ∙ ap₂ (λ (u v : List ℕ). transform p u ++ pathOf p (i + 1 - 2 ^ p) v) (take-at (take (2 ^ p) x) q (2 ^ p) lf) (drop-at (take (2 ^ p) x) q (2 ^ p) lf)
+              ∙ ap₂ (λ (u v : List ℕ). transform p u ++ pathOf p (i + 1 - 2 ^ p) v) (take-at (take (2 ^ p) x) q (2 ^ p) lf)
+              (drop-at (take (2 ^ p) x) q (2 ^ p) lf)
               ∙ ap (λ (n : ℕ). transform p (take (2 ^ p) x) ++ pathOf p n q) z
               ∙ ap (λ (l : List ℕ). transform p (take (2 ^ p) x) ++ l) (E .path)
               ∙ sym (append-assoc (transform p (take (2 ^ p) x)) (pathOf p (i - 2 ^ p) (drop (2 ^ p) x)) (b ∷ []))
@@ -94,7 +98,8 @@ module _ (p : ℕ) where
     sum-word : (q : List ℕ) → length q ≡ 2 ^ p → transform p (xors (take (2 ^ p) x) q) ≡ xors (transform p (take (2 ^ p) x)) (transform p q)
     sum-word q lq = transform-xors p (take (2 ^ p) x) q lf lq
 
-    pub put-last : (b : ℕ) (q : List ℕ) → i + 1 ≡ 2 ^ p + 2 ^ p → length q ≡ 2 ^ p → BitPut p (i - 2 ^ p) b (drop (2 ^ p) x) q → BitPut (suc p) i b x (folded (2 ^ p) (take (2 ^ p) x ++ q))
+    pub put-last : (b : ℕ) (q : List ℕ) → i + 1 ≡ 2 ^ p + 2 ^ p → length q ≡ 2 ^ p → BitPut p (i - 2 ^ p) b (drop (2 ^ p) x) q
+        → BitPut (suc p) i b x (folded (2 ^ p) (take (2 ^ p) x ++ q))
     put-last b q k lq E =
         let u = transform p (take (2 ^ p) x) in
         let v = transform p q in
@@ -132,7 +137,8 @@ module _ (p : ℕ) where
         let e : length u + (i - 2 ^ p) ≡ i = omega arith in
         sym (take-append-add u v (i - 2 ^ p)) ∙ ap (λ (n : ℕ). take n (u ++ v)) e
 
-    pub back-second : (q : List ℕ) → 2 ^ p ≤ i → i + 1 < 2 ^ p + 2 ^ p → length q ≡ 2 ^ p → BitBack p (i - 2 ^ p) (drop (2 ^ p) x) q → BitBack (suc p) i x (take (2 ^ p) x ++ q)
+    pub back-second : (q : List ℕ) → 2 ^ p ≤ i → i + 1 < 2 ^ p + 2 ^ p → length q ≡ 2 ^ p → BitBack p (i - 2 ^ p) (drop (2 ^ p) x) q
+        → BitBack (suc p) i x (take (2 ^ p) x ++ q)
     back-second q k j lq E =
         let z : i - 2 ^ p + 1 ≡ i + 1 - 2 ^ p = omega arith in
         let u = transform p (take (2 ^ p) x) in
@@ -147,7 +153,8 @@ module _ (p : ℕ) where
           bits = bits-append (take (2 ^ p) x) q (bits-take (2 ^ p) x bits) (E .bits);
         }
 
-    pub back-last : (q : List ℕ) → i + 1 ≡ 2 ^ p + 2 ^ p → length q ≡ 2 ^ p → BitBack p (i - 2 ^ p) (drop (2 ^ p) (folded (2 ^ p) x)) q → BitBack (suc p) i x (take (2 ^ p) (folded (2 ^ p) x) ++ q)
+    pub back-last : (q : List ℕ) → i + 1 ≡ 2 ^ p + 2 ^ p → length q ≡ 2 ^ p → BitBack p (i - 2 ^ p) (drop (2 ^ p) (folded (2 ^ p) x)) q
+        → BitBack (suc p) i x (take (2 ^ p) (folded (2 ^ p) x) ++ q)
     back-last q k lq E =
         let a = xors (take (2 ^ p) x) (drop (2 ^ p) x) in
         let la = length-sum (drop (2 ^ p) x) lg in
@@ -162,9 +169,11 @@ module _ (p : ℕ) where
         record {
           path =
               second-path (take (2 ^ p) (folded (2 ^ p) x) ++ q) i (omega arith) (omega arith)
-              ∙ ap₂ (λ (u v : List ℕ). transform p u ++ pathOf p (i - 2 ^ p) v) (take-at (take (2 ^ p) (folded (2 ^ p) x)) q (2 ^ p) (ap length first ∙ la)) (drop-at (take (2 ^ p) (folded (2 ^ p) x)) q (2 ^ p) (ap length first ∙ la))
+              ∙ ap₂ (λ (u v : List ℕ). transform p u ++ pathOf p (i - 2 ^ p) v) (take-at (take (2 ^ p) (folded (2 ^ p) x)) q (2 ^ p) (ap length first ∙ la))
+              (drop-at (take (2 ^ p) (folded (2 ^ p) x)) q (2 ^ p) (ap length first ∙ la))
               ∙ ap₂ (λ (c d : List ℕ). transform p c ++ d) first (E .path)
-              ∙ ap₂ (λ (c d : List ℕ). c ++ take (i - 2 ^ p) d) (sum-word (drop (2 ^ p) x) lg) (ap (pathOf p (i - 2 ^ p + 1)) second ∙ half-path (drop (2 ^ p) x) (i - 2 ^ p + 1) (omega arith) lg)
+              ∙ ap₂ (λ (c d : List ℕ). c ++ take (i - 2 ^ p) d) (sum-word (drop (2 ^ p) x) lg)
+              (ap (pathOf p (i - 2 ^ p + 1)) second ∙ half-path (drop (2 ^ p) x) (i - 2 ^ p + 1) (omega arith) lg)
               ∙ begins (xors u v) v (omega arith) (length-xors u v (lu ∙ sym lv) ∙ lu)
               ∙ ap (take i) (sym whole);
           bits = bits-append (take (2 ^ p) (folded (2 ^ p) x)) q (subst Bits (sym first) (bits-xors (take (2 ^ p) x) (drop (2 ^ p) x))) (E .bits);

@@ -29,7 +29,8 @@ use Rattle.memory.specs.StandsLaws.{stood-lower, stood-upper, rowOf-take
 use Rattle.memory.specs.MakeLaws.{none-made, step-row, row-stays, step-stands, step-kept}
 
 -- ---- what stands for the index before i, by halves
-module _ (p i : ℕ) (l s : List ℤ) (x : List ℕ) (long : length x ≡ 2 ^ suc p) (fresh : Stands (suc p) l (take (i - 1) (pathOf (suc p) i x)) (take (2 ^ suc p) s)) where
+module _ (p i : ℕ) (l s : List ℤ) (x : List ℕ) (long : length x ≡ 2 ^ suc p)
+    (fresh : Stands (suc p) l (take (i - 1) (pathOf (suc p) i x)) (take (2 ^ suc p) s)) where
   front : take (2 ^ suc p) s ≡ take (2 ^ p + 2 ^ p) s
   front = ap (λ (k : ℕ). take k s) (two-pow-succ p)
 
@@ -39,17 +40,20 @@ module _ (p i : ℕ) (l s : List ℤ) (x : List ℕ) (long : length x ≡ 2 ^ su
   rest-in : take (2 ^ p) (take (2 ^ suc p) s) ≡ take (2 ^ p) s
   rest-in = take-take (2 ^ p) (2 ^ suc p) s (omega (arith, two-pow-succ p))
 
-  fresh-lower : 0 < i → i < 2 ^ p → (rowOf (2 ^ p) s ≡ lowerRow (2 ^ p) l) × Stands p (rowOf (2 ^ p) s) (take (i - 1) (pathOf p i (take (2 ^ p) x))) (take (2 ^ p) s)
+  fresh-lower : 0 < i → i < 2 ^ p → (rowOf (2 ^ p) s ≡ lowerRow (2 ^ p) l)
+      × Stands p (rowOf (2 ^ p) s) (take (i - 1) (pathOf p i (take (2 ^ p) x))) (take (2 ^ p) s)
   fresh-lower k j =
       let u = pathOf p i (take (2 ^ p) x) in
       let lu = length-path p i (take (2 ^ p) x) (length-first p x long) (omega arith) in
-      let f : Stands (suc p) l (take (i - 1) u) (take (2 ^ suc p) s) = subst (λ (w : List ℕ). Stands (suc p) l (take (i - 1) w) (take (2 ^ suc p) s)) (path-lower p i x j) fresh in
+      let f : Stands (suc p) l (take (i - 1) u) (take (2 ^ suc p) s) = subst (λ (w : List ℕ). Stands (suc p) l (take (i - 1) w) (take (2 ^ suc p) s))
+      (path-lower p i x j) fresh in
       let g = stood-lower p l (take (i - 1) u) (take (2 ^ suc p) s) (omega (arith, length-take-le (i - 1) u (omega (arith, lu)))) f in
       let e : rowOf (2 ^ p) s ≡ lowerRow (2 ^ p) l = sym row-in ∙ g .0 in
       (e, subst (λ (k : List ℤ). Stands p k (take (i - 1) u) (take (2 ^ p) s)) (sym e) (subst (Stands p (lowerRow (2 ^ p) l) (take (i - 1) u)) rest-in (g .1)))
 
   fresh-upper : 2 ^ p < i → i < 2 ^ suc p → Bits x
-      → (rowOf (2 ^ p) s ≡ upperRow (2 ^ p) l (take (2 ^ p) x)) × Stands p (rowOf (2 ^ p) s) (take (i - 2 ^ p - 1) (pathOf p (i - 2 ^ p) (drop (2 ^ p) x))) (take (2 ^ p) s)
+      → (rowOf (2 ^ p) s ≡ upperRow (2 ^ p) l (take (2 ^ p) x)) × Stands p (rowOf (2 ^ p) s) (take (i - 2 ^ p - 1) (pathOf p (i - 2 ^ p) (drop (2 ^ p) x)))
+      (take (2 ^ p) s)
   fresh-upper k j b =
       let a = transform p (take (2 ^ p) x) in
       let w = pathOf p (i - 2 ^ p) (drop (2 ^ p) x) in
@@ -60,7 +64,8 @@ module _ (p i : ℕ) (l s : List ℤ) (x : List ℕ) (long : length x ≡ 2 ^ su
       let f : Stands (suc p) l v (take (2 ^ suc p) s) =
       subst (λ (w : List ℕ). Stands (suc p) l (take (i - 1) w) (take (2 ^ suc p) s)) (path-upper p i x (omega arith) j) fresh in
       let first : transform p (take (2 ^ p) v) ≡ take (2 ^ p) x =
-      ap (transform p) (take-take (2 ^ p) (i - 1) (a ++ w) (omega arith) ∙ take-at a w (2 ^ p) la) ∙ transform-twice p (take (2 ^ p) x) (length-first p x long) (bits-take (2 ^ p) x b) in
+      ap (transform p) (take-take (2 ^ p) (i - 1) (a ++ w) (omega arith) ∙ take-at a w (2 ^ p) la) ∙ transform-twice p (take (2 ^ p) x) (length-first p x long)
+      (bits-take (2 ^ p) x b) in
       let order : i - 1 - 2 ^ p ≡ i - 2 ^ p - 1 = omega arith in
       let second : drop (2 ^ p) v ≡ take (i - 2 ^ p - 1) w =
       drop-take (2 ^ p) (i - 1) (a ++ w) ∙ ap₂ take order (drop-at a w (2 ^ p) la) in
@@ -91,10 +96,14 @@ Refreshed m t i =
     (l s r s1 s2 : List ℤ) (x : List ℕ) → Fresh m t i l s r s1 s2 x → Stands m l (pathOf m i x) (take (2 ^ m) s2) × (drop (2 ^ m) s2 ≡ drop (2 ^ m) s)
 
 -- in the words of the whole
-whole : (p i : ℕ) (l s s2 : List ℤ) (x : List ℕ) → Stands (suc p) l (pathOf (suc p) i x) (take (2 ^ p + 2 ^ p) s2) → drop (2 ^ p + 2 ^ p) s2 ≡ drop (2 ^ p + 2 ^ p) s
+whole : (p i : ℕ) (l s s2 : List ℤ) (x : List ℕ) → Stands (suc p) l (pathOf (suc p) i x) (take (2 ^ p + 2 ^ p) s2)
+    → drop (2 ^ p + 2 ^ p) s2 ≡ drop (2 ^ p + 2 ^ p) s
     → Stands (suc p) l (pathOf (suc p) i x) (take (2 ^ suc p) s2) × (drop (2 ^ suc p) s2 ≡ drop (2 ^ suc p) s)
-whole p i l s s2 x e f =
-    (subst (λ (k : ℕ). Stands (suc p) l (pathOf (suc p) i x) (take k s2)) (sym (two-pow-succ p)) e, subst (λ (k : ℕ). drop k s2 ≡ drop k s) (sym (two-pow-succ p)) f)
+whole p i l s s2 x e f = (
+  subst (λ (k : ℕ). Stands (suc p) l (pathOf (suc p) i x) (take k s2)) (sym (two-pow-succ p)) e,
+  subst (λ (k : ℕ). drop k s2 ≡ drop k s)
+      (sym (two-pow-succ p)) f,
+)
 
 -- the second half starts at i
 refreshed-start : (p : ℕ) → Refreshed (suc p) p (2 ^ p)
@@ -106,7 +115,8 @@ refreshed-start p l s r s1 s2 x f =
     let is : s1 ≡ withRow h s v = f .upper ∙ ap (λ (k : ℕ). withRow h s (upperRow h r (take h (drop k x)))) none in
     let room : h + h ≤ length s = omega (arith, f .room, two-pow-succ p) in
     let lv : length v ≡ h = length-upperRow h r (f .above) (take h x) lx in
-    let e : rowOf h s2 ≡ upperRow h l (take h x) = row-stays p h refl s v s1 room lv is [] s2 (f .below) ∙ ap (λ (k : List ℤ). upperRow h k (take h x)) (f .top (sym (two-pow-succ p))) in
+    let e : rowOf h s2 ≡ upperRow h l (take h x) = row-stays p h refl s v s1 room lv is [] s2 (f .below) ∙ ap (λ (k : List ℤ). upperRow h k (take h x))
+    (f .top (sym (two-pow-succ p))) in
     let start : pathOf p (h - h) (drop h x) ≡ [] = ap (λ (k : ℕ). pathOf p k (drop h x)) none ∙ path-none p (drop h x) in
     whole p h l s s2 x
     (upper-plain p l x h s2 (f .long ∙ two-pow-succ p) (omega arith) (omega (arith, pow-pos p)) (f .bits) e
@@ -217,6 +227,7 @@ module _ (m t h : ℕ) (s₀ s : List ℤ) (turn : LowerTurn m t s₀ s) (room :
       record {
         most = omega (arith, turn .most);
         same = (rw e (length-withRow h s v fits lv)) ∙ turn .same;
-        small = subst (λ (k : ℕ). sizes (rowOf k s1) < 2 ^ 31) is (rw (step-row (t - 1) h is s v s1 fits lv e) (omega (arith, sizes-lowerRow h l, lower-asked .1)));
+        small = subst (λ (k : ℕ). sizes (rowOf k s1) < 2 ^ 31) is
+            (rw (step-row (t - 1) h is s v s1 fits lv e) (omega (arith, sizes-lowerRow h l, lower-asked .1)));
         onward = λ w f. turn .onward w (lower-more s1 e w f);
       }

@@ -53,7 +53,8 @@ stood-upper p l u s k f = rw (le-ltb (length u) (2 ^ p) k) at f
 -- of the row l of 2h entries, where m is p + 1 and h is 2^p
 abbrev LowerMade : ℕ → ℕ → ℕ → Type 0
 LowerMade m p h =
-    (l : List ℤ) (x : List ℕ) (i : ℕ) (s : List ℤ) → length x ≡ h + h → i < h → rowOf h s ≡ lowerRow h l → Stands p (rowOf h s) (pathOf p i (take h x)) (take h s)
+    (l : List ℤ) (x : List ℕ) (i : ℕ) (s : List ℤ) → length x ≡ h + h → i < h → rowOf h s ≡ lowerRow h l → Stands p (rowOf h s) (pathOf p i (take h x))
+    (take h s)
     → Stands m l (pathOf m i x) (take (h + h) s)
 
 abbrev UpperMade : ℕ → ℕ → ℕ → Type 0
@@ -89,7 +90,8 @@ module _ (m p h : ℕ) (above : m ≡ suc p) (half : h ≡ 2 ^ p) where
 -- ---- the last row is the value
 -- u goes on in one of the halves: what the array stands for there
 data Onward (m : ℕ) (l : List ℤ) (u : List ℕ) (s : List ℤ) : Type 0 where
-  onward : (row : List ℤ) (v : List ℕ) → sizes row ≤ sizes l → value (suc m) l u ≡ value m row v → rowOf (2 ^ m) s ≡ row → Stands m row v (take (2 ^ m) s) → Onward m l u s
+  onward : (row : List ℤ) (v : List ℕ) → sizes row ≤ sizes l → value (suc m) l u ≡ value m row v → rowOf (2 ^ m) s ≡ row → Stands m row v (take (2 ^ m) s)
+      → Onward m l u s
 
 goes-on : (m : ℕ) (l : List ℤ) (u : List ℕ) (s : List ℤ) → Stands (suc m) l u s → Onward m l u s
 unfolding value Stands

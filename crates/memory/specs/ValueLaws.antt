@@ -42,7 +42,8 @@ last-row (suc m) l u t more small f =
     let e = value-stands (suc m) l u (take (2 ^ suc m) t) (omega arith) f ∙ getD-take (2 ^ suc m) t 1 (pos 0) (omega (arith, two-pow-succ m, pow-pos m)) in
     (ap (λ (z : ℤ). toZ w32 (ofZ w32 z)) (sym e) ∙ toZ-ofZ {w = w32} (fits-size (value (suc m) l u) (omega (arith, value-sizes (suc m) l u))), f)
 
-pub top-ready : (l : List ℤ) (m : ℕ) (fresh : Bool) (i : ℕ) (s : List ℤ) (y : List ℕ) → ValueReady l m fresh i s y → length s ≡ 256 → length y ≡ 256 → (m ≡ 0 → ⊥)
+pub top-ready : (l : List ℤ) (m : ℕ) (fresh : Bool) (i : ℕ) (s : List ℤ) (y : List ℕ) → ValueReady l m fresh i s y → length s ≡ 256 → length y ≡ 256
+    → (m ≡ 0 → ⊥)
     → TopReady m i l s y
 top-ready l zero fresh i s y r a b more = absurd (more refl)
 top-ready l (suc m) fresh i s y r a b more =

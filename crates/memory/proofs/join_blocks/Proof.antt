@@ -61,7 +61,8 @@ loop-again c =
     let o = c .before .before .before .before .before .before .loop in
     let n = c .before .before .before .before .length in
     let a = c .before .before .fold in
-    join-turn (g .args .e) (g .args .b) (o .t) (n .result) (g .args .half .now) (g .pre) (omega arith) (n .ensures) (o .half) (o .inv .same) (o .inv .bits) (a .last .0) (a .ensures) (o .inv .is)
+    join-turn (g .args .e) (g .args .b) (o .t) (n .result) (g .args .half .now) (g .pre) (omega arith) (n .ensures) (o .half) (o .inv .same) (o .inv .bits)
+    (a .last .0) (a .ensures) (o .inv .is)
 
 same-length : tie.Need-same-length Inv-loop μ-loop
 same-length c = c .before .loop .inv .same

@@ -41,7 +41,8 @@ same-length : tie.Need-same-length Inv-loop μ-loop
 same-length c = c .before .loop .inv .same
 
 returns : tie.Need-returns Inv-loop μ-loop
-returns c = lower-end (c .before .before .args .m) (c .before .loop .t) (c .before .before .args .rows .now) (c .before .loop .rows) (c .before .loop .inv) (omega arith)
+returns c = lower-end (c .before .before .args .m) (c .before .loop .t) (c .before .before .args .rows .now) (c .before .loop .rows) (c .before .loop .inv)
+    (omega arith)
 
 pub lower-rows-spec : {M : Type 1} → statement M
 lower-rows-spec =

@@ -62,13 +62,15 @@ loop-again c =
     let n = c .before .before .before .before .length in
     let a = c .before .before .fold in
     let e : o .t ≡ suc (o .t - 1) = omega arith in
-    part-turn (g .args .e) (g .args .b) (o .t - 1) (n .result) (g .args .half .now) (g .pre) (omega arith) (n .ensures) (o .half) (o .inv .same) (o .inv .bits) (a .last .0) (a .ensures) (ap (λ (k : ℕ). parted (g .args .e) k (o .half)) (sym e) ∙ o .inv .onward)
+    part-turn (g .args .e) (g .args .b) (o .t - 1) (n .result) (g .args .half .now) (g .pre) (omega arith) (n .ensures) (o .half) (o .inv .same) (o .inv .bits)
+    (a .last .0) (a .ensures) (ap (λ (k : ℕ). parted (g .args .e) k (o .half)) (sym e) ∙ o .inv .onward)
 
 same-length : tie.Need-same-length Inv-loop μ-loop
 same-length c = c .before .loop .inv .same
 
 returns : tie.Need-returns Inv-loop μ-loop
-returns c = part-end (c .before .before .before .args .e) (c .before .before .before .args .b) (c .before .loop .t) (c .before .before .before .args .half .now) (c .before .loop .half) (c .before .loop .inv) (omega arith)
+returns c = part-end (c .before .before .before .args .e) (c .before .before .before .args .b) (c .before .loop .t) (c .before .before .before .args .half .now)
+    (c .before .loop .half) (c .before .loop .inv) (omega arith)
 
 pub part-blocks-spec : {M : Type 1} → statement M
 part-blocks-spec =

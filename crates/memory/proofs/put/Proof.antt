@@ -28,7 +28,8 @@ join-blocks-requires c κs =
     let y = g .args .half .now in
     let room : 2 ^ g .args .m ≤ length y = omega (arith, pow-mono (g .pre .0), length-set y (g .args .i) (g .args .bit)) in
     let t = c .before .lowest-one in
-    blocks-ready (g .args .m) (t .result) (g .args .i) y (t .ensures) (g .pre .1) room (g .pre .3) (g .pre .0) (set y (g .args .i) (g .args .bit)) (length-set y (g .args .i) (g .args .bit)) (bits-set y (g .args .i) (g .args .bit) (g .pre .2) (g .pre .3))
+    blocks-ready (g .args .m) (t .result) (g .args .i) y (t .ensures) (g .pre .1) room (g .pre .3) (g .pre .0) (set y (g .args .i) (g .args .bit))
+    (length-set y (g .args .i) (g .args .bit)) (bits-set y (g .args .i) (g .args .bit) (g .pre .2) (g .pre .3))
 
 returns : tie.Need-returns
 returns c =
@@ -37,8 +38,11 @@ returns c =
     let room : 2 ^ g .args .m ≤ length y = omega (arith, pow-mono (g .pre .0), length-set y (g .args .i) (g .args .bit)) in
     let t = c .before .before .lowest-one in
     let w = whole-put (g .args .m) (t .result) (g .args .i) y (t .ensures) (g .pre .1) room (g .pre .3) (g .args .bit) (g .pre .2) in
-    let e = sym (c .join-blocks .ensures) in
-    (subst (λ (z : List ℕ). pathOf (g .args .m) (g .args .i + 1) (take (2 ^ g .args .m) z) ≡ pathOf (g .args .m) (g .args .i) (take (2 ^ g .args .m) y) ++ g .args .bit ∷ []) e (w .0), subst Bits e (w .1))
+    let e = sym (c .join-blocks .ensures) in (
+      subst (λ (z : List ℕ). pathOf (g .args .m) (g .args .i + 1) (take (2 ^ g .args .m) z) ≡ pathOf (g .args .m) (g .args .i)
+          (take (2 ^ g .args .m) y) ++ g .args .bit ∷ []) e (w .0),
+      subst Bits e (w .1),
+    )
 
 pub put-spec : {M : Type 1} → statement M
 put-spec =

@@ -34,7 +34,8 @@ lower-rows-requires c κs =
     let t = c .before .before .before .before .before .before .lowest-one in
     let h = c .before .before .before .before .before .length in
     let a = c .before .before .upper-top in
-    below-top (g .args .m) (g .args .i) (t .result) (h .result) l s y (g .pre .0) (g .pre .2) (t .ensures) (h .ensures) (omega arith) (a .last .1 .0) (a .ensures)
+    below-top (g .args .m) (g .args .i) (t .result) (h .result) l s y (g .pre .0) (g .pre .2) (t .ensures) (h .ensures) (omega arith) (a .last .1 .0)
+    (a .ensures)
 
 same-length : tie.Need-same-length
 same-length c = search needs
@@ -49,7 +50,8 @@ returns c =
     let h = c .before .before .before .before .before .before .before .length in
     let a = c .before .before .before .before .upper-top in
     let b = c .before .lower-rows in
-    refreshed-top (g .args .m) (g .args .i) (t .result) (h .result) l s y (g .pre .0) (g .pre .2) (t .ensures) (h .ensures) (omega arith) (a .last .1 .0) (b .last .0) (a .ensures) (b .ensures)
+    refreshed-top (g .args .m) (g .args .i) (t .result) (h .result) l s y (g .pre .0) (g .pre .2) (t .ensures) (h .ensures) (omega arith) (a .last .1 .0)
+    (b .last .0) (a .ensures) (b .ensures)
 
 sub-upper-row : tie.Need-sub-upper-row
 sub-upper-row c =
@@ -89,7 +91,8 @@ lower-rows-requires-2 c κs =
     let t = c .before .before .before .before .before .before .before .lowest-one in
     let h = c .before .before .before .before .before .before .length in
     let a = c .before .before .upper-row in
-    below-rows (g .args .m) (g .args .i) (t .result) (h .result) l s y (g .pre .0) (g .pre .2) (t .ensures) (h .ensures) (λ e. omega arith) (a .last .0) (a .ensures)
+    below-rows (g .args .m) (g .args .i) (t .result) (h .result) l s y (g .pre .0) (g .pre .2) (t .ensures) (h .ensures) (λ e. omega arith) (a .last .0)
+    (a .ensures)
 
 same-length-2 : tie.Need-same-length-2
 same-length-2 c = search needs
@@ -104,7 +107,8 @@ returns-2 c =
     let h = c .before .before .before .before .before .before .before .before .length in
     let a = c .before .before .before .before .upper-row in
     let b = c .before .lower-rows2 in
-    refreshed-inner (g .args .m) (g .args .i) (t .result) (h .result) l s y (g .pre .0) (g .pre .2) (t .ensures) (h .ensures) (λ e. omega arith) (a .last .0) (b .last .0) (a .ensures) (b .ensures)
+    refreshed-inner (g .args .m) (g .args .i) (t .result) (h .result) l s y (g .pre .0) (g .pre .2) (t .ensures) (h .ensures) (λ e. omega arith) (a .last .0)
+    (b .last .0) (a .ensures) (b .ensures)
 
 pub refresh-spec : {M : Type 1} → statement M
 refresh-spec =

@@ -33,8 +33,11 @@ returns c =
     let room : 2 ^ g .args .m ≤ length y = omega (arith, pow-mono (g .pre .0)) in
     let t = c .before .before .lowest-one in
     let w = whole-back (g .args .m) (t .result) (g .args .i) y (t .ensures) (g .pre .1) room (g .pre .2) in
-    let e = sym (c .part-blocks .ensures) in
-    (subst (λ (z : List ℕ). pathOf (g .args .m) (g .args .i) (take (2 ^ g .args .m) z) ≡ take (g .args .i) (pathOf (g .args .m) (g .args .i + 1) (take (2 ^ g .args .m) y))) e (w .0), subst Bits e (w .1))
+    let e = sym (c .part-blocks .ensures) in (
+      subst (λ (z : List ℕ). pathOf (g .args .m) (g .args .i) (take (2 ^ g .args .m) z) ≡ take (g .args .i)
+          (pathOf (g .args .m) (g .args .i + 1) (take (2 ^ g .args .m) y))) e (w .0),
+      subst Bits e (w .1),
+    )
 
 pub take-back-spec : {M : Type 1} → statement M
 take-back-spec = tie.close (tie.spec add-e lowest-one-requires part-blocks-requires returns)

@@ -23,7 +23,8 @@ returns c =
     let l = g .args .readings .now in
     let s = g .args .rows .now in
     let y = g .args .half .now in
-    single (g .args .m) l (pathOf (g .args .m) (g .args .i) (take (2 ^ g .args .m) y)) (take (2 ^ g .args .m) s) (c .before .if1 .taken) (record { sfits = c .result .given })
+    single (g .args .m) l (pathOf (g .args .m) (g .args .i) (take (2 ^ g .args .m) y)) (take (2 ^ g .args .m) s) (c .before .if1 .taken)
+    (record { sfits = c .result .given })
 
 refresh-requires : tie.Need-refresh-requires
 refresh-requires c κs =
@@ -31,8 +32,12 @@ refresh-requires c κs =
     let l = g .args .readings .now in
     let s = g .args .rows .now in
     let y = g .args .half .now in
-    let some : 0 < g .args .i = ltb-true 0 (g .args .i) (c .before .before .if3 .taken) in
-    (top-ready l (g .args .m) (g .args .fresh) (g .args .i) s y (g .pre) (omega arith) (omega arith) (λ e. omega arith), some, g .pre .stands (c .before .before .before .if2 .taken) some)
+    let some : 0 < g .args .i = ltb-true 0 (g .args .i) (c .before .before .if3 .taken) in (
+      top-ready l (g .args .m) (g .args .fresh) (g .args .i) s y (g .pre) (omega arith) (omega arith) (λ e. omega arith),
+      some,
+      g .pre .stands
+          (c .before .before .before .if2 .taken) some,
+    )
 
 element-copy-out-result : tie.Need-element-copy-out-result
 element-copy-out-result c = search needs
