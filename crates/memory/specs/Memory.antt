@@ -27,3 +27,10 @@ Stands (suc m) l u s =
     cond (ltb (length u) (2 ^ m))
     ((take (2 ^ m) (drop (2 ^ m) s) ≡ low) × Stands m low u (take (2 ^ m) s))
     ((take (2 ^ m) (drop (2 ^ m) s) ≡ high) × Stands m high (drop (2 ^ m) u) (take (2 ^ m) s))
+
+-- the array s stands for index i of the path that the bytes y begin with; or for the index before i
+abbrev pub StandsFor : ℕ → List ℤ → ℕ → List ℕ → List ℤ → Type 0
+StandsFor m l i y s = Stands m l (pathOf m i (take (2 ^ m) y)) (take (2 ^ m) s)
+
+abbrev pub StandsBefore : ℕ → List ℤ → ℕ → List ℕ → List ℤ → Type 0
+StandsBefore m l i y s = Stands m l (take (i - 1) (pathOf m i (take (2 ^ m) y))) (take (2 ^ m) s)

@@ -1,4 +1,4 @@
--- What the value at an index is asked of: the readings l, the scratch array s, and the byte array y that holds the path.
+-- What the functions of the memory are asked, and what they make of it: the readings l, the scratch array s, the bytes y that begin with the path.
 use mathlib.Core.Path.{_≡_}
 use mathlib.Core.List.{List, [], _∷_, _++_}
 use mathlib.Core.Bool.{Bool, true}
@@ -8,7 +8,7 @@ use lib.ListN.{length, take, drop}
 use Rattle.words.specs.Bits.{Bits}
 use Rattle.decoding.specs.Readings.{sizes}
 use Rattle.rows.specs.Rows.{rowOf}
-use Rattle.memory.specs.Memory.{pathOf, Stands}
+use Rattle.memory.specs.Memory.{pathOf, Stands, StandsBefore}
 
 -- where fresh, the scratch array stands for the index before i
 pub record ValueReady (l : List ℤ) (m : ℕ) (fresh : Bool) (i : ℕ) (s : List ℤ) (y : List ℕ) : Type 0 where
@@ -17,7 +17,7 @@ pub record ValueReady (l : List ℤ) (m : ℕ) (fresh : Bool) (i : ℕ) (s : Lis
   pub inside : i < 2 ^ m
   pub small : sizes l < 2 ^ 31
   pub bits : Bits y
-  pub stands : fresh ≡ true → 0 < i → Stands m l (take (i - 1) (pathOf m i (take (2 ^ m) y))) (take (2 ^ m) s)
+  pub stands : fresh ≡ true → 0 < i → StandsBefore m l i y s
 
 -- the 2^m bytes x, and the index i of a path in them
 pub record PathReady (m i : ℕ) (x : List ℕ) : Type 0 where

@@ -7,12 +7,19 @@ ghost use Rattle.numbers.specs.Lowest.{LowestOne};
 ghost use Rattle.words.specs.Bits.{Bits};
 ghost use Rattle.decoding.specs.Readings.{sizes};
 ghost use Rattle.rows.specs.Rows.{rowOf};
-ghost use Rattle.memory.specs.Memory.{pathOf, Stands};
+ghost use Rattle.memory.specs.Memory.{pathOf, StandsFor, StandsBefore};
 ghost use Rattle.decoding.specs.Walk.{value};
 ghost use Rattle.memory.specs.Blocks.{joined, parted};
-ghost use Rattle.memory.specs.Ready.{BlocksReady, RowReady, RowsMade, TopReady, ValueReady};
+ghost use Rattle.memory.specs.Ready.{
+  BlocksReady,
+  RowReady,
+  RowsMade,
+  TopReady,
+  ValueReady,
+};
 
-fn length(m: usize) -> usize
+// 2^m, the length of a row.
+fn power(m: usize) -> usize
     requires { ⌜ m ≤ 8 ⌝ }
     ensures { λ n. ⌜ n ≡ 2 ^ m ⌝ }
 {
@@ -34,7 +41,7 @@ fn join_blocks(half: &mut [u8], e: usize, b: usize)
 {
     let mut t = 0;
     while t < b {
-        let h = length(t);
+        let h = power(t);
         half::fold(&mut half[e - h - h..e], h);
         t += 1;
     }
@@ -48,7 +55,7 @@ fn part_blocks(half: &mut [u8], e: usize, b: usize)
     let mut t = b;
     while 0 < t {
         t -= 1;
-        let h = length(t);
+        let h = power(t);
         half::fold(&mut half[e - h - h..e], h);
     }
 }
@@ -83,7 +90,8 @@ pub fn take_back(half: &mut [u8; 256], m: usize, i: usize)
 // Makes the rows below the row of 2^m sums stand for index i of the path in it.
 fn make_rows(rows: &mut [i32], half: &[u8], m: usize, i: usize)
     requires { ⌜ RowReady m i (now rows) (now half) ⌝ }
-    ensures { λ _. ⌜ RowsMade m (pathOf m i (now (half .entry))) (now (rows .entry)) (now (rows .exit)) ⌝ }
+    ensures { λ _. ⌜
+        RowsMade m (pathOf m i (now (half .entry))) (now (rows .entry)) (now (rows .exit)) ⌝ }
 {
     if m == 0 {
         return;
@@ -101,7 +109,7 @@ fn make_rows(rows: &mut [i32], half: &[u8], m: usize, i: usize)
 // Makes all rows stand for index i of the path.
 fn make_all(readings: &[i16], rows: &mut [i32], half: &[u8], m: usize, i: usize)
     requires { ⌜ TopReady m i (now readings) (now rows) (now half) ⌝ }
-    ensures { λ _. ⌜ Stands m (now (readings .entry)) (pathOf m i (take (2 ^ m) (now (half .entry)))) (take (2 ^ m) (now (rows .exit))) ⌝ }
+    ensures { λ _. ⌜ StandsFor m (now (readings .entry)) i (now (half .entry)) (now (rows .exit)) ⌝ }
 {
     let n = readings.len();
     let h = n / 2;
@@ -116,26 +124,27 @@ fn make_all(readings: &[i16], rows: &mut [i32], half: &[u8], m: usize, i: usize)
 
 // Makes the rows below the row of 2^m sums stand for its first index.
 fn lower_rows(rows: &mut [i32], m: usize)
-    requires { ⌜ (m ≤ 8) × (2 ^ m + 2 ^ m ≤ length (now rows)) × (sizes (rowOf (2 ^ m) (now rows)) < 2 ^ 31) ⌝ }
+    requires { ⌜ (m ≤ 8) × (2 ^ m + 2 ^ m ≤ length (now rows))
+        × (sizes (rowOf (2 ^ m) (now rows)) < 2 ^ 31) ⌝ }
     ensures { λ _. ⌜ RowsMade m [] (now (rows .entry)) (now (rows .exit)) ⌝ }
 {
     let mut t = m;
     while 0 < t {
         t -= 1;
-        let h = length(t);
+        let h = power(t);
         rows::lower_row(rows, h);
     }
 }
 
-// The rows stand for the index before i: makes those of the blocks that start at i again.
+// Rows that stand for the index before i are made to stand for i.
 fn refresh(readings: &[i16], rows: &mut [i32], half: &[u8], m: usize, i: usize)
     requires { ⌜ TopReady m i (now readings) (now rows) (now half)
         × (0 < i)
-        × Stands m (now readings) (take (i - 1) (pathOf m i (take (2 ^ m) (now half)))) (take (2 ^ m) (now rows)) ⌝ }
-    ensures { λ _. ⌜ Stands m (now (readings .entry)) (pathOf m i (take (2 ^ m) (now (half .entry)))) (take (2 ^ m) (now (rows .exit))) ⌝ }
+        × StandsBefore m (now readings) i (now half) (now rows) ⌝ }
+    ensures { λ _. ⌜ StandsFor m (now (readings .entry)) i (now (half .entry)) (now (rows .exit)) ⌝ }
 {
     let t = lowest_one(i);
-    let h = length(t);
+    let h = power(t);
     if h + h == readings.len() {
         rows::upper_top(readings, rows, h, half);
         lower_rows(rows, t);
@@ -145,7 +154,8 @@ fn refresh(readings: &[i16], rows: &mut [i32], half: &[u8], m: usize, i: usize)
     lower_rows(rows, t);
 }
 
-// The value at index i of the path that half holds. Where fresh, the rows stand for the index before.
+// The value at index i of the path that half holds, and rows that stand for i. Where fresh, they
+// stand for the index before, and only those of the blocks that start at i are made again.
 pub fn value(
     readings: &[i16],
     rows: &mut [i32; 256],
@@ -157,8 +167,7 @@ pub fn value(
     requires { ⌜ ValueReady (now readings) m fresh i (now rows) (now half) ⌝ }
     ensures { λ r. ⌜
         (r ≡ value m (now (readings .entry)) (pathOf m i (take (2 ^ m) (now (half .entry)))))
-        × Stands m (now (readings .entry)) (pathOf m i (take (2 ^ m) (now (half .entry))))
-        (take (2 ^ m) (now (rows .exit))) ⌝ }
+        × StandsFor m (now (readings .entry)) i (now (half .entry)) (now (rows .exit)) ⌝ }
 {
     if m == 0 {
         return readings[0] as i32;

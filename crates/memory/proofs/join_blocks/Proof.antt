@@ -16,21 +16,21 @@ abbrev μ-loop : tie.MeasureT-loop
 loop-holds : tie.Need-loop-holds Inv-loop μ-loop
 loop-holds c = join-start (c .before .args .e) (c .before .args .b) (c .before .args .half .now) (c .before .pre .bits)
 
-length-requires : tie.Need-length-requires Inv-loop μ-loop
-length-requires c κs = omega arith
+power-requires : tie.Need-power-requires Inv-loop μ-loop
+power-requires c κs = omega arith
 
 sub-fold : tie.Need-sub-fold Inv-loop μ-loop
 sub-fold c =
     let g = c .before .before .before .before in
     let o = c .before .before .loop in
-    let n = c .length in
+    let n = c .power in
     omega (arith, turn-within (g .args .e) (g .args .b) (o .t) (n .result) (g .args .half .now) (g .pre) (omega arith) (n .ensures))
 
 sub-fold-2 : tie.Need-sub-fold-2 Inv-loop μ-loop
 sub-fold-2 c =
     let g = c .before .before .before .before in
     let o = c .before .before .loop in
-    let n = c .length in
+    let n = c .power in
     omega (arith, turn-within (g .args .e) (g .args .b) (o .t) (n .result) (g .args .half .now) (g .pre) (omega arith) (n .ensures))
 
 sub-fold-3 : tie.Need-sub-fold-3 Inv-loop μ-loop
@@ -46,7 +46,7 @@ fold-requires : tie.Need-fold-requires Inv-loop μ-loop
 fold-requires c κs =
     let g = c .before .before .before .before .before in
     let o = c .before .before .before .loop in
-    let n = c .before .length in
+    let n = c .before .power in
     turn-asked (g .args .e) (g .args .b) (o .t) (n .result) (g .args .half .now) (g .pre) (omega arith) (n .ensures) (o .half) (o .inv .same) (o .inv .bits)
 
 add-t : tie.Need-add-t Inv-loop μ-loop
@@ -59,7 +59,7 @@ loop-again : tie.Need-loop-again Inv-loop μ-loop
 loop-again c =
     let g = c .before .before .before .before .before .before .before .before in
     let o = c .before .before .before .before .before .before .loop in
-    let n = c .before .before .before .before .length in
+    let n = c .before .before .before .before .power in
     let a = c .before .before .fold in
     join-turn (g .args .e) (g .args .b) (o .t) (n .result) (g .args .half .now) (g .pre) (omega arith) (n .ensures) (o .half) (o .inv .same) (o .inv .bits)
     (a .last .0) (a .ensures) (o .inv .is)
@@ -80,7 +80,7 @@ join-blocks-spec =
     Inv-loop
     μ-loop
     loop-holds
-    length-requires
+    power-requires
     sub-fold
     sub-fold-2
     sub-fold-3

@@ -16,14 +16,14 @@ loop-holds c = lower-start (c .args .m) (c .args .rows .now) (c .pre .2)
 sub-t : tie.Need-sub-t Inv-loop μ-loop
 sub-t c = omega arith
 
-length-requires : tie.Need-length-requires Inv-loop μ-loop
-length-requires c κs = omega arith
+power-requires : tie.Need-power-requires Inv-loop μ-loop
+power-requires c κs = omega arith
 
 lower-row-requires : tie.Need-lower-row-requires Inv-loop μ-loop
 lower-row-requires c κs =
     let g = c .before .before .before .before in
     let o = c .before .before .before .loop in
-    let n = c .before .length in
+    let n = c .before .power in
     lower-asked (g .args .m) (o .t) (n .result) (g .args .rows .now) (o .rows) (o .inv) (g .pre .1) (omega arith) (n .ensures)
 
 loop-less : tie.Need-loop-less Inv-loop μ-loop
@@ -33,7 +33,7 @@ loop-again : tie.Need-loop-again Inv-loop μ-loop
 loop-again c =
     let g = c .before .before .before .before .before .before in
     let o = c .before .before .before .before .before .loop in
-    let n = c .before .before .before .length in
+    let n = c .before .before .before .power in
     let a = c .before .lower-row in
     lower-turn (g .args .m) (o .t) (n .result) (g .args .rows .now) (o .rows) (o .inv) (g .pre .1) (omega arith) (n .ensures) (a .last .0) (a .ensures)
 
@@ -52,7 +52,7 @@ lower-rows-spec =
     μ-loop
     loop-holds
     sub-t
-    length-requires
+    power-requires
     lower-row-requires
     loop-less
     loop-again

@@ -19,21 +19,21 @@ loop-holds c = part-start (c .before .args .e) (c .before .args .b) (c .before .
 sub-t : tie.Need-sub-t Inv-loop μ-loop
 sub-t c = omega arith
 
-length-requires : tie.Need-length-requires Inv-loop μ-loop
-length-requires c κs = omega arith
+power-requires : tie.Need-power-requires Inv-loop μ-loop
+power-requires c κs = omega arith
 
 sub-fold : tie.Need-sub-fold Inv-loop μ-loop
 sub-fold c =
     let g = c .before .before .before .before in
     let o = c .before .before .loop in
-    let n = c .length in
+    let n = c .power in
     omega (arith, turn-within (g .args .e) (g .args .b) (o .t - 1) (n .result) (g .args .half .now) (g .pre) (omega arith) (n .ensures))
 
 sub-fold-2 : tie.Need-sub-fold-2 Inv-loop μ-loop
 sub-fold-2 c =
     let g = c .before .before .before .before in
     let o = c .before .before .loop in
-    let n = c .length in
+    let n = c .power in
     omega (arith, turn-within (g .args .e) (g .args .b) (o .t - 1) (n .result) (g .args .half .now) (g .pre) (omega arith) (n .ensures))
 
 sub-fold-3 : tie.Need-sub-fold-3 Inv-loop μ-loop
@@ -49,7 +49,7 @@ fold-requires : tie.Need-fold-requires Inv-loop μ-loop
 fold-requires c κs =
     let g = c .before .before .before .before .before in
     let o = c .before .before .before .loop in
-    let n = c .before .length in
+    let n = c .before .power in
     turn-asked (g .args .e) (g .args .b) (o .t - 1) (n .result) (g .args .half .now) (g .pre) (omega arith) (n .ensures) (o .half) (o .inv .same) (o .inv .bits)
 
 loop-less : tie.Need-loop-less Inv-loop μ-loop
@@ -59,7 +59,7 @@ loop-again : tie.Need-loop-again Inv-loop μ-loop
 loop-again c =
     let g = c .before .before .before .before .before .before .before .before in
     let o = c .before .before .before .before .before .before .loop in
-    let n = c .before .before .before .before .length in
+    let n = c .before .before .before .before .power in
     let a = c .before .before .fold in
     let e : o .t ≡ suc (o .t - 1) = omega arith in
     part-turn (g .args .e) (g .args .b) (o .t - 1) (n .result) (g .args .half .now) (g .pre) (omega arith) (n .ensures) (o .half) (o .inv .same) (o .inv .bits)
@@ -80,7 +80,7 @@ part-blocks-spec =
     μ-loop
     loop-holds
     sub-t
-    length-requires
+    power-requires
     sub-fold
     sub-fold-2
     sub-fold-3

@@ -10,8 +10,8 @@ use Rattle.memory.proofs.refresh.Tie as tie
 lowest-one-requires : tie.Need-lowest-one-requires
 lowest-one-requires c κs = search needs
 
-length-requires : tie.Need-length-requires
-length-requires c κs =
+power-requires : tie.Need-power-requires
+power-requires c κs =
     let g = c .before .before in
     omega (arith, lowest-within (g .args .m) (c .lowest-one .result) (g .args .i) (c .lowest-one .ensures) (g .pre .0 .inside), g .pre .0 .most)
 
@@ -19,7 +19,7 @@ add-if1 : tie.Need-add-if1
 add-if1 c =
     let g = c .before .before .before in
     let t = c .before .lowest-one in
-    let h = c .length in
+    let h = c .power in
     omega (arith, h .ensures, pow-mono (lowest-within (g .args .m) (t .result) (g .args .i) (t .ensures) (g .pre .0 .inside)), pow-mono (g .pre .0 .most))
 
 upper-top-requires : tie.Need-upper-top-requires
@@ -32,7 +32,7 @@ lower-rows-requires c κs =
     let s = g .args .rows .now in
     let y = g .args .half .now in
     let t = c .before .before .before .before .before .before .lowest-one in
-    let h = c .before .before .before .before .before .length in
+    let h = c .before .before .before .before .before .power in
     let a = c .before .before .upper-top in
     below-top (g .args .m) (g .args .i) (t .result) (h .result) l s y (g .pre .0) (g .pre .2) (t .ensures) (h .ensures) (omega arith) (a .last .1 .0)
     (a .ensures)
@@ -47,7 +47,7 @@ returns c =
     let s = g .args .rows .now in
     let y = g .args .half .now in
     let t = c .before .before .before .before .before .before .before .before .lowest-one in
-    let h = c .before .before .before .before .before .before .before .length in
+    let h = c .before .before .before .before .before .before .before .power in
     let a = c .before .before .before .before .upper-top in
     let b = c .before .lower-rows in
     refreshed-top (g .args .m) (g .args .i) (t .result) (h .result) l s y (g .pre .0) (g .pre .2) (t .ensures) (h .ensures) (omega arith) (a .last .1 .0)
@@ -60,7 +60,7 @@ sub-upper-row c =
     let s = g .args .rows .now in
     let y = g .args .half .now in
     let t = c .before .before .before .lowest-one in
-    let h = c .before .before .length in
+    let h = c .before .before .power in
     start-within (g .args .m) (g .args .i) (t .result) (h .result) l s y (g .pre .0) (g .pre .2) (t .ensures) (h .ensures)
 
 sub-upper-row-2 : tie.Need-sub-upper-row-2
@@ -79,7 +79,7 @@ upper-row-requires c κs =
     let s = g .args .rows .now in
     let y = g .args .half .now in
     let t = c .before .before .before .before .lowest-one in
-    let h = c .before .before .before .length in
+    let h = c .before .before .before .power in
     from-rows (g .args .m) (g .args .i) (t .result) (h .result) l s y (g .pre .0) (g .pre .2) (t .ensures) (h .ensures) (λ e. omega arith)
 
 lower-rows-requires-2 : tie.Need-lower-rows-requires-2
@@ -89,7 +89,7 @@ lower-rows-requires-2 c κs =
     let s = g .args .rows .now in
     let y = g .args .half .now in
     let t = c .before .before .before .before .before .before .before .lowest-one in
-    let h = c .before .before .before .before .before .before .length in
+    let h = c .before .before .before .before .before .before .power in
     let a = c .before .before .upper-row in
     below-rows (g .args .m) (g .args .i) (t .result) (h .result) l s y (g .pre .0) (g .pre .2) (t .ensures) (h .ensures) (λ e. omega arith) (a .last .0)
     (a .ensures)
@@ -104,7 +104,7 @@ returns-2 c =
     let s = g .args .rows .now in
     let y = g .args .half .now in
     let t = c .before .before .before .before .before .before .before .before .before .lowest-one in
-    let h = c .before .before .before .before .before .before .before .before .length in
+    let h = c .before .before .before .before .before .before .before .before .power in
     let a = c .before .before .before .before .upper-row in
     let b = c .before .lower-rows2 in
     refreshed-inner (g .args .m) (g .args .i) (t .result) (h .result) l s y (g .pre .0) (g .pre .2) (t .ensures) (h .ensures) (λ e. omega arith) (a .last .0)
@@ -115,7 +115,7 @@ refresh-spec =
     tie.close
     (tie.spec
     lowest-one-requires
-    length-requires
+    power-requires
     add-if1
     upper-top-requires
     lower-rows-requires
