@@ -26,7 +26,7 @@ join-blocks-requires : tie.Need-join-blocks-requires
 join-blocks-requires c κs =
     let g = c .before .before in
     let y = g .args .half .now in
-    let room : 2 ^ g .args .m ≤ length y = omega (arith, pow-mono (g .pre .0), length-set y (g .args .i) (g .args .bit)) in
+    let room : 2 ^ g .args .m ≤ length y = omega (arith, pow-mono (g .pre .0), simp length-set at (c .join-blocks-arg .given .0 .1)) in
     let t = c .before .lowest-one in
     blocks-ready (g .args .m) (t .result) (g .args .i) y (t .ensures) (g .pre .1) room (g .pre .3) (g .pre .0) (set y (g .args .i) (g .args .bit))
     (length-set y (g .args .i) (g .args .bit)) (bits-set y (g .args .i) (g .args .bit) (g .pre .2) (g .pre .3))
@@ -35,7 +35,7 @@ returns : tie.Need-returns
 returns c =
     let g = c .before .before .before in
     let y = g .args .half .now in
-    let room : 2 ^ g .args .m ≤ length y = omega (arith, pow-mono (g .pre .0), length-set y (g .args .i) (g .args .bit)) in
+    let room : 2 ^ g .args .m ≤ length y = omega (arith, pow-mono (g .pre .0), simp length-set at (c .before .join-blocks-arg .given .0 .1)) in
     let t = c .before .before .lowest-one in
     let w = whole-put (g .args .m) (t .result) (g .args .i) y (t .ensures) (g .pre .1) room (g .pre .3) (g .args .bit) (g .pre .2) in
     let e = sym (c .join-blocks .ensures) in (
