@@ -132,43 +132,40 @@ typedef struct {
     int out;
 } plain_state;
 
-/* makes the rows stand for index i of the block whose row stands at rows + n; where fresh they stand for the index before */
-static int32_t plain_value_row(int32_t *rows, const uint8_t *half, size_t n, int fresh, size_t i) {
-    while (n > 1) {
-        size_t h = n / 2;
+/* makes all rows below the row of n sums stand for index i of its block */
+static void plain_make_rows(int32_t *rows, const uint8_t *half, size_t n, size_t i) {
+    for (size_t h = n / 2; h > 0; h /= 2) {
         if (i < h) {
-            if (!fresh || i == 0) {
-                plain_lower_row(rows, h);
-                fresh = 0;
-            }
+            plain_lower_row(rows, h);
         } else {
-            if (!fresh || i == h) {
-                plain_upper_row(rows, h, half);
-                fresh = 0;
-            }
+            plain_upper_row(rows, h, half);
             half += h;
             i -= h;
         }
-        n = h;
     }
-    return rows[1];
 }
 
+/* the value at index i of the path; where fresh the rows stand for the index before, and only those of blocks that start at i change */
 static int32_t plain_value(const int16_t *l, int32_t *rows, const uint8_t *half, size_t n, int fresh, size_t i) {
     if (n == 1) return l[0];
+    if (fresh && i > 0) {
+        size_t h = i & -i;
+        if (2 * h == n)
+            plain_upper_top(l, rows, h, half);
+        else
+            plain_upper_row(rows, h, half + i - h);
+        for (h /= 2; h > 0; h /= 2) plain_lower_row(rows, h);
+        return rows[1];
+    }
     size_t h = n / 2;
     if (i < h) {
-        if (!fresh || i == 0) {
-            plain_lower_top(l, rows, h);
-            fresh = 0;
-        }
-        return plain_value_row(rows, half, h, fresh, i);
-    }
-    if (!fresh || i == h) {
+        plain_lower_top(l, rows, h);
+        plain_make_rows(rows, half, h, i);
+    } else {
         plain_upper_top(l, rows, h, half);
-        fresh = 0;
+        plain_make_rows(rows, half + h, h, i - h);
     }
-    return plain_value_row(rows, half + h, h, fresh, i - h);
+    return rows[1];
 }
 
 static void plain_put(uint8_t *half, size_t i, uint8_t bit) {
