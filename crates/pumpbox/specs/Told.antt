@@ -1,11 +1,14 @@
 -- What the exports tell: the outcome of each public call, as C sees it.
 use mathlib.Core.List.{List, [], _∷_}
 use Prim.Native.Nat.{ℕ}
+use lib.ListN.{length}
 use Rattle.code.specs.Sound.{numberOf, placeOf, penaltyOf, visitsOf}
 use Rattle.encode.specs.Outcome as Encode
 use Rattle.quick.specs.Outcome as Quick
 use Rattle.quick.specs.declared.Read.{Read}
 use Rattle.quick.specs.declared.Read.the-variants as read
+use Rattle.record.specs.declared.Header.{Header}
+use Rattle.record.specs.Reader as Reader
 use Rattle.search.specs.Outcome as Search
 use Rattle.search.specs.declared.Searched.{Searched}
 use Rattle.search.specs.declared.Searched.the-variants.{Found, Refused}
@@ -34,6 +37,23 @@ shownQuick o = told (o .number) (numbers (o .penalty) 0 0 (o .place)) (o .bits �
 -- an outcome of a search
 abbrev pub shownSearch : Search.Outcome → Told
 shownSearch o = told (o .number) (numbers (o .penalty) (o .gap) (o .visits) (o .place)) (o .bits ∷ o .word ∷ [])
+
+-- what a record's bytes say, and its packed part: r, m, the part's length, place
+abbrev pub shownPart : Header → List ℕ → Told
+shownPart h part = let t = Reader.told h in told (t .number) (numbers (t .r) (t .m) (length part) (t .place)) []
+
+-- ---- the parts of a header
+abbrev pub headerNumber : Header → ℕ
+headerNumber h = Reader.told h .number
+
+abbrev pub headerR : Header → ℕ
+headerR h = Reader.told h .r
+
+abbrev pub headerM : Header → ℕ
+headerM h = Reader.told h .m
+
+abbrev pub headerPlace : Header → ℕ
+headerPlace h = Reader.told h .place
 
 -- ---- the parts of a quick reading's answer
 abbrev pub readNumber : Read → ℕ

@@ -2,15 +2,18 @@
 use mathlib.Core.Path.{_≡_, refl, ap, ap₂, _∙_}
 use mathlib.Core.List.{List, [], _∷_}
 use Prim.Native.Nat.{ℕ}
+use lib.ListN.{length}
 use Rattle.encode.specs.declared.Encoded.{Encoded}
 use Rattle.encode.specs.Outcome as Encode
 use Rattle.quick.specs.declared.Read.{Read}
 use Rattle.quick.specs.declared.Read.the-variants as read
 use Rattle.quick.specs.Outcome as Quick
+use Rattle.record.specs.declared.Header.{Header}
+use Rattle.record.specs.Reader as Reader
 use Rattle.search.specs.declared.Searched.{Searched}
 use Rattle.search.specs.declared.Searched.the-variants.{Found, Refused}
 use Rattle.search.specs.Outcome as Search
-use Rattle.pumpbox.specs.Told.{numbers, told, shown, shownQuick, shownSearch, readNumber, readPenalty, readPlace, searchedNumber, searchedNumbers}
+use Rattle.pumpbox.specs.Told.{numbers, told, shown, shownQuick, shownSearch, shownPart, headerNumber, headerR, headerM, headerPlace, readNumber, readPenalty, readPlace, searchedNumber, searchedNumbers}
 
 pub told-encoded : (answer : Encoded) (buffer : List ℕ) (o : Encode.Outcome) (returned place : ℕ) (out : List ℕ)
     → Encode.told answer buffer ≡ o → returned ≡ Encode.numberIn answer → place ≡ Encode.placeIn answer → out ≡ numbers 0 0 0 place
@@ -38,3 +41,21 @@ pub told-searched : (answer : Searched) (bits word : List ℕ) (o : Search.Outco
     → Search.told answer bits word ≡ o → returned ≡ searchedNumber answer → out ≡ searchedNumbers answer → told returned out (bits ∷ word ∷ []) ≡ shownSearch o
 told-searched answer bits word o returned out e f g =
     ap₂ (λ (n : ℕ) (l : List ℕ). told n l (bits ∷ word ∷ [])) f g ∙ by-answer answer bits word ∙ ap shownSearch e
+
+-- a header that tells what the bytes' header does, and their packed part
+pub told-part : (answer header : Header) (given part out : List ℕ) (returned r m place : ℕ)
+    → Reader.told answer ≡ Reader.told header → given ≡ part → returned ≡ headerNumber answer → r ≡ headerR answer → m ≡ headerM answer
+    → place ≡ headerPlace answer → out ≡ numbers r m (length given) place → told returned out [] ≡ shownPart header part
+told-part answer header given part out returned r m place e f n a b p o =
+    cc (
+      o,
+      ap length f,
+      n,
+      a,
+      b,
+      p,
+      ap (λ (t : Reader.Told). t .number) e,
+      ap (λ (t : Reader.Told). t .place) e,
+      ap (λ (t : Reader.Told). t .r) e,
+      ap (λ (t : Reader.Told). t .m) e,
+    )

@@ -1,14 +1,17 @@
 // The C exports, one per public call: include/cinorbis.h says what each means. A call returns 0 or its refusal's number.
 use encode::Encoded;
 use quick::Read;
+use record::Header;
 use search::Searched;
 ghost use mathlib.Core.Path.{_≡_};
 ghost use mathlib.Core.List.{[], _∷_};
 ghost use Rattle.encode.specs.Outcome.{numberIn, placeIn, encoding, inverting};
 ghost use Rattle.quick.specs.Outcome.{reading};
+ghost use Rattle.record.specs.Reader.{headerOf, partBy};
+ghost use Rattle.record.specs.Searching.{searchingRecord};
 ghost use Rattle.search.specs.Outcome.{searching};
 ghost use Rattle.code.specs.Sound.{defaultAllowance};
-ghost use Rattle.pumpbox.specs.Told.{numbers, told, shown, shownQuick, shownSearch, readNumber, readPenalty, readPlace, searchedNumber, searchedPenalty, searchedGap, searchedVisits, searchedPlace, searchedNumbers};
+ghost use Rattle.pumpbox.specs.Told.{numbers, told, shown, shownQuick, shownSearch, shownPart, headerNumber, headerR, headerM, headerPlace, readNumber, readPenalty, readPlace, searchedNumber, searchedPenalty, searchedGap, searchedVisits, searchedPlace, searchedNumbers};
 
 // Penalty, gap, visits and place, in the order of the header's struct.
 fn put_numbers(out: &mut [u64; 4], penalty: u32, gap: u32, visits: u32, place: usize)
@@ -222,4 +225,80 @@ pub extern "C" fn cinorbis_search(
 {
     let answer = search::search(r, m, readings, bits, word);
     put_searched(answer, out)
+}
+
+#[no_mangle]
+pub extern "C" fn cinorbis_search_record(
+    allowed: u32,
+    bytes: &[u8],
+    bits: &mut [u8],
+    word: &mut [u8],
+    out: &mut [u64; 4],
+) -> u32
+    ensures { λ number. ⌜ told number (now (out .exit)) (now (bits .exit) ∷ now (word .exit) ∷ [])
+        ≡ shownSearch (searchingRecord allowed (now (bytes .entry)) (now (bits .entry)) (now (word .entry))) ⌝ }
+{
+    let answer = record::search_record(bytes, allowed, bits, word);
+    put_searched(answer, out)
+}
+
+// The parts of a record's header.
+fn header_number(header: Header) -> u32
+    ensures { λ r. ⌜ r ≡ headerNumber header ⌝ }
+{
+    match header {
+        Header::Record(_) => 0,
+        Header::Refused(why) => why.number(),
+    }
+}
+
+fn header_r(header: Header) -> u32
+    ensures { λ r. ⌜ r ≡ headerR header ⌝ }
+{
+    match header {
+        Header::Record(code) => code.r,
+        Header::Refused(_) => 0,
+    }
+}
+
+fn header_m(header: Header) -> u32
+    ensures { λ r. ⌜ r ≡ headerM header ⌝ }
+{
+    match header {
+        Header::Record(code) => code.m,
+        Header::Refused(_) => 0,
+    }
+}
+
+fn header_place(header: Header) -> usize
+    ensures { λ r. ⌜ r ≡ headerPlace header ⌝ }
+{
+    match header {
+        Header::Record(_) => 0,
+        Header::Refused(why) => why.place(),
+    }
+}
+
+// r, m, length and place, in the order of the header's struct.
+fn put_part(out: &mut [u64; 4], r: u32, m: u32, length: usize, place: usize)
+    ensures { λ _. ⌜ now (out .exit) ≡ numbers r m length place ⌝ }
+{
+    *out = [r as u64, m as u64, length as u64, place as u64];
+}
+
+#[no_mangle]
+pub extern "C" fn cinorbis_record(bytes: &[u8], out: &mut [u64; 4]) -> u32
+    ensures { λ number. ⌜ told number (now (out .exit)) []
+        ≡ shownPart (headerOf (now (bytes .entry))) (partBy (headerOf (now (bytes .entry))) (now (bytes .entry))) ⌝ }
+{
+    let header = record::header_of(bytes);
+    let part = record::packed(bytes);
+    put_part(
+        out,
+        header_r(header),
+        header_m(header),
+        part.len(),
+        header_place(header),
+    );
+    header_number(header)
 }
