@@ -36,7 +36,7 @@ module _ (e h : ℕ) (some : h + h ≤ e) where
   long-block : (x : List ℕ) → e ≤ length x → length (take (h + h) (drop (e - h - h) x)) ≡ h + h
   long-block x room = length-take-le (h + h) (drop (e - h - h) x) (simp length-drop (omega arith))
 
-  pub length-foldAt : (x : List ℕ) → e ≤ length x → length (foldAt e h x) ≡ length x
+  length-foldAt : (x : List ℕ) → e ≤ length x → length (foldAt e h x) ≡ length x
   length-foldAt x room =
       let k = e - h - h in
       let f = folded h (take (h + h) (drop k x)) in
@@ -50,14 +50,14 @@ module _ (e h : ℕ) (some : h + h ≤ e) where
         length-drop e x,
       )
 
-  pub bits-foldAt : (x : List ℕ) → Bits x → Bits (foldAt e h x)
+  bits-foldAt : (x : List ℕ) → Bits x → Bits (foldAt e h x)
   bits-foldAt x b =
       bits-append (take (e - h - h) x) (folded h (take (h + h) (drop (e - h - h) x)) ++ drop e x) (bits-take (e - h - h) x b)
       (bits-append (folded h (take (h + h) (drop (e - h - h) x))) (drop e x)
       (bits-folded h (take (h + h) (drop (e - h - h) x)) (bits-take (h + h) (drop (e - h - h) x) (bits-drop (e - h - h) x b))) (bits-drop e x b))
 
   -- in the first part of a list
-  pub foldAt-first : (a c : List ℕ) → e ≤ length a → foldAt e h (a ++ c) ≡ foldAt e h a ++ c
+  foldAt-first : (a c : List ℕ) → e ≤ length a → foldAt e h (a ++ c) ≡ foldAt e h a ++ c
   foldAt-first a c room =
       let k = e - h - h in
       let f = folded h (take (h + h) (drop k a)) in
@@ -69,7 +69,7 @@ module _ (e h : ℕ) (some : h + h ≤ e) where
       ∙ sym (append-assoc (take k a) (f ++ drop e a) c)
 
   -- in the rest of it
-  pub foldAt-second : (n : ℕ) (a c : List ℕ) → length a ≡ n → foldAt (n + e) h (a ++ c) ≡ a ++ foldAt e h c
+  foldAt-second : (n : ℕ) (a c : List ℕ) → length a ≡ n → foldAt (n + e) h (a ++ c) ≡ a ++ foldAt e h c
   foldAt-second n a c l =
       let k = e - h - h in
       let place : n + e - h - h ≡ length a + k = omega arith in
@@ -80,7 +80,7 @@ module _ (e h : ℕ) (some : h + h ≤ e) where
       ∙ append-assoc a (take k c) (folded h (take (h + h) (drop k c)) ++ drop e c)
 
   -- as a part that is lent and comes back
-  pub foldAt-lent : (x : List ℕ) → e ≤ length x
+  foldAt-lent : (x : List ℕ) → e ≤ length x
       → putMid (e - h - h) (e - (e - h - h)) x (folded h (midOf (e - h - h) (e - (e - h - h)) x)) ≡ foldAt e h x
   foldAt-lent x room =
       let size : e - (e - h - h) ≡ h + h = omega arith in
@@ -101,17 +101,12 @@ room-for e t k = omega (arith, two-pow-succ t)
 less : (e t : ℕ) → 2 ^ suc t ≤ e → 2 ^ t ≤ e
 less e t k = omega (arith, two-pow-succ t)
 
-pub length-joined : (e t : ℕ) (x : List ℕ) → 2 ^ t ≤ e → e ≤ length x → length (joined e t x) ≡ length x
+length-joined : (e t : ℕ) (x : List ℕ) → 2 ^ t ≤ e → e ≤ length x → length (joined e t x) ≡ length x
 unfolding joined
 length-joined e zero x k room = refl
 length-joined e (suc t) x k room =
     let l = length-joined e t x (less e t k) room in
     length-foldAt e (2 ^ t) (room-for e t k) (joined e t x) (omega arith) ∙ l
-
-pub bits-joined : (e t : ℕ) (x : List ℕ) → 2 ^ t ≤ e → Bits x → Bits (joined e t x)
-unfolding joined
-bits-joined e zero x k b = b
-bits-joined e (suc t) x k b = bits-foldAt e (2 ^ t) (room-for e t k) (joined e t x) (bits-joined e t x (less e t k) b)
 
 joined-first : (e t : ℕ) (a c : List ℕ) → 2 ^ t ≤ e → e ≤ length a → joined e t (a ++ c) ≡ joined e t a ++ c
 unfolding joined
@@ -140,7 +135,7 @@ parted-second n e zero a c l k = refl
 parted-second n e (suc t) a c l k =
     ap (parted (n + e) t) (foldAt-second e (2 ^ t) (room-for e t k) n a c l) ∙ parted-second n e t a (foldAt e (2 ^ t) c) l (less e t k)
 
-pub length-parted : (e t : ℕ) (x : List ℕ) → 2 ^ t ≤ e → e ≤ length x → length (parted e t x) ≡ length x
+length-parted : (e t : ℕ) (x : List ℕ) → 2 ^ t ≤ e → e ≤ length x → length (parted e t x) ≡ length x
 unfolding parted
 length-parted e zero x k room = refl
 length-parted e (suc t) x k room =

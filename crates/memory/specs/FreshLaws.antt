@@ -28,7 +28,7 @@ use Rattle.memory.specs.RefreshLaws.{refreshed}
 
 module _ (m i t h : ℕ) (l s : List ℤ) (y : List ℕ) (r : TopReady m i l s y) (before : Stands m l (take (i - 1) (pathOf m i (take (2 ^ m) y))) (take (2 ^ m) s))
     (o : LowestOne t i) (is : h ≡ 2 ^ t) where
-  pub row-within : t < m
+  row-within : t < m
   row-within = lowest-within m t i o (r .inside)
 
   pub start-within : h ≤ i

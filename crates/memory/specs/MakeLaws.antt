@@ -56,7 +56,7 @@ module _ (p h : ℕ) (half : h ≡ 2 ^ p) (s v s1 : List ℤ) (room : h + h ≤ 
   pub step-row : rowOf h s1 ≡ v
   step-row = rw is (rowOf-withRow h s v room long)
 
-  pub step-ready : sizes v < 2 ^ 31 → (i : ℕ) (x : List ℕ) → PathReady p i x → RowReady p i s1 x
+  step-ready : sizes v < 2 ^ 31 → (i : ℕ) (x : List ℕ) → PathReady p i x → RowReady p i s1 x
   step-ready small i x r =
       let l : length s1 ≡ length s = rw is (length-withRow h s v room long) in
       record { path = r; room = omega arith; small = subst (λ (k : ℕ). sizes (rowOf k s1) < 2 ^ 31) half (rw step-row small) }

@@ -24,12 +24,12 @@ use Rattle.memory.specs.Memory.{pathOf, Stands}
 use Rattle.memory.specs.MemoryLaws.{path-lower, path-upper, length-path}
 
 -- ---- by halves
-pub stands-lower : (p : ℕ) (l : List ℤ) (u : List ℕ) (s : List ℤ) → length u < 2 ^ p
+stands-lower : (p : ℕ) (l : List ℤ) (u : List ℕ) (s : List ℤ) → length u < 2 ^ p
     → rowOf (2 ^ p) s ≡ lowerRow (2 ^ p) l → Stands p (lowerRow (2 ^ p) l) u (take (2 ^ p) s) → Stands (suc p) l u s
 unfolding Stands
 stands-lower p l u s k e f = rw (lt-ltb (length u) (2 ^ p) k) (e, f)
 
-pub stands-upper : (p : ℕ) (l : List ℤ) (a u : List ℕ) (s : List ℤ) → length a ≡ 2 ^ p → Bits a
+stands-upper : (p : ℕ) (l : List ℤ) (a u : List ℕ) (s : List ℤ) → length a ≡ 2 ^ p → Bits a
     → rowOf (2 ^ p) s ≡ upperRow (2 ^ p) l a → Stands p (upperRow (2 ^ p) l a) u (take (2 ^ p) s) → Stands (suc p) l (transform p a ++ u) s
 unfolding Stands
 stands-upper p l a u s la b e f =
