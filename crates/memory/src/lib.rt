@@ -1,7 +1,7 @@
 // The walk's memory: the value at the next index, a bit put on the path and taken back.
 ghost use mathlib.Core.Path.{_≡_};
 ghost use mathlib.Core.List.{_++_, _∷_, []};
-ghost use Prim.Native.Nat.{ℕ, _+_, _-_, _^_, _≤_, _<_};
+ghost use Prim.Native.Nat.{_+_, _^_, _≤_, _<_};
 ghost use lib.ListN.{length, take};
 ghost use Rattle.numbers.specs.Lowest.{LowestOne};
 ghost use Rattle.words.specs.Bits.{Bits};
