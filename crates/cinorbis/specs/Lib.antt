@@ -4,3 +4,5 @@ pub mod Program
 pub mod Example
 pub mod Step
 pub mod StepLaws
+pub mod State
+pub mod StateLaws
