@@ -3,8 +3,6 @@ ghost use mathlib.Core.Path.{_≡_};
 ghost use mathlib.Core.Bool.{false};
 ghost use Prim.Native.Nat.{ℕ, _^_, _≤_, _<_};
 ghost use lib.ListN.{length, getD, take};
-ghost use lib.IntN.{natAbs};
-ghost use Rattle.decoding.specs.Readings.{loss};
 ghost use Rattle.decoding.specs.Quick.{hard};
 ghost use Rattle.walk.specs.Progress.{counted, drops, Finished, Ready, Stepped, Walkable, Walked};
 
@@ -47,23 +45,6 @@ fn first_bit(v: i32) -> u8
     ensures { λ r. ⌜ r ≡ hard v ⌝ }
 {
     if v < 0 { 1 } else { 0 }
-}
-
-// What the bit adds to the penalty at the value.
-fn cost(v: i32, bit: u8) -> u32
-    requires { ⌜ natAbs v < 2 ^ 31 ⌝ }
-    ensures { λ r. ⌜ r ≡ loss v bit ⌝ }
-{
-    if bit == 0 {
-        if v < 0 {
-            return (-v) as u32;
-        }
-        return 0;
-    }
-    if v < 0 {
-        return 0;
-    }
-    v as u32
 }
 
 fn copy_front(from: &[u8], to: &mut [u8], n: usize)
@@ -165,7 +146,7 @@ fn frozen_step(
         return y;
     }
     let v = memory::value(readings, rows, half, m, fresh, i);
-    let q = p + cost(v, 0);
+    let q = p + rows::loss(v, 0);
     if dropped(y, q) {
         // it is counted all the same
         return y;
@@ -218,7 +199,7 @@ fn info_step(
     let v = memory::value(readings, rows, half, m, fresh, i);
     let first = first_bit(v);
     let other = 1 - first;
-    let q = p + cost(v, other);
+    let q = p + rows::loss(v, other);
     memory::put(half, m, i, first);
     let z = frozen_step(
         readings,

@@ -27,7 +27,7 @@ use Rattle.walk.proofs.+frozen_step+info_step.Lts-frozen_step as frozen
 use Rattle.walk.proofs.info_step.Reads as info-step
 use Rattle.walk.proofs.info_step.Kinds as info-step-kinds
 use Rattle.walk.proofs.+frozen_step+info_step.Lts-info_step as info-step-lts
-use Rattle.walk.proofs.cost.Reads as cost-reads
+use Rattle.rows.proofs.loss.Reads as loss-reads
 use Rattle.walk.proofs.dropped.Reads as dropped-reads
 use Rattle.walk.proofs.finish.Reads as finish-reads
 use Rattle.walk.proofs.first_bit.Reads as first-bit-reads
@@ -69,8 +69,8 @@ frozen-step-calls t = (
   visit-reads.Learnt,
   value-reads.Asked,
   value-reads.Learnt,
-  cost-reads.Asked,
-  cost-reads.Learnt,
+  loss-reads.Asked,
+  loss-reads.Learnt,
   dropped-reads.Asked,
   dropped-reads.Learnt,
   put-reads.Asked,
@@ -89,8 +89,8 @@ info-step-calls t = (
   value-reads.Learnt,
   first-bit-reads.Asked,
   first-bit-reads.Learnt,
-  cost-reads.Asked,
-  cost-reads.Learnt,
+  loss-reads.Asked,
+  loss-reads.Learnt,
   put-reads.Asked,
   put-reads.Learnt,
   frozen-step-below t,
@@ -120,12 +120,12 @@ frozen-value : (t : ℕ) (c : frozen-step-lts.After-value (frozen-step-calls t) 
 frozen-value t c = toZ-ofZ (record { sfits = c .value .ok }) ∙ c .value .ensures .0
 
 -- the penalty with the bit 0
-frozen-adds : (t : ℕ) (c : frozen-step-lts.After-cost (frozen-step-calls t) (frozen-step-at t) frozen-step.Post)
+frozen-adds : (t : ℕ) (c : frozen-step-lts.After-loss (frozen-step-calls t) (frozen-step-at t) frozen-step.Post)
     → let s = c .before .before .before .before .before .before .before .before .before .before in
-    s .args .p + c .cost .result ≡ s .args .p + loss (frozen-at t s) 0
+    s .args .p + c .loss .result ≡ s .args .p + loss (frozen-at t s) 0
 frozen-adds t c =
     let s = c .before .before .before .before .before .before .before .before .before .before in
-    ap (λ (n : ℕ). s .args .p + n) (c .cost .ensures ∙ ap (λ (v : ℤ). loss v 0) (frozen-value t (c .before)))
+    ap (λ (n : ℕ). s .args .p + n) (c .loss .ensures ∙ ap (λ (v : ℤ). loss v 0) (frozen-value t (c .before)))
 
 -- the path is not full
 frozen-inside : (t : ℕ) (c : frozen-step-lts.Else1 (frozen-step-calls t) (frozen-step-at t) frozen-step.Post)
@@ -194,8 +194,8 @@ frozen-step-value-requires t c κs =
     let start = else1 .before .before in
     value-ready (start .pre .1) (frozen-inside t else1)
 
-frozen-step-cost-requires : (t : ℕ) → frozen-step-lts.Need-cost-requires (frozen-step-calls t) (frozen-step-at t) frozen-step.Post
-frozen-step-cost-requires t c κs =
+frozen-step-loss-requires : (t : ℕ) → frozen-step-lts.Need-loss-requires (frozen-step-calls t) (frozen-step-at t) frozen-step.Post
+frozen-step-loss-requires t c κs =
     let start = c .before .before .before .before .before .before .before .before .before in
     rw (frozen-value t c) (value-small (start .pre .1))
 
@@ -295,13 +295,13 @@ info-same : (t : ℕ) (s : Info-start t) → s .args .p ≡ s .args .p + loss (i
 info-same t s = omega (arith, loss-hard (info-at t s))
 
 -- the penalty with the other bit
-info-adds : (t : ℕ) (c : info-step-lts.After-cost (info-step-calls t) (info-step-at t) info-step.Post)
+info-adds : (t : ℕ) (c : info-step-lts.After-loss (info-step-calls t) (info-step-at t) info-step.Post)
     → let s = c .before .before .before .before .before .before .before .before in
-    s .args .p + c .cost .result ≡ s .args .p + loss (info-at t s) (1 - hard (info-at t s))
+    s .args .p + c .loss .result ≡ s .args .p + loss (info-at t s) (1 - hard (info-at t s))
 info-adds t c =
     let s = c .before .before .before .before .before .before .before .before in
     ap (λ (n : ℕ). s .args .p + n)
-    (c .cost .ensures ∙ ap₂ (λ (v : ℤ) (b : ℕ). loss v (1 - b)) (info-value t (c .before .before)) (info-first t (c .before)))
+    (c .loss .ensures ∙ ap₂ (λ (v : ℤ) (b : ℕ). loss v (1 - b)) (info-value t (c .before .before)) (info-first t (c .before)))
 
 -- what the first extension leaves
 info-extended : (t : ℕ) (c : info-step-lts.After-take-back (info-step-calls t) (info-step-at t) info-step.Post)
@@ -346,8 +346,8 @@ info-step-first-bit-requires t c κs = tt
 info-step-sub-other : (t : ℕ) → info-step-lts.Need-sub-other (info-step-calls t) (info-step-at t) info-step.Post
 info-step-sub-other t c = omega (arith, info-bit t c)
 
-info-step-cost-requires : (t : ℕ) → info-step-lts.Need-cost-requires (info-step-calls t) (info-step-at t) info-step.Post
-info-step-cost-requires t c κs =
+info-step-loss-requires : (t : ℕ) → info-step-lts.Need-loss-requires (info-step-calls t) (info-step-at t) info-step.Post
+info-step-loss-requires t c κs =
     let value = c .before in
     let start = value .before .before .before .before .before .before in
     rw (info-value t value) (value-small (start .pre .1 .0))
@@ -504,7 +504,7 @@ pub +frozen-step+info-step-spec : {M : Type 1} → statement M
     (frozen-step-visit-requires t)
     (frozen-step-returns-3 t)
     (frozen-step-value-requires t)
-    (frozen-step-cost-requires t)
+    (frozen-step-loss-requires t)
     (frozen-step-add-q t)
     (frozen-step-dropped-requires t)
     (frozen-step-returns-4 t)
@@ -520,7 +520,7 @@ pub +frozen-step+info-step-spec : {M : Type 1} → statement M
     (info-step-value-requires t)
     (info-step-first-bit-requires t)
     (info-step-sub-other t)
-    (info-step-cost-requires t)
+    (info-step-loss-requires t)
     (info-step-add-q t)
     (info-step-put-requires t)
     (info-step-add-frozen-step t)
