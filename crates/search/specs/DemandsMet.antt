@@ -5,7 +5,7 @@ use mathlib.Core.Logic.{_↔_}
 use mathlib.Core.List.{List, [], map}
 use Prim.Native.Nat.{ℕ, _^_, _≤_}
 use native.Mathlib.Omega.{arith}
-use lib.IntN.{ℤ, pos, negℤ, natAbs}
+use lib.IntN.{ℤ, negℤ}
 use lib.ListN.{length}
 use lib.Dec.{eqb}
 use Rattle.words.specs.Kinds.{kinds, dimension, Word, allOnes}
@@ -14,22 +14,21 @@ use Rattle.decoding.specs.Answer.{Answer, found, tied, outOfVisits, answer}
 use Rattle.decoding.specs.Demands.{Demand2, Together, both-tied, both-found, plusWord, Demand3}
 use Rattle.decoding.specs.DemandsMet.{demands-code}
 use Rattle.code.specs.declared.Code.{Code}
-use Rattle.code.specs.declared.Made.the-variants.{Good}
 use Rattle.code.specs.Sound.{largestReading}
-use Rattle.code.specs.SoundLaws.{made-good}
-use Rattle.code.specs.Entries.{firstBadReading}
-use Rattle.code.specs.EntriesLaws.{first-none}
+use Rattle.code.specs.SoundLaws.{MadeOf}
+use Rattle.code.specs.AdmittedLaws.{all-allowed}
 use Rattle.search.specs.Outcome.{Outcome, answered, searching}
-use Rattle.search.specs.OutcomeLaws.{searching-made, in-all}
+use Rattle.search.specs.OutcomeLaws.{searching-answered}
 use Rattle.search.specs.Demands.{Admitted, PlusWord, OutcomeDemand3, OutcomeNegated, OutcomeDemands}
 
 -- once tests 1 to 4 find nothing, the outcome is that of the answer
 pub admitted-answered : {r m : ℕ} {l : List ℤ} {bits word : List ℕ} → Admitted r m l bits word → (allowed : ℕ)
     → searching r m allowed l bits word ≡ answered allowed bits word (answer m (kinds r m) l allowed)
 admitted-answered {r} {m} {l} {bits} {word} x allowed =
-    let none = first-none (pos 0) natAbs largestReading l (length l) (λ j h. x .within j) refl in
-    searching-made r m allowed l bits word (Good (record { r = r; m = m })) (made-good r m (x .m-small) (x .r-small))
-    ∙ in-all (record { r = r; m = m }) allowed l bits word (x .long) (x .long-bits) (x .long-word) (omega arith)
+    let c : Code = record { r = r; m = m } in
+    let sound : MadeOf r m c = record { same = refl; sound = record { r-small = x .r-small; m-small = x .m-small } } in
+    searching-answered r m allowed l bits word c
+    (all-allowed r m l (length bits) (length word) c (record { code = sound; long = x .long; bits = x .long-bits; word = x .long-word; within = x .within }))
 
 -- ---- outcomes of two answers
 -- the answer that has this outcome

@@ -11,10 +11,10 @@ use borrow.Author.Tests.{eq-eqb, ne-eqb}
 use Rattle.numbers.specs.Sums.{sum}
 use Rattle.words.specs.Bits.{Bits}
 use Rattle.words.specs.Word.{transform}
-use Rattle.words.specs.Kinds.{kinds, dimension, pick}
+use Rattle.words.specs.Kinds.{kinds, pick}
 use Rattle.words.specs.TransformLaws.{transform-twice, bits-take, bits-zeros}
 use Rattle.words.specs.KindLaws.{length-kinds, bits-kinds, sum-kinds, sum-kinds-pos}
-use Rattle.decoding.specs.Readings.{sizes, Within}
+use Rattle.decoding.specs.Readings.{sizes}
 use Rattle.decoding.specs.Walk.{Full, two, State, start}
 use Rattle.decoding.specs.Allowance.{ended, out, walkWithin}
 use Rattle.decoding.specs.Answer.{Answer, found, tied, outOfVisits, answer}
@@ -22,11 +22,11 @@ use Rattle.decoding.specs.StepLaws.{sizes-within}
 use Rattle.decoding.specs.WalkLaws.{walked-end}
 use Rattle.decoding.specs.SearchLaws.{ends-as, answer-of-out, ended-two, answer-of-walk}
 use Rattle.code.specs.declared.Code.{Code}
-use Rattle.code.specs.Sound.{Sound, largestReading}
+use Rattle.code.specs.Sound.{largestReading}
 use Rattle.code.specs.SoundLaws.{length-most}
 use Rattle.walk.specs.declared.Progress.{Progress}
 use Rattle.walk.specs.Progress.{fullOf, heldBy, stateOf, limitedOf, Walkable, Walked}
-use Rattle.search.specs.Work.{Searchable, Writable}
+use Rattle.search.specs.Work.{AllowsCode, Searchable, Writable}
 
 -- ---- the walk's end
 both-held : (k : ℕ) (a b x y : Full) → heldBy k a b ≡ two x y → heldBy k a b ≡ two a b
@@ -82,18 +82,17 @@ pub writable : {m : ℕ} {l : List ℤ} {ks bits word : List ℕ} → Searchable
 writable s x h =
     record { most = s .most; long-kinds = s .long-kinds; are-kinds = s .are-kinds; long-bits = s .long-bits; long-word = s .long-word; are-bits = h }
 
--- the kinds of a sound code
-pub searchable : {c : Code} {l : List ℤ} (ks : List ℕ) {bits word : List ℕ} → ks ≡ kinds (c .r) (c .m) → Sound c → length l ≡ 2 ^ c .m → Within largestReading l
-    → length bits ≡ dimension (c .r) (c .m) → length word ≡ 2 ^ c .m → Searchable (c .m) l ks bits word
-searchable {c} {l} ks is sound e within b w =
+-- where tests 1 to 4 refuse nothing, the kinds of the code can be searched
+pub searchable : {l : List ℤ} {c : Code} (ks : List ℕ) {bits word : List ℕ} → ks ≡ kinds (c .r) (c .m) → AllowsCode c l bits word → Searchable (c .m) l ks bits word
+searchable {l} {c} ks is a =
     rw is
     record {
-      most = sound .m-small;
-      long = e;
-      small = omega (arith, sizes-within largestReading l within, length-most sound);
+      most = a .sound .m-small;
+      long = a .long;
+      small = omega (arith, sizes-within largestReading l (a .within), length-most (a .sound), a .long);
       long-kinds = length-kinds (c .r) (c .m);
       are-kinds = bits-kinds (c .r) (c .m);
       information = sum-kinds-pos (c .r) (c .m);
-      long-bits = b ∙ sym (sum-kinds (c .r) (c .m));
-      long-word = w;
+      long-bits = a .long-bits ∙ sym (sum-kinds (c .r) (c .m));
+      long-word = a .long-word;
     }

@@ -1,16 +1,15 @@
 // The public calls: the search with an allowance, and the short call.
+use code::Admitted;
 use code::Code;
-use code::Made;
 use code::Refusal;
 ghost use mathlib.Core.Path.{_≡_};
 ghost use Prim.Native.Nat.{_^_};
 ghost use lib.ListN.{length, take};
-ghost use Rattle.words.specs.Kinds.{kinds, dimension};
-ghost use Rattle.decoding.specs.Readings.{Within};
+ghost use Rattle.words.specs.Kinds.{kinds};
 ghost use Rattle.decoding.specs.Answer.{answer};
-ghost use Rattle.code.specs.Sound.{Sound, largestReading, defaultAllowance};
+ghost use Rattle.code.specs.Sound.{defaultAllowance};
 ghost use Rattle.search.specs.Outcome.{told, answered, searching};
-ghost use Rattle.search.specs.Work.{Searchable, Writable, Written};
+ghost use Rattle.search.specs.Work.{AllowsCode, Searchable, Writable, Written};
 
 pub enum Searched {
     Found { penalty: u32, gap: u32, visits: u32 },
@@ -30,24 +29,10 @@ pub fn search_within(
     ensures { λ answer. ⌜ told answer (now (bits .exit)) (now (word .exit))
         ≡ searching r m allowed (now (readings .entry)) (now (bits .entry)) (now (word .entry)) ⌝ }
 {
-    let Made::Good(code) = Code::new(r, m) else {
-        return Searched::Refused(Refusal::Parameters);
-    };
-    let n = code.length();
-    if readings.len() != n {
-        return Searched::Refused(Refusal::InputLength);
+    match code::admit(r, m, readings, bits.len(), word.len()) {
+        Admitted::Refused(why) => Searched::Refused(why),
+        Admitted::Allowed(code) => search_sound(code, allowed, readings, bits, word),
     }
-    if bits.len() != code.dimension() {
-        return Searched::Refused(Refusal::OutputLength);
-    }
-    if word.len() != n {
-        return Searched::Refused(Refusal::OutputLength);
-    }
-    let place = code::first_bad_reading(readings);
-    if place < n {
-        return Searched::Refused(Refusal::Entry(place));
-    }
-    search_sound(code, allowed, readings, bits, word)
 }
 
 // The same, with the default allowance.
@@ -65,8 +50,7 @@ fn search_sound(
     bits: &mut [u8],
     word: &mut [u8],
 ) -> Searched
-    requires { ⌜ Sound code × (length (now readings) ≡ 2 ^ (code .m)) × Within largestReading (now readings) ⌝ }
-    requires { ⌜ (length (now bits) ≡ dimension (code .r) (code .m)) × (length (now word) ≡ 2 ^ (code .m)) ⌝ }
+    requires { ⌜ AllowsCode code (now readings) (now bits) (now word) ⌝ }
     ensures { λ r. ⌜ told r (now (bits .exit)) (now (word .exit))
         ≡ answered allowed (now (bits .entry)) (now (word .entry))
         (answer (code .m) (kinds (code .r) (code .m)) (now (readings .entry)) allowed) ⌝ }
@@ -105,7 +89,7 @@ fn search_kinds(
             visits: end.visits,
         });
     }
-    put_best(kinds, &mut best, m, bits, word);
+    put_best(kinds, &best, m, bits, word);
     Searched::Found {
         penalty: end.best,
         gap,
@@ -113,8 +97,8 @@ fn search_kinds(
     }
 }
 
-// The best word, from the first bytes of an array, and the information bits of its row.
-fn put_best(kinds: &[u8], best: &mut [u8; 256], m: usize, bits: &mut [u8], word: &mut [u8])
+// The best word, from the first bytes of an array, and its information bits.
+fn put_best(kinds: &[u8], best: &[u8; 256], m: usize, bits: &mut [u8], word: &mut [u8])
     requires { ⌜ Writable m (now kinds) (take (2 ^ m) (now best)) (now bits) (now word) ⌝ }
     ensures { λ _. ⌜ Written m (now (kinds .entry)) (take (2 ^ m) (now (best .entry)))
         (now (bits .exit)) (now (word .exit)) ⌝ }
@@ -122,21 +106,13 @@ fn put_best(kinds: &[u8], best: &mut [u8; 256], m: usize, bits: &mut [u8], word:
     put_front(kinds, best, m, bits, word);
 }
 
-fn put_front(kinds: &[u8], best: &mut [u8], m: usize, bits: &mut [u8], word: &mut [u8])
-    requires { ⌜ (length (now best) ≡ 256) × Writable m (now kinds) (take (2 ^ m) (now best)) (now bits) (now word) ⌝ }
+fn put_front(kinds: &[u8], best: &[u8], m: usize, bits: &mut [u8], word: &mut [u8])
+    requires { ⌜ (length (now best) ≡ 256)
+        × Writable m (now kinds) (take (2 ^ m) (now best)) (now bits) (now word) ⌝ }
     ensures { λ _. ⌜ Written m (now (kinds .entry)) (take (2 ^ m) (now (best .entry)))
         (now (bits .exit)) (now (word .exit)) ⌝ }
 {
     let n = word.len();
-    put_all(kinds, &mut best[0..n], m, bits, word);
-}
-
-// The transform is its own inverse: it gives the row that a word comes from.
-fn put_all(kinds: &[u8], best: &mut [u8], m: usize, bits: &mut [u8], word: &mut [u8])
-    requires { ⌜ (length (now best) ≡ 2 ^ m) × Writable m (now kinds) (now best) (now bits) (now word) ⌝ }
-    ensures { λ _. ⌜ Written m (now (kinds .entry)) (now (best .entry)) (now (bits .exit)) (now (word .exit)) ⌝ }
-{
-    half::copy(best, word);
-    half::transform(best, m);
-    half::pick(kinds, best, bits);
+    half::copy(&best[0..n], word);
+    half::take_bits(kinds, word, bits, m);
 }

@@ -30,7 +30,7 @@ part-kinds-start : tie.Need-part-kinds-start
 part-kinds-start c = search needs
 
 part-kinds-end : tie.Need-part-kinds-end
-part-kinds-end c = omega (arith, length-most (c .before .before .before .pre .0 .0), c .length .ensures)
+part-kinds-end c = omega (arith, length-most (c .before .before .before .pre .sound), c .length .ensures)
 
 put-kinds-requires : tie.Need-put-kinds-requires
 put-kinds-requires c κs = search needs
@@ -47,7 +47,7 @@ part-search-kinds-end c =
     let sized = filled .before .before in
     let start = sized .before .before .before in
     let n = sized .length .result in
-    let within : n ≤ 256 = omega (arith, length-most (start .pre .0 .0), sized .length .ensures) in
+    let within : n ≤ 256 = omega (arith, length-most (start .pre .sound), sized .length .ensures) in
     omega (arith, same-len-mid 0 (n - 0) (replicate 256 0) (filled .put-kinds .last .1 .0) (filled .put-kinds .kept .1 .0))
 
 cast-search-kinds : tie.Need-cast-search-kinds
@@ -60,7 +60,7 @@ search-kinds-requires c κs =
     let start = sized .before .before .before in
     let code = start .args .code in
     let is = kinds-read (code .r) (code .m) (sized .length .result) (filled .put-kinds .last .1 .0) (filled .put-kinds .ensures) (sized .length .ensures) in
-    searchable _ is (start .pre .0 .0) (start .pre .0 .1) (start .pre .0 .2) (start .pre .1 .0) (start .pre .1 .1)
+    searchable _ is (start .pre)
 
 same-length : tie.Need-same-length
 same-length c = search needs
