@@ -27,7 +27,8 @@ pub fn search_within(
     word: &mut [u8],
 ) -> Searched
     ensures { λ answer. ⌜ told answer (now (bits .exit)) (now (word .exit))
-        ≡ searching r m allowed (now (readings .entry)) (now (bits .entry)) (now (word .entry)) ⌝ }
+        ≡ searching r m allowed (now (readings .entry))
+        (now (bits .entry)) (now (word .entry)) ⌝ }
 {
     match code::admit(r, m, readings, bits.len(), word.len()) {
         Admitted::Refused(why) => Searched::Refused(why),
@@ -38,7 +39,8 @@ pub fn search_within(
 // The same, with the default allowance.
 pub fn search(r: u32, m: u32, readings: &[i16], bits: &mut [u8], word: &mut [u8]) -> Searched
     ensures { λ answer. ⌜ told answer (now (bits .exit)) (now (word .exit))
-        ≡ searching r m defaultAllowance (now (readings .entry)) (now (bits .entry)) (now (word .entry)) ⌝ }
+        ≡ searching r m defaultAllowance (now (readings .entry))
+        (now (bits .entry)) (now (word .entry)) ⌝ }
 {
     search_within(r, m, Code::DEFAULT_ALLOWANCE, readings, bits, word)
 }

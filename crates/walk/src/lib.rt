@@ -1,12 +1,14 @@
-// The walk: the frozen step and the information step call each other; the number of indices still to choose falls.
+// The walk: the frozen step and the information step call each other; the number of indices still
+// to choose falls.
 ghost use mathlib.Core.Path.{_≡_};
 ghost use mathlib.Core.Bool.{false};
 ghost use Prim.Native.Nat.{ℕ, _^_, _≤_, _<_};
 ghost use lib.ListN.{length, getD, take};
 ghost use Rattle.decoding.specs.Quick.{hard};
-ghost use Rattle.walk.specs.Progress.{counted, drops, Finished, Ready, Stepped, Walkable, Walked};
+ghost use Rattle.walk.specs.Progress.{counted, drops};
+ghost use Rattle.walk.specs.Progress.{Finished, Ready, Stepped, Walkable, Walked};
 
-// What the walk holds: penalties of the full paths, visits. The full paths stand beside it, as words.
+// What the walk holds: the penalties of full paths, which stand beside it as words, and the visits.
 pub struct Progress {
     // how many full paths are held: none, the best, best and second
     pub held: u32,
@@ -18,33 +20,33 @@ pub struct Progress {
 }
 
 // One visit more, or out: tested before it is counted, so that no allowance wraps.
-fn visit(w: Progress, allowed: u32) -> Progress
-    ensures { λ r. ⌜ r ≡ counted allowed w ⌝ }
+fn visit(state: Progress, allowed: u32) -> Progress
+    ensures { λ r. ⌜ r ≡ counted allowed state ⌝ }
 {
-    if w.visits < allowed {
+    if state.visits < allowed {
         return Progress {
-            visits: w.visits + 1,
-            ..w
+            visits: state.visits + 1,
+            ..state
         };
     }
-    Progress { out: true, ..w }
+    Progress { out: true, ..state }
 }
 
 // Two full paths are held, and the penalty is not below the second's.
-fn dropped(w: Progress, p: u32) -> bool
-    ensures { λ r. ⌜ r ≡ drops w p ⌝ }
+fn dropped(state: Progress, penalty: u32) -> bool
+    ensures { λ r. ⌜ r ≡ drops state penalty ⌝ }
 {
-    if w.held < 2 {
+    if state.held < 2 {
         return false;
     }
-    w.second <= p
+    state.second <= penalty
 }
 
 // The bit that the value speaks for.
-fn first_bit(v: i32) -> u8
-    ensures { λ r. ⌜ r ≡ hard v ⌝ }
+fn first_bit(value: i32) -> u8
+    ensures { λ r. ⌜ r ≡ hard value ⌝ }
 {
-    if v < 0 { 1 } else { 0 }
+    if value < 0 { 1 } else { 0 }
 }
 
 fn copy_front(from: &[u8], to: &mut [u8], n: usize)
@@ -68,41 +70,41 @@ fn finish(
     best: &mut [u8; 256],
     second: &mut [u8; 256],
     n: usize,
-    p: u32,
-    w: Progress,
+    penalty: u32,
+    state: Progress,
 ) -> Progress
-    requires { ⌜ (n ≤ 256) × (w .out ≡ false) ⌝ }
-    ensures { λ r. ⌜ ((m : ℕ) → n ≡ 2 ^ m → Finished m p w
+    requires { ⌜ (n ≤ 256) × (state .out ≡ false) ⌝ }
+    ensures { λ r. ⌜ ((m : ℕ) → n ≡ 2 ^ m → Finished m penalty state
         (now (half .entry)) (now (best .entry)) (now (second .entry))
         r (now (best .exit)) (now (second .exit))) ⌝ }
 {
-    if w.held == 0 {
+    if state.held == 0 {
         copy(half, best, n);
         return Progress {
             held: 1,
-            best: p,
-            ..w
+            best: penalty,
+            ..state
         };
     }
-    if p < w.best {
+    if penalty < state.best {
         copy(best, second, n);
         copy(half, best, n);
         return Progress {
             held: 2,
-            best: p,
-            second: w.best,
-            ..w
+            best: penalty,
+            second: state.best,
+            ..state
         };
     }
     copy(half, second, n);
     Progress {
         held: 2,
-        second: p,
-        ..w
+        second: penalty,
+        ..state
     }
 }
 
-// The path goes on at index i, with penalty p: it is full, or two extensions follow, or one.
+// The path goes on at index i, with this penalty: it is full, or two extensions follow, or one.
 fn frozen_step(
     readings: &[i16],
     kinds: &[u8],
@@ -114,16 +116,17 @@ fn frozen_step(
     allowed: u32,
     fresh: bool,
     i: usize,
-    p: u32,
-    w: Progress,
+    penalty: u32,
+    state: Progress,
 ) -> Progress
-    requires { ⌜ Ready m (now readings) (now kinds) (now rows) (now half) (now best) (now second) fresh i p w ⌝ }
-    ensures { λ r. ⌜ Stepped allowed m (now (readings .entry)) (now (kinds .entry)) i p
-        w (now (half .entry)) (now (best .entry)) (now (second .entry))
+    requires { ⌜ Ready m (now readings) (now kinds) (now rows) (now half)
+        (now best) (now second) fresh i penalty state ⌝ }
+    ensures { λ r. ⌜ Stepped allowed m (now (readings .entry)) (now (kinds .entry)) i penalty
+        state (now (half .entry)) (now (best .entry)) (now (second .entry))
         r (now (half .exit)) (now (best .exit)) (now (second .exit)) ⌝ }
 {
     if i == readings.len() {
-        return finish(half, best, second, i, p, w);
+        return finish(half, best, second, i, penalty, state);
     }
     if kinds[i] != 0 {
         return info_step(
@@ -137,22 +140,22 @@ fn frozen_step(
             allowed,
             fresh,
             i,
-            p,
-            w,
+            penalty,
+            state,
         );
     }
-    let y = visit(w, allowed);
-    if y.out {
-        return y;
+    let seen = visit(state, allowed);
+    if seen.out {
+        return seen;
     }
-    let v = memory::value(readings, rows, half, m, fresh, i);
-    let q = p + rows::loss(v, 0);
-    if dropped(y, q) {
+    let value = memory::value(readings, rows, half, m, fresh, i);
+    let after = penalty + rows::loss(value, 0);
+    if dropped(seen, after) {
         // it is counted all the same
-        return y;
+        return seen;
     }
     memory::put(half, m, i, 0);
-    let z = frozen_step(
+    let end = frozen_step(
         readings,
         kinds,
         rows,
@@ -163,11 +166,11 @@ fn frozen_step(
         allowed,
         true,
         i + 1,
-        q,
-        y,
+        after,
+        seen,
     );
     memory::take_back(half, m, i);
-    z
+    end
 }
 
 // Both extensions at an information index i: first the bit that the value speaks for, which adds
@@ -183,25 +186,26 @@ fn info_step(
     allowed: u32,
     fresh: bool,
     i: usize,
-    p: u32,
-    w: Progress,
+    penalty: u32,
+    state: Progress,
 ) -> Progress
-    requires { ⌜ Ready m (now readings) (now kinds) (now rows) (now half) (now best) (now second) fresh i p w ⌝ }
+    requires { ⌜ Ready m (now readings) (now kinds) (now rows) (now half)
+        (now best) (now second) fresh i penalty state ⌝ }
     requires { ⌜ (i < 2 ^ m) × (getD (now kinds) i 0 ≡ 0 → ⊥) ⌝ }
-    ensures { λ r. ⌜ Stepped allowed m (now (readings .entry)) (now (kinds .entry)) i p
-        w (now (half .entry)) (now (best .entry)) (now (second .entry))
+    ensures { λ r. ⌜ Stepped allowed m (now (readings .entry)) (now (kinds .entry)) i penalty
+        state (now (half .entry)) (now (best .entry)) (now (second .entry))
         r (now (half .exit)) (now (best .exit)) (now (second .exit)) ⌝ }
 {
-    let y = visit(w, allowed);
-    if y.out {
-        return y;
+    let seen = visit(state, allowed);
+    if seen.out {
+        return seen;
     }
-    let v = memory::value(readings, rows, half, m, fresh, i);
-    let first = first_bit(v);
+    let value = memory::value(readings, rows, half, m, fresh, i);
+    let first = first_bit(value);
     let other = 1 - first;
-    let q = p + rows::loss(v, other);
+    let after = penalty + rows::loss(value, other);
     memory::put(half, m, i, first);
-    let z = frozen_step(
+    let under = frozen_step(
         readings,
         kinds,
         rows,
@@ -212,22 +216,22 @@ fn info_step(
         allowed,
         true,
         i + 1,
-        p,
-        y,
+        penalty,
+        seen,
     );
     memory::take_back(half, m, i);
-    if z.out {
-        return z;
+    if under.out {
+        return under;
     }
-    let x = visit(z, allowed);
-    if x.out {
-        return x;
+    let again = visit(under, allowed);
+    if again.out {
+        return again;
     }
-    if dropped(x, q) {
-        return x;
+    if dropped(again, after) {
+        return again;
     }
     memory::put(half, m, i, other);
-    let last = frozen_step(
+    let end = frozen_step(
         readings,
         kinds,
         rows,
@@ -238,11 +242,11 @@ fn info_step(
         allowed,
         false,
         i + 1,
-        q,
-        x,
+        after,
+        again,
     );
     memory::take_back(half, m, i);
-    last
+    end
 }
 
 // The whole walk under an allowance. The words of the full paths that it holds are in best and

@@ -122,10 +122,10 @@ frozen-value t c = toZ-ofZ (record { sfits = c .value .ok }) ∙ c .value .ensur
 -- the penalty with the bit 0
 frozen-adds : (t : ℕ) (c : frozen-step-lts.After-loss (frozen-step-calls t) (frozen-step-at t) frozen-step.Post)
     → let s = c .before .before .before .before .before .before .before .before .before .before in
-    s .args .p + c .loss .result ≡ s .args .p + loss (frozen-at t s) 0
+    s .args .penalty + c .loss .result ≡ s .args .penalty + loss (frozen-at t s) 0
 frozen-adds t c =
     let s = c .before .before .before .before .before .before .before .before .before .before in
-    ap (λ (n : ℕ). s .args .p + n) (c .loss .ensures ∙ ap (λ (v : ℤ). loss v 0) (frozen-value t (c .before)))
+    ap (λ (n : ℕ). s .args .penalty + n) (c .loss .ensures ∙ ap (λ (v : ℤ). loss v 0) (frozen-value t (c .before)))
 
 -- the path is not full
 frozen-inside : (t : ℕ) (c : frozen-step-lts.Else1 (frozen-step-calls t) (frozen-step-at t) frozen-step.Post)
@@ -144,9 +144,9 @@ frozen-step-returns t c =
     let r = start .pre .1 in
     let m = start .args .m in
     let i = start .args .i in
-    let p = start .args .p in
+    let p = start .args .penalty in
     let half = start .args .half .now in
-    let held = stateOf m (start .args .w) (start .args .best .now) (start .args .second .now) in
+    let held = stateOf m (start .args .state) (start .args .best .now) (start .args .second .now) in
     let e : i ≡ 2 ^ m = if1 .if1 .taken ∙ r .long in
     let end =
     walk-end (start .args .allowed) m (start .args .readings .now) (start .args .kinds .now) i (here r) p held (omega (arith, r .long-kinds)) in
@@ -199,8 +199,8 @@ frozen-step-loss-requires t c κs =
     let start = c .before .before .before .before .before .before .before .before .before in
     rw (frozen-value t c) (value-small (start .pre .1))
 
-frozen-step-add-q : (t : ℕ) → frozen-step-lts.Need-add-q (frozen-step-calls t) (frozen-step-at t) frozen-step.Post
-frozen-step-add-q t c =
+frozen-step-add-after : (t : ℕ) → frozen-step-lts.Need-add-after (frozen-step-calls t) (frozen-step-at t) frozen-step.Post
+frozen-step-add-after t c =
     let else1 = c .before .before .before .before .before .before .before .before in
     let start = else1 .before .before in
     record { fits = omega (arith, frozen-adds t c, sum-small (start .pre .1) 0 (frozen-inside t else1) (omega arith)) }
@@ -291,24 +291,24 @@ info-bit : (t : ℕ) (c : First t) → c .first-bit .result < 2
 info-bit t c = rw (info-first t c) (hard-bit (info-at t (c .before .before .before .before .before .before .before)))
 
 -- the first bit adds nothing
-info-same : (t : ℕ) (s : Info-start t) → s .args .p ≡ s .args .p + loss (info-at t s) (hard (info-at t s))
+info-same : (t : ℕ) (s : Info-start t) → s .args .penalty ≡ s .args .penalty + loss (info-at t s) (hard (info-at t s))
 info-same t s = omega (arith, loss-hard (info-at t s))
 
 -- the penalty with the other bit
 info-adds : (t : ℕ) (c : info-step-lts.After-loss (info-step-calls t) (info-step-at t) info-step.Post)
     → let s = c .before .before .before .before .before .before .before .before in
-    s .args .p + c .loss .result ≡ s .args .p + loss (info-at t s) (1 - hard (info-at t s))
+    s .args .penalty + c .loss .result ≡ s .args .penalty + loss (info-at t s) (1 - hard (info-at t s))
 info-adds t c =
     let s = c .before .before .before .before .before .before .before .before in
-    ap (λ (n : ℕ). s .args .p + n)
+    ap (λ (n : ℕ). s .args .penalty + n)
     (c .loss .ensures ∙ ap₂ (λ (v : ℤ) (b : ℕ). loss v (1 - b)) (info-value t (c .before .before)) (info-first t (c .before)))
 
 -- what the first extension leaves
 info-extended : (t : ℕ) (c : info-step-lts.After-take-back (info-step-calls t) (info-step-at t) info-step.Post)
     → let step = c .before .before .frozen-step in
     let s = c .before .before .before .before .before .before .before .before .before .before .before .before .before .before .before .before .before in
-    Extended (s .args .allowed) (s .args .m) (s .args .readings .now) (s .args .kinds .now) (s .args .i) (s .args .p) (hard (info-at t s)) (here (s .pre .1 .0))
-    (s .args .w) (s .args .best .now) (s .args .second .now) (step .result) (c .take-back .last .0) (step .last .1 .1 .1 .1 .0) (step .last .1 .1 .1 .1 .1 .0)
+    Extended (s .args .allowed) (s .args .m) (s .args .readings .now) (s .args .kinds .now) (s .args .i) (s .args .penalty) (hard (info-at t s)) (here (s .pre .1 .0))
+    (s .args .state) (s .args .best .now) (s .args .second .now) (step .result) (c .take-back .last .0) (step .last .1 .1 .1 .1 .0) (step .last .1 .1 .1 .1 .1 .0)
 info-extended t c =
     let step = c .before .before in
     let put = step .before .before .before .before .before in
@@ -319,7 +319,7 @@ info-extended t c =
     let r = start .pre .1 .0 in
     let counts = visit .visit .ensures in
     extension-on (start .args .half .now) (start .args .best .now) (start .args .second .now) (r .going) counts refl (r .bits) (r .words)
-    (info-same t start) (if1 .if1 .left) (still-kept (start .args .allowed) (start .args .p) (start .args .w) counts (r .kept)) (r .long-path)
+    (info-same t start) (if1 .if1 .left) (still-kept (start .args .allowed) (start .args .penalty) (start .args .state) counts (r .kept)) (r .long-path)
     (put .put .ensures .0 ∙ ap (λ (b : ℕ). here r ++ b ∷ []) (info-first t first)) (step .frozen-step .ensures) (c .take-back .ensures)
 
 info-step-visit-requires : (t : ℕ) → info-step-lts.Need-visit-requires (info-step-calls t) (info-step-at t) info-step.Post
@@ -352,8 +352,8 @@ info-step-loss-requires t c κs =
     let start = value .before .before .before .before .before .before in
     rw (info-value t value) (value-small (start .pre .1 .0))
 
-info-step-add-q : (t : ℕ) → info-step-lts.Need-add-q (info-step-calls t) (info-step-at t) info-step.Post
-info-step-add-q t c =
+info-step-add-after : (t : ℕ) → info-step-lts.Need-add-after (info-step-calls t) (info-step-at t) info-step.Post
+info-step-add-after t c =
     let start = c .before .before .before .before .before .before .before .before in
     record { fits = omega (arith, info-adds t c, sum-small (start .pre .1 .0) (1 - hard (info-at t start)) (start .pre .1 .1 .0) (omega arith)) }
 
@@ -381,7 +381,7 @@ info-step-frozen-step-requires t c κs =
       omega (arith, start .pre .0, r .long, inside),
       next-ready r (first .first-bit .result) inside (info-bit t first) (r .words) (put .put .ensures .0) (put .put .ensures .1)
           (rw (info-first t first) (info-same t start)) (if1 .if1 .left)
-          (still-kept (start .args .allowed) (start .args .p) (start .args .w) (visit .visit .ensures) (r .kept)) (λ f. value .value .ensures .1),
+          (still-kept (start .args .allowed) (start .args .penalty) (start .args .state) (visit .visit .ensures) (r .kept)) (λ f. value .value .ensures .1),
     )
 
 info-step-take-back-requires : (t : ℕ) → info-step-lts.Need-take-back-requires (info-step-calls t) (info-step-at t) info-step.Post
@@ -505,7 +505,7 @@ pub +frozen-step+info-step-spec : {M : Type 1} → statement M
     (frozen-step-returns-3 t)
     (frozen-step-value-requires t)
     (frozen-step-loss-requires t)
-    (frozen-step-add-q t)
+    (frozen-step-add-after t)
     (frozen-step-dropped-requires t)
     (frozen-step-returns-4 t)
     (frozen-step-put-requires t)
@@ -521,7 +521,7 @@ pub +frozen-step+info-step-spec : {M : Type 1} → statement M
     (info-step-first-bit-requires t)
     (info-step-sub-other t)
     (info-step-loss-requires t)
-    (info-step-add-q t)
+    (info-step-add-after t)
     (info-step-put-requires t)
     (info-step-add-frozen-step t)
     (info-step-frozen-step-requires t)

@@ -13,7 +13,7 @@ returns c =
     let best = s .args .best .now in
     let second = s .args .second .now in
     let new = c .copy in
-    λ m e. first-held m (s .args .n) (s .args .p) (s .args .w) (s .args .half .now) best second (new .last .1 .0) second e (s .pre .1)
+    λ m e. first-held m (s .args .n) (s .args .penalty) (s .args .state) (s .args .half .now) best second (new .last .1 .0) second e (s .pre .1)
     (c .before .before .if1 .taken) (new .ensures)
 
 copy-requires-2 : tie.Need-copy-requires-2
@@ -29,7 +29,7 @@ returns-2 c =
     let second = s .args .second .now in
     let old = c .before .before .copy2 in
     let new = c .copy3 in
-    λ m e. held-as-best m (s .args .n) (s .args .p) (s .args .w) (s .args .half .now) best second (new .last .1 .0) (old .last .1 .0) e (s .pre .1)
+    λ m e. held-as-best m (s .args .n) (s .args .penalty) (s .args .state) (s .args .half .now) best second (new .last .1 .0) (old .last .1 .0) e (s .pre .1)
     (c .before .before .before .before .before .before .before .if1 .left) (c .before .before .before .before .before .if2 .taken) (old .ensures) (new .ensures)
 
 copy-requires-4 : tie.Need-copy-requires-4
@@ -41,7 +41,7 @@ returns-3 c =
     let best = s .args .best .now in
     let second = s .args .second .now in
     let new = c .copy4 in
-    λ m e. held-as-second m (s .args .n) (s .args .p) (s .args .w) (s .args .half .now) best second best (new .last .1 .0) e (s .pre .1)
+    λ m e. held-as-second m (s .args .n) (s .args .penalty) (s .args .state) (s .args .half .now) best second best (new .last .1 .0) e (s .pre .1)
     (c .before .before .before .before .if1 .left) (c .before .before .if2 .left) (new .ensures)
 
 pub finish-spec : {M : Type 1} → statement M

@@ -19,10 +19,10 @@ hard-zero (pos n) h = refl
 hard-zero (negsuc n) h = absurd (omega (arith, not-less-parts (negsuc n) (pos 0) h))
 
 returns : tie.Need-returns
-returns c = let s = c .before in hard-one (s .args .v) (rw (toZ-ofZ (s .fits .v)) at (c .if1 .taken))
+returns c = let s = c .before in hard-one (s .args .value) (rw (toZ-ofZ (s .fits .value)) at (c .if1 .taken))
 
 returns-2 : tie.Need-returns-2
-returns-2 c = let s = c .before in hard-zero (s .args .v) (rw (toZ-ofZ (s .fits .v)) at (c .if1 .left))
+returns-2 c = let s = c .before in hard-zero (s .args .value) (rw (toZ-ofZ (s .fits .value)) at (c .if1 .left))
 
 pub first-bit-spec : {M : Type 1} → statement M
 first-bit-spec = tie.close (tie.spec returns returns-2)
