@@ -1,20 +1,17 @@
 -- What the walk's end says of the answer, and what the search's inner functions ask of each other.
-use mathlib.Core.Path.{_≡_, refl, ap, sym, _∙_, subst}
+use mathlib.Core.Path.{_≡_, refl, ap, sym, _∙_}
 use mathlib.Core.Bool.{true, false, cond}
 use mathlib.Core.List.{List, []}
-use Prim.Native.Nat.{ℕ, zero, suc, _-_, _*_, _^_, _≤_, _<_}
+use Prim.Native.Nat.{ℕ, zero, suc, _-_, _^_, _≤_}
 use native.Mathlib.Omega.{arith}
 use lib.IntN.{ℤ}
 use lib.ListN.{length, take, replicate}
 use lib.Dec.{eqb}
 use borrow.Author.Tests.{eq-eqb, ne-eqb}
-use Rattle.numbers.specs.Sums.{sum}
-use Rattle.words.specs.Bits.{Bits}
 use Rattle.words.specs.Word.{transform}
 use Rattle.words.specs.Kinds.{kinds, pick}
 use Rattle.words.specs.TransformLaws.{transform-twice, bits-take, bits-zeros}
 use Rattle.words.specs.KindLaws.{length-kinds, bits-kinds, sum-kinds, sum-kinds-pos}
-use Rattle.decoding.specs.Readings.{sizes}
 use Rattle.decoding.specs.Walk.{Full, two, State, start}
 use Rattle.decoding.specs.Allowance.{ended, out, walkWithin}
 use Rattle.decoding.specs.Answer.{Answer, found, tied, outOfVisits, answer}
@@ -25,8 +22,8 @@ use Rattle.code.specs.declared.Code.{Code}
 use Rattle.code.specs.Sound.{largestReading}
 use Rattle.code.specs.SoundLaws.{length-most}
 use Rattle.walk.specs.declared.Progress.{Progress}
-use Rattle.walk.specs.Progress.{fullOf, heldBy, stateOf, limitedOf, Walkable, Walked}
-use Rattle.search.specs.Work.{AllowsCode, Searchable, Writable}
+use Rattle.walk.specs.Progress.{fullOf, heldBy, stateOf, Walkable, Walked}
+use Rattle.search.specs.Work.{AllowsCode, Searchable}
 
 -- ---- the walk's end
 both-held : (k : ℕ) (a b x y : Full) → heldBy k a b ≡ two x y → heldBy k a b ≡ two a b
@@ -77,10 +74,6 @@ pub walkable : {m : ℕ} {l : List ℤ} {ks bits word : List ℕ} → Searchable
 walkable {m} s =
     let zeros = bits-take (2 ^ m) (replicate 256 0) (bits-zeros 256) in
     record { most = s .most; long = s .long; long-kinds = s .long-kinds; small = s .small; words = record { best-bits = zeros; second-bits = zeros } }
-
-pub writable : {m : ℕ} {l : List ℤ} {ks bits word : List ℕ} → Searchable m l ks bits word → (x : List ℕ) → Bits x → Writable m ks x bits word
-writable s x h =
-    record { most = s .most; long-kinds = s .long-kinds; are-kinds = s .are-kinds; long-bits = s .long-bits; long-word = s .long-word; are-bits = h }
 
 -- where tests 1 to 4 refuse nothing, the kinds of the code can be searched
 pub searchable : {l : List ℤ} {c : Code} (ks : List ℕ) {bits word : List ℕ} → ks ≡ kinds (c .r) (c .m) → AllowsCode c l bits word → Searchable (c .m) l ks bits word

@@ -9,8 +9,8 @@ use lib.Dec.{ltb, leb}
 use Rattle.words.specs.Bits.{Bits}
 use Rattle.words.specs.Word.{transform}
 use Rattle.decoding.specs.Readings.{sizes}
-use Rattle.decoding.specs.Walk.{Full, Held, none, one, two, State, start, finished, pathPenalty}
-use Rattle.decoding.specs.Allowance.{Limited, ended, out, walkWithin}
+use Rattle.decoding.specs.Walk.{Full, Held, none, one, two, State, start, finished, value, pathPenalty}
+use Rattle.decoding.specs.Allowance.{Limited, ended, out, extendWithin, walkWithin}
 use Rattle.memory.specs.Memory.{pathOf, Stands}
 use Rattle.walk.specs.declared.Progress.{Progress}
 
@@ -84,5 +84,17 @@ pub record Stepped (allowed m : ℕ) (l : List ℤ) (kinds : List ℕ) (i p : �
     (w : Progress) (half best second : List ℕ) (w′ : Progress) (half′ best′ second′ : List ℕ) : Type 0 where
   pub walks : limitedOf m w′ best′ second′ ≡ walkWithin allowed m l (drop i kinds) (pathOf m i (take (2 ^ m) half)) p (stateOf m w best second)
   pub path-stays : pathOf m i (take (2 ^ m) half′) ≡ pathOf m i (take (2 ^ m) half)
+  pub bits-stay : Bits half′
+  pub words : AreWords m best′ second′
+
+-- the written walk from the index after i on
+abbrev pub rest : ℕ → ℕ → List ℤ → List ℕ → ℕ → List ℕ → ℕ → State → Limited
+rest allowed m l kinds i = walkWithin allowed m l (drop (i + 1) kinds)
+
+-- what one extension gives, by the bit b of index i of the path u
+pub record Extended (allowed m : ℕ) (l : List ℤ) (kinds : List ℕ) (i p b : ℕ) (u : List ℕ)
+    (w : Progress) (best second : List ℕ) (z : Progress) (half′ best′ second′ : List ℕ) : Type 0 where
+  pub gives : limitedOf m z best′ second′ ≡ extendWithin allowed (rest allowed m l kinds i) (value m l u) u p b (stateOf m w best second)
+  pub path-stays : pathOf m i (take (2 ^ m) half′) ≡ u
   pub bits-stay : Bits half′
   pub words : AreWords m best′ second′

@@ -9,7 +9,7 @@ use borrow.Author.Tests.{lt-ltb, le-ltb}
 use Rattle.words.specs.Bits.{Bits}
 use Rattle.decoding.specs.Walk.{Full, two, hold}
 use Rattle.walk.specs.declared.Progress.{Progress}
-use Rattle.walk.specs.Progress.{fullOf, heldBy, stateOf, AreWords, Finished}
+use Rattle.walk.specs.Progress.{fullOf, heldBy, stateOf, Finished}
 
 -- ---- a full path is held, where n bytes of a word are copied
 hold-more : (k : ℕ) (a b f : Full) → (k ≡ 0 → ⊥) → hold (heldBy k a b) f ≡ cond (ltb (f .penalty) (a .penalty)) (two f a) (two a f)

@@ -1,5 +1,5 @@
 -- Laws of the walk's steps: an extension is out, dropped, or gone on with; what the next step asks; the path as it was when the bit is taken back.
-use mathlib.Core.Path.{_≡_, refl, ap, ap₂, sym, _∙_, subst}
+use mathlib.Core.Path.{_≡_, refl, ap, sym, _∙_, subst}
 use mathlib.Core.Bool.{Bool, true, false, cond}
 use mathlib.Core.List.{List, [], _∷_, _++_}
 use Prim.Native.Nat.{ℕ, zero, suc, _+_, _-_, _^_, _≤_, _<_, zero-le}
@@ -8,7 +8,7 @@ use native.Mathlib.Nat.{lt-of-le-of-lt, two-pow-succ}
 use native.Mathlib.Numerals.{add-one}
 use lib.IntN.{ℤ, natAbs}
 use lib.ListN.{length, getD, take, drop, drop-of-length-le, length-take}
-use lib.Seq.{drop-cons, take-at, take-all, length-take-le}
+use lib.Seq.{drop-cons, take-at, take-all}
 use lib.Pow.{pow-mono}
 use lib.Dec.{T, ltb, leb}
 use borrow.Author.Tests.{le-ltb}
@@ -17,16 +17,16 @@ use Rattle.numbers.specs.Halves.{length-more}
 use Rattle.words.specs.Bits.{Bits}
 use Rattle.words.specs.Word.{transform}
 use Rattle.words.specs.TransformLaws.{bits-more}
-use Rattle.decoding.specs.Readings.{loss, sizes}
+use Rattle.decoding.specs.Readings.{loss}
 use Rattle.decoding.specs.Quick.{hard}
-use Rattle.decoding.specs.Walk.{State, Full, dropped, finished, value, addedBy, pathPenalty}
+use Rattle.decoding.specs.Walk.{State, Full, dropped, finished, value, addedBy}
 use Rattle.decoding.specs.Allowance.{Limited, ended, out, andThen, extendWithin, walkWithin}
 use Rattle.decoding.specs.PathLaws.{value-sizes, path-more, path-sizes}
 use Rattle.memory.specs.Memory.{pathOf, Stands}
 use Rattle.memory.specs.MemoryLaws.{path-none}
 use Rattle.memory.specs.Ready.{ValueReady}
 use Rattle.walk.specs.declared.Progress.{Progress}
-use Rattle.walk.specs.Progress.{fullOf, heldBy, stateOf, limitedOf, drops, counted, AreWords, Walkable, Ready, Stepped}
+use Rattle.walk.specs.Progress.{fullOf, heldBy, stateOf, limitedOf, drops, counted, AreWords, Walkable, Ready, Stepped, rest, Extended}
 
 -- ---- one extension
 pub true-false : {A : Type 0} → true ≡ false → A
@@ -38,7 +38,7 @@ drops-by (suc zero) b x y = refl
 drops-by (suc (suc k)) b x y = rw (le-ltb (suc (suc k)) 2 (omega arith))
 
 -- the struct's test is the written one
-pub drops-held : (m : ℕ) (w : Progress) (best second : List ℕ) (q : ℕ) → drops w q ≡ dropped (stateOf m w best second .held) q
+drops-held : (m : ℕ) (w : Progress) (best second : List ℕ) (q : ℕ) → drops w q ≡ dropped (stateOf m w best second .held) q
 drops-held m w best second q = drops-by (w .held) q (fullOf m best (w .best)) (fullOf m second (w .second))
 
 -- a visit changes nothing of it
@@ -58,7 +58,7 @@ module _ (allowed m : ℕ) (onward : List ℕ → ℕ → State → Limited) (v 
   abbrev pub extended : Limited
   extended = extendWithin allowed onward v u p b (stateOf m w best second)
 
-  pub extended-out : y .out ≡ true → limitedOf m y best second ≡ extended
+  extended-out : y .out ≡ true → limitedOf m y best second ≡ extended
   extended-out o =
       let z : ltb (w .visits) allowed ≡ false = was-false (ltb (w .visits) allowed) _ _ going (rw counts at o) in
       rw (counts, z)
@@ -73,18 +73,18 @@ module _ (allowed m : ℕ) (onward : List ℕ → ℕ → State → Limited) (v 
     drops-as-held : (z : Bool) → drops y q ≡ z → dropped (stateOf m w best second .held) (p + loss v b) ≡ z
     drops-as-held z d = rw (← adds) (sym (drops-held m w best second q) ∙ (rw seen at d))
 
-    pub extended-dropped : drops y q ≡ true → limitedOf m y best second ≡ extended
+    extended-dropped : drops y q ≡ true → limitedOf m y best second ≡ extended
     extended-dropped d = rw (seen, going, allows, drops-as-held true d)
 
-    pub extended-on : drops y q ≡ false → extended ≡ onward (u ++ b ∷ []) q (stateOf m y best second)
+    extended-on : drops y q ≡ false → extended ≡ onward (u ++ b ∷ []) q (stateOf m y best second)
     extended-on d = rw (allows, drops-as-held false d, seen, adds)
 
 -- ---- two extensions, where the first one's is first
 module _ (m : ℕ) (x : Progress) (best second : List ℕ) (first : Limited) (then : State → Limited) (e : limitedOf m x best second ≡ first) where
-  pub over : x .out ≡ true → limitedOf m x best second ≡ andThen first then
+  over : x .out ≡ true → limitedOf m x best second ≡ andThen first then
   over o = let z : limitedOf m x best second ≡ out = rw o in z ∙ ap (λ (f : Limited). andThen f then) (sym z ∙ e)
 
-  pub not-over : x .out ≡ false → andThen first then ≡ then (stateOf m x best second)
+  not-over : x .out ≡ false → andThen first then ≡ then (stateOf m x best second)
   not-over o = let z : limitedOf m x best second ≡ ended (stateOf m x best second) = rw o in ap (λ (f : Limited). andThen f then) (sym e ∙ z)
 
 -- ---- a full path stands in memory as its word
@@ -94,20 +94,17 @@ path-whole zero i half e = rw e (take-all 1 (take 1 half) (rw (length-take 1 hal
 path-whole (suc m) i half e = rw (e, le-ltb (2 ^ suc m) (2 ^ m) (omega (arith, two-pow-succ m)), le-ltb (2 ^ suc m) (2 ^ suc m) (omega arith))
 
 -- ---- the written walk along the kinds from index i on
-abbrev pub rest : ℕ → ℕ → List ℤ → List ℕ → ℕ → List ℕ → ℕ → State → Limited
-rest allowed m l kinds i = walkWithin allowed m l (drop (i + 1) kinds)
-
 module _ (allowed m : ℕ) (l : List ℤ) (kinds : List ℕ) (i : ℕ) (u : List ℕ) (p : ℕ) (s : State) where
   pub walk-end : length kinds ≤ i → walkWithin allowed m l (drop i kinds) u p s ≡ ended (finished u p s)
   unfolding walkWithin
   walk-end h = rw (drop-of-length-le kinds {i = i} h)
 
-  pub walk-frozen : i < length kinds → getD kinds i 0 ≡ 0 → walkWithin allowed m l (drop i kinds) u p s
+  walk-frozen : i < length kinds → getD kinds i 0 ≡ 0 → walkWithin allowed m l (drop i kinds) u p s
       ≡ extendWithin allowed (rest allowed m l kinds i) (value m l u) u p 0 s
   unfolding walkWithin
   walk-frozen h e = rw (add-one i, drop-cons kinds i 0 h, e)
 
-  pub walk-info : i < length kinds → (getD kinds i 0 ≡ 0 → ⊥) → walkWithin allowed m l (drop i kinds) u p s
+  walk-info : i < length kinds → (getD kinds i 0 ≡ 0 → ⊥) → walkWithin allowed m l (drop i kinds) u p s
       ≡ andThen (extendWithin allowed (rest allowed m l kinds i) (value m l u) u p (hard (value m l u)) s)
       (extendWithin allowed (rest allowed m l kinds i) (value m l u) u p (1 - hard (value m l u)))
   unfolding walkWithin
@@ -159,14 +156,7 @@ module _ {m : ℕ} {l : List ℤ} {kinds : List ℕ} {rows : List ℤ} {half bes
           stands = λ f h. let z : i + 1 - 1 ≡ i = omega arith in rw (z, path, take-at here (b ∷ []) i (r .long-path)) (stands f);
         }
 
--- ---- one extension, by the bit b of index i of the path u, from what was held to what is held
-pub record Extended (allowed m : ℕ) (l : List ℤ) (kinds : List ℕ) (i p b : ℕ) (u : List ℕ)
-    (w : Progress) (best second : List ℕ) (z : Progress) (half′ best′ second′ : List ℕ) : Type 0 where
-  pub gives : limitedOf m z best′ second′ ≡ extendWithin allowed (rest allowed m l kinds i) (value m l u) u p b (stateOf m w best second)
-  pub path-stays : pathOf m i (take (2 ^ m) half′) ≡ u
-  pub bits-stay : Bits half′
-  pub words : AreWords m best′ second′
-
+-- ---- one extension
 module _ {allowed m : ℕ} {l : List ℤ} {kinds : List ℕ} {i p b : ℕ} {u : List ℕ} {w y : Progress} (half best second : List ℕ)
     (going : w .out ≡ false) (counts : y ≡ counted allowed w)
     (path : pathOf m i (take (2 ^ m) half) ≡ u) (bits : Bits half) (words : AreWords m best second) where

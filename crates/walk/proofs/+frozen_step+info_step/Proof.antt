@@ -1,23 +1,22 @@
 -- The walk's two steps, which call each other, meet their contracts. The measure is the number of indices still to choose.
 use mathlib.Core.Path.{_≡_, refl, ap, ap₂, sym, _∙_}
-use mathlib.Core.Bool.{Bool, true, false}
 use mathlib.Core.List.{List, [], _∷_, _++_}
-use Prim.Native.Nat.{ℕ, _+_, _-_, _*_, _^_, _≤_, _<_}
+use Prim.Native.Nat.{ℕ, _+_, _-_, _*_, _^_, _<_}
 use native.Mathlib.Omega.{arith}
 use lib.IntN.{ℤ}
-use lib.ListN.{length, take, drop}
+use lib.ListN.{length, take}
 use mir.Syntax.{w32}
 use mir.Val.{toZ, ofZ}
 use mir.Facts.{toZ-ofZ}
 use Rattle.words.specs.TransformLaws.{bits-take}
 use Rattle.decoding.specs.Readings.{loss}
 use Rattle.decoding.specs.Quick.{hard}
-use Rattle.decoding.specs.Walk.{State, finished, value}
-use Rattle.decoding.specs.Allowance.{ended, extendWithin, walkWithin}
+use Rattle.decoding.specs.Walk.{finished, value}
+use Rattle.decoding.specs.Allowance.{ended}
 use Rattle.decoding.specs.PathLaws.{loss-hard, hard-bit}
 use Rattle.memory.specs.Memory.{pathOf}
-use Rattle.walk.specs.Progress.{stateOf, limitedOf, Ready, Stepped}
-use Rattle.walk.specs.StepLaws.{Extended, true-false, still-kept, path-whole, walk-end, here, short, value-ready, value-small, sum-small, next-ready}
+use Rattle.walk.specs.Progress.{stateOf, Extended}
+use Rattle.walk.specs.StepLaws.{true-false, still-kept, path-whole, walk-end, here, short, value-ready, value-small, sum-small, next-ready}
 use Rattle.walk.specs.StepLaws.{extension-out, extension-dropped, extension-on, one-extension, first-only, two-extensions}
 use borrow.Fn.Kinds.{In}
 use borrow.Fn.PlainCycle.{Measures, is, falls, and}
