@@ -100,13 +100,6 @@ module _ (r m : ℕ) (l : List ℤ) (k n : ℕ) where
         | refuses why f h ↦ let z : _≡_ {A = ℕ} 0 1 = cc in absurd (omega arith)
       ]
 
-  pub refuses-first : (why : Refusal) → Refused why ≡ admitted r m l k n → numberOf why < 5
-  refuses-first why e =
-      elim decided [
-        | allows d f a ↦ let z : _≡_ {A = ℕ} 0 1 = cc in absurd (omega arith)
-        | refuses w f h ↦ let same : why ≡ w = cc in rw same h
-      ]
-
   pub all-allowed : (c : Code) → Allows r m l k n c → Allowed c ≡ admitted r m l k n
   all-allowed c a =
       let small = a .code .sound in
