@@ -1,5 +1,5 @@
-// The code-parameter type: the limits, the tests on r and m, length, dimension and index kind; the refusals and their numbers.
-// This is the one place for all of them.
+// The code-parameter type: the limits, the tests on r and m, length, dimension and index kind;
+// the refusals and their numbers. This is the one place for all of them.
 ghost use mathlib.Core.Path.{_≡_};
 ghost use Prim.Native.Nat.{_<_, _^_};
 ghost use lib.ListN.{length};

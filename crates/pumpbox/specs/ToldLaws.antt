@@ -38,7 +38,8 @@ by-answer (Found penalty gap visits) bits word = refl
 by-answer (Refused why) bits word = refl
 
 pub told-searched : (answer : Searched) (bits word : List ℕ) (o : Search.Outcome) (returned : ℕ) (out : List ℕ)
-    → Search.told answer bits word ≡ o → returned ≡ searchedNumber answer → out ≡ searchedNumbers answer → told returned out (bits ∷ word ∷ []) ≡ shownSearch o
+    → Search.told answer bits word ≡ o → returned ≡ searchedNumber answer → out ≡ searchedNumbers answer → told returned out (bits ∷ word ∷ []) ≡
+    shownSearch o
 told-searched answer bits word o returned out e f g =
     ap₂ (λ (n : ℕ) (l : List ℕ). told n l (bits ∷ word ∷ [])) f g ∙ by-answer answer bits word ∙ ap shownSearch e
 

@@ -1,4 +1,5 @@
-// The C exports, one per public call: include/cinorbis.h says what each means. A call returns 0 or its refusal's number.
+// The C exports, one per public call: include/cinorbis.h says what each means.
+// A call returns 0 or its refusal's number.
 use encode::Encoded;
 use quick::Read;
 use record::Header;
@@ -11,7 +12,10 @@ ghost use Rattle.record.specs.Reader.{headerOf, partBy};
 ghost use Rattle.record.specs.Searching.{searchingRecord};
 ghost use Rattle.search.specs.Outcome.{searching};
 ghost use Rattle.code.specs.Sound.{defaultAllowance};
-ghost use Rattle.pumpbox.specs.Told.{numbers, told, shown, shownQuick, shownSearch, shownPart, headerNumber, headerR, headerM, headerPlace, readNumber, readPenalty, readPlace, searchedNumber, searchedPenalty, searchedGap, searchedVisits, searchedPlace, searchedNumbers};
+ghost use Rattle.pumpbox.specs.Told.{numbers, told, shown, shownQuick, shownSearch, shownPart};
+ghost use Rattle.pumpbox.specs.Told.{headerNumber, headerR, headerM, headerPlace};
+ghost use Rattle.pumpbox.specs.Told.{readNumber, readPenalty, readPlace};
+ghost use Rattle.pumpbox.specs.Told.{searchedNumber, searchedPenalty, searchedGap, searchedVisits, searchedPlace, searchedNumbers};
 
 // Penalty, gap, visits and place, in the order of the header's struct.
 fn put_numbers(out: &mut [u64; 4], penalty: u32, gap: u32, visits: u32, place: usize)
@@ -47,7 +51,8 @@ pub extern "C" fn cinorbis_encode(
     word: &mut [u8],
     out: &mut [u64; 4],
 ) -> u32
-    ensures { λ number. ⌜ told number (now (out .exit)) (now (word .exit) ∷ []) ≡ shown (encoding r m (now (bits .entry)) (now (word .entry))) ⌝ }
+    ensures { λ number. ⌜ told number (now (out .exit)) (now (word .exit) ∷ [])
+        ≡ shown (encoding r m (now (bits .entry)) (now (word .entry))) ⌝ }
 {
     let answer = encode::encode(r, m, bits, word);
     put_numbers(out, 0, 0, 0, place_of(answer));
@@ -62,7 +67,8 @@ pub extern "C" fn cinorbis_inverse(
     bits: &mut [u8],
     out: &mut [u64; 4],
 ) -> u32
-    ensures { λ number. ⌜ told number (now (out .exit)) (now (bits .exit) ∷ []) ≡ shown (inverting r m (now (word .entry)) (now (bits .entry))) ⌝ }
+    ensures { λ number. ⌜ told number (now (out .exit)) (now (bits .exit) ∷ [])
+        ≡ shown (inverting r m (now (word .entry)) (now (bits .entry))) ⌝ }
 {
     let answer = encode::inverse(r, m, word, bits);
     put_numbers(out, 0, 0, 0, place_of(answer));

@@ -27,7 +27,8 @@ returns c =
     refused-parameters (s .r) (s .m) (s .readings .now) (s .bits) (s .word) (sym (c .before .before .new .ensures) ∙ c .enum-told .given .1)
 
 -- the code that was made
-is-made : (c : tie.After-known-told) → made (c .before .before .before .before .args .r) (c .before .before .before .before .args .m) ≡ Good (c .before .code .given .0 .0)
+is-made : (c : tie.After-known-told) → made (c .before .before .before .before .args .r) (c .before .before .before .before .args .m)
+    ≡ Good (c .before .code .given .0 .0)
 is-made c = sym (c .before .before .before .new .ensures) ∙ c .before .code .given .1
 
 length-requires : tie.Need-length-requires
@@ -36,7 +37,8 @@ length-requires c κs = made-of _ _ _ (is-made c) .sound
 returns-2 : tie.Need-returns-2
 returns-2 c =
     let s = c .before .before .before .before .before .before .args in
-    refused-input (s .r) (s .m) (s .readings .now) (s .bits) (s .word) _ (is-made (c .before .before)) (λ e. c .if1 .taken (e ∙ sym (c .before .length .ensures)))
+    refused-input (s .r) (s .m) (s .readings .now) (s .bits) (s .word) _ (is-made (c .before .before))
+    (λ e. c .if1 .taken (e ∙ sym (c .before .length .ensures)))
 
 dimension-requires : tie.Need-dimension-requires
 dimension-requires c κs = made-of _ _ _ (is-made (c .before .before)) .sound
@@ -44,13 +46,15 @@ dimension-requires c κs = made-of _ _ _ (is-made (c .before .before)) .sound
 returns-3 : tie.Need-returns-3
 returns-3 c =
     let s = c .before .before .before .before .before .before .before .before .args in
-    refused-bits (s .r) (s .m) (s .readings .now) (s .bits) (s .word) _ (is-made (c .before .before .before .before)) (c .before .before .if1 .left ∙ c .before .before .before .length .ensures)
+    refused-bits (s .r) (s .m) (s .readings .now) (s .bits) (s .word) _ (is-made (c .before .before .before .before))
+    (c .before .before .if1 .left ∙ c .before .before .before .length .ensures)
     (λ e. c .if2 .taken (e ∙ sym (c .before .dimension .ensures)))
 
 returns-4 : tie.Need-returns-4
 returns-4 c =
     let s = c .before .before .before .before .before .before .before .before .before .args in
-    refused-word (s .r) (s .m) (s .readings .now) (s .bits) (s .word) _ (is-made (c .before .before .before .before .before)) (c .before .before .before .if1 .left ∙ c .before .before .before .before .length .ensures)
+    refused-word (s .r) (s .m) (s .readings .now) (s .bits) (s .word) _ (is-made (c .before .before .before .before .before))
+    (c .before .before .before .if1 .left ∙ c .before .before .before .before .length .ensures)
     (c .before .if2 .left ∙ c .before .before .dimension .ensures) (λ e. c .if3 .taken (e ∙ sym (c .before .before .before .before .length .ensures)))
 
 first-bad-reading-requires : tie.Need-first-bad-reading-requires
@@ -61,15 +65,19 @@ returns-5 c =
     let s = c .before .before .before .before .before .before .before .before .before .before .before .args in
     let n = c .before .before .before .before .before .before .length .ensures in
     ap (λ (place : ℕ). Refused (Entry place)) (c .before .first-bad-reading .ensures)
-    ∙ refused-entry (s .r) (s .m) (s .readings .now) (s .bits) (s .word) _ (is-made (c .before .before .before .before .before .before .before)) (c .before .before .before .before .before .if1 .left ∙ n)
-    (c .before .before .before .if2 .left ∙ c .before .before .before .before .dimension .ensures) (c .before .before .if3 .left ∙ n) (omega (arith, c .before .first-bad-reading .ensures, c .before .before .before .before .before .if1 .left))
+    ∙ refused-entry (s .r) (s .m) (s .readings .now) (s .bits) (s .word) _ (is-made (c .before .before .before .before .before .before .before))
+    (c .before .before .before .before .before .if1 .left ∙ n)
+    (c .before .before .before .if2 .left ∙ c .before .before .before .before .dimension .ensures) (c .before .before .if3 .left ∙ n)
+    (omega (arith, c .before .first-bad-reading .ensures, c .before .before .before .before .before .if1 .left))
 
 returns-6 : tie.Need-returns-6
 returns-6 c =
     let s = c .before .before .before .before .before .before .before .before .before .before .before .args in
     let n = c .before .before .before .before .before .before .length .ensures in
-    allowed (s .r) (s .m) (s .readings .now) (s .bits) (s .word) _ (is-made (c .before .before .before .before .before .before .before)) (c .before .before .before .before .before .if1 .left ∙ n)
-    (c .before .before .before .if2 .left ∙ c .before .before .before .before .dimension .ensures) (c .before .before .if3 .left ∙ n) (omega (arith, c .before .first-bad-reading .ensures, c .before .before .before .before .before .if1 .left))
+    allowed (s .r) (s .m) (s .readings .now) (s .bits) (s .word) _ (is-made (c .before .before .before .before .before .before .before))
+    (c .before .before .before .before .before .if1 .left ∙ n)
+    (c .before .before .before .if2 .left ∙ c .before .before .before .before .dimension .ensures) (c .before .before .if3 .left ∙ n)
+    (omega (arith, c .before .first-bad-reading .ensures, c .before .before .before .before .before .if1 .left))
 
 pub admit-spec : {M : Type 1} → statement M
 admit-spec =

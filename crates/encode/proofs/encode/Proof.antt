@@ -27,7 +27,8 @@ unfolding encoding
 returns c = tested-parameters _ _ _ _ _ _ _ (sym (c .before .before .new .ensures) ∙ c .enum-told .given .1)
 
 -- the code that was made
-good : (c : tie.After-known-told) → let s = c .before .before .before .before .before .before .args in made (s .r) (s .m) ≡ Good (c .before .code .given .0 .0)
+good : (c : tie.After-known-told) → let s = c .before .before .before .before .before .before .args in made (s .r) (s .m) ≡ Good
+    (c .before .code .given .0 .0)
 good c = sym (c .before .before .before .new .ensures) ∙ c .before .code .given .1
 
 is-made : (c : tie.After-known-told) → let s = c .before .before .before .before .before .before .args in MadeOf (s .r) (s .m) (c .before .code .given .0 .0)

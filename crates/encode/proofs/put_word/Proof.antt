@@ -46,7 +46,8 @@ fill-requires c κs =
     let c4 = c .before .before .before .before in
     let c6 = c4 .before .before in
     let s = c6 .before .before .before in
-    fill-asked _ _ _ zeros _ (c4 .put-kinds .ensures) (c6 .length .ensures) (s .args .bits .now) (s .args .word .now) (s .pre .0 .bits-long) (s .pre .0 .word-long)
+    fill-asked _ _ _ zeros _ (c4 .put-kinds .ensures) (c6 .length .ensures) (s .args .bits .now) (s .args .word .now) (s .pre .0 .bits-long)
+    (s .pre .0 .word-long)
 
 cast-transform : tie.Need-cast-transform
 cast-transform c = search needs

@@ -79,7 +79,8 @@ take-row-requires c κs =
     let c12 = c10 .before .before in
     let s = c12 .before .before .before in
     let row = c6 .put-row in
-    take-asked _ _ _ zeros _ (c10 .put-kinds .ensures) (c12 .length .ensures) _ _ (s .pre .0 .word-long) (row .ensures) (s .args .bits .now) (s .pre .0 .bits-long)
+    take-asked _ _ _ zeros _ (c10 .put-kinds .ensures) (c12 .length .ensures) _ _ (s .pre .0 .word-long) (row .ensures) (s .args .bits .now)
+    (s .pre .0 .bits-long)
 
 same-length : tie.Need-same-length
 same-length c = search needs

@@ -26,7 +26,8 @@ shared-slice-read-row : tie.Need-shared-slice-read-row Inv-loop μ-loop
 shared-slice-read-row c =
     let s = c .before .before .before .before .before in
     let l = c .before .before .before .before .loop in
-    bit-left (s .args .kinds .now) (s .args .bits .now) (s .args .row .now) (s .pre .0) (l .row) (l .i) (l .used) (l .inv) (omega arith) (c .before .if1 .left)
+    bit-left (s .args .kinds .now) (s .args .bits .now) (s .args .row .now) (s .pre .0) (l .row) (l .i) (l .used) (l .inv) (omega arith)
+    (c .before .if1 .left)
 
 slice-write-row-2 : tie.Need-slice-write-row-2 Inv-loop μ-loop
 slice-write-row-2 c = omega arith

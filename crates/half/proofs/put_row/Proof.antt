@@ -20,7 +20,9 @@ same-length : tie.Need-same-length
 same-length c = search needs
 
 returns : tie.Need-returns
-returns c = c .before .before .transform .ensures ∙ ap (transform (c .before .before .before .before .before .before .before .before .before .before .args .m)) (c .before .before .before .before .before .before .copy .ensures)
+returns c = c .before .before .transform .ensures ∙ ap
+    (transform (c .before .before .before .before .before .before .before .before .before .before .args .m))
+    (c .before .before .before .before .before .before .copy .ensures)
 
 pub put-row-spec : {M : Type 1} → statement M
 put-row-spec = tie.close (tie.spec copy-requires transform-requires same-length returns)

@@ -23,7 +23,8 @@ returns : tie.Need-returns
 returns c =
     let e = c .before .before .before .before .before .before .inverse in
     let p = c .before .before .place-of in
-    told-encoded (e .result) _ _ (c .number-of .result) (p .result) (c .before .put-numbers .last .0) (e .ensures) (c .number-of .ensures) (p .ensures) (c .before .put-numbers .ensures)
+    told-encoded (e .result) _ _ (c .number-of .result) (p .result) (c .before .put-numbers .last .0) (e .ensures) (c .number-of .ensures)
+    (p .ensures) (c .before .put-numbers .ensures)
 
 pub cinorbis-inverse-spec : {M : Type 1} → statement M
 cinorbis-inverse-spec =

@@ -35,7 +35,8 @@ returns c =
     let part = c .before .before .before .before .before .before .packed in
     let head = c .before .before .before .before .before .before .before .header-of in
     let bytes = c .before .before .before .before .before .before .before .before .before .args .bytes .now in
-    told-part (head .result) (headerOf bytes) (part .result .now) (partBy (headerOf bytes) bytes) (put .last .0) (c .header-number .result) (r .result) (m .result) (place .result)
+    told-part (head .result) (headerOf bytes) (part .result .now) (partBy (headerOf bytes) bytes) (put .last .0) (c .header-number .result)
+    (r .result) (m .result) (place .result)
     (head .ensures) (part .ensures) (c .header-number .ensures) (r .ensures) (m .ensures) (place .ensures) (put .ensures)
 
 pub cinorbis-record-spec : {M : Type 1} → statement M

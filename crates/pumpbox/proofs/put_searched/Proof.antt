@@ -23,7 +23,15 @@ searched-number-requires : tie.Need-searched-number-requires
 searched-number-requires c κs = search needs
 
 returns : tie.Need-returns
-returns c = (c .searched-number .ensures, c .before .put-numbers .ensures ∙ cc (c .before .before .searched-place .ensures, c .before .before .before .searched-visits .ensures, c .before .before .before .before .searched-gap .ensures, c .before .before .before .before .before .searched-penalty .ensures))
+returns c = (
+  c .searched-number .ensures,
+  c .before .put-numbers .ensures ∙ cc (
+    c .before .before .searched-place .ensures,
+    c .before .before .before .searched-visits .ensures,
+    c .before .before .before .before .searched-gap .ensures,
+    c .before .before .before .before .before .searched-penalty .ensures,
+  ),
+)
 
 pub put-searched-spec : {M : Type 1} → statement M
 put-searched-spec =
