@@ -5,7 +5,8 @@ ghost use Prim.Native.Nat.{_+_, _≤_};
 ghost use lib.ListN.{length};
 ghost use Rattle.words.specs.Bits.{Bits};
 ghost use Rattle.cinorbis.specs.Line.{digit, decimal, Put};
-ghost use Rattle.cinorbis.specs.Line.{infoText, figuresText, answerLine, refusedLine, totalLine};
+ghost use Rattle.cinorbis.specs.Line.{infoText, figuresText};
+ghost use Rattle.cinorbis.specs.Line.{answerLine, refusedLine, totalLine};
 
 fn put_text(text: &[u8], out: &mut [u8], at: usize) -> usize
     requires { ⌜ at + length (now text) ≤ length (now out) ⌝ }
@@ -21,7 +22,8 @@ fn put_text(text: &[u8], out: &mut [u8], at: usize) -> usize
 
 fn put_bits(bits: &[u8], out: &mut [u8], at: usize) -> usize
     requires { ⌜ Bits (now bits) × (at + length (now bits) ≤ length (now out)) ⌝ }
-    ensures { λ end. ⌜ Put (now (out .entry)) at (map digit (now (bits .entry))) end (now (out .exit)) ⌝ }
+    ensures { λ end. ⌜ Put (now (out .entry)) at (map digit (now (bits .entry))) end
+        (now (out .exit)) ⌝ }
 {
     let mut i = 0;
     while i < bits.len() {
@@ -44,7 +46,8 @@ fn put_number(n: u64, out: &mut [u8], at: usize) -> usize
 // A text and a number after it.
 fn put_field(text: &[u8], n: u64, out: &mut [u8], at: usize) -> usize
     requires { ⌜ at + (length (now text) + 20) ≤ length (now out) ⌝ }
-    ensures { λ end. ⌜ Put (now (out .entry)) at (now (text .entry) ++ decimal n) end (now (out .exit)) ⌝ }
+    ensures { λ end. ⌜ Put (now (out .entry)) at (now (text .entry) ++ decimal n) end
+        (now (out .exit)) ⌝ }
     ensures { λ end. ⌜ end ≤ at + (length (now (text .entry)) + 20) ⌝ }
 {
     let end = put_text(text, out, at);
@@ -53,7 +56,8 @@ fn put_field(text: &[u8], n: u64, out: &mut [u8], at: usize) -> usize
 
 fn put_info(w: u64, bits: &[u8], out: &mut [u8], at: usize) -> usize
     requires { ⌜ Bits (now bits) × (at + (length (now bits) + 26) ≤ length (now out)) ⌝ }
-    ensures { λ end. ⌜ Put (now (out .entry)) at (infoText w (now (bits .entry))) end (now (out .exit)) ⌝ }
+    ensures { λ end. ⌜ Put (now (out .entry)) at (infoText w (now (bits .entry))) end
+        (now (out .exit)) ⌝ }
     ensures { λ end. ⌜ end ≤ at + (length (now (bits .entry)) + 26) ⌝ }
 {
     let end = put_number(w, out, at);
@@ -63,7 +67,8 @@ fn put_info(w: u64, bits: &[u8], out: &mut [u8], at: usize) -> usize
 
 fn put_figures(penalty: u32, gap: u32, visits: u32, out: &mut [u8], at: usize) -> usize
     requires { ⌜ at + 86 ≤ length (now out) ⌝ }
-    ensures { λ end. ⌜ Put (now (out .entry)) at (figuresText penalty gap visits) end (now (out .exit)) ⌝ }
+    ensures { λ end. ⌜ Put (now (out .entry)) at (figuresText penalty gap visits) end
+        (now (out .exit)) ⌝ }
     ensures { λ end. ⌜ end ≤ length (now (out .entry)) ⌝ }
 {
     let end = put_field(b" penalty ", penalty as u64, out, at);

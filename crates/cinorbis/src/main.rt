@@ -38,7 +38,8 @@ fn flush(output: &[u8], s: State) -> State
 // Moves the bytes from at to end to the front.
 fn move_to_front(buffer: &mut [u8], at: usize, end: usize)
     requires { ⌜ (at ≤ «end») × («end» ≤ length (now buffer)) ⌝ }
-    ensures { λ _. ⌜ now (buffer .exit) ≡ take («end» - at) (drop at (now (buffer .entry))) ++ drop («end» - at) (now (buffer .entry)) ⌝ }
+    ensures { λ _. ⌜ now (buffer .exit)
+        ≡ take («end» - at) (drop at (now (buffer .entry))) ++ drop («end» - at) (now (buffer .entry)) ⌝ }
 {
     let n = end - at;
     let mut i = 0;
@@ -50,7 +51,8 @@ fn move_to_front(buffer: &mut [u8], at: usize, end: usize)
 
 // Reads behind the bytes that are not yet used.
 fn refill(input: &mut [u8], s: State) -> State
-    requires { ⌜ (s .at ≤ s .«end») × (s .«end» ≤ length (now input)) × (s .«end» - s .at < length (now input)) ⌝ }
+    requires { ⌜ (s .at ≤ s .«end») × (s .«end» ≤ length (now input))
+        × (s .«end» - s .at < length (now input)) ⌝ }
     ensures { λ t. ⌜ Refilled s (now (input .entry)) t (now (input .exit)) ⌝ }
 {
     let k = s.end - s.at;
@@ -83,8 +85,10 @@ fn refill(input: &mut [u8], s: State) -> State
 }
 
 fn turn(input: &mut [u8], output: &mut [u8], s: State) -> State
-    requires { ⌜ Ready s (now input) (now output) × (385 ≤ length (now input)) × (512 ≤ length (now output)) × (s .read + s .refused + 1 < 2 ^ 64) ⌝ }
-    ensures { λ t. ⌜ Turned s (now (input .entry)) (now (output .entry)) t (now (input .exit)) (now (output .exit)) ⌝ }
+    requires { ⌜ Ready s (now input) (now output)
+        × (385 ≤ length (now input)) × (512 ≤ length (now output)) × (s .read + s .refused + 1 < 2 ^ 64) ⌝ }
+    ensures { λ t. ⌜ Turned s (now (input .entry)) (now (output .entry)) t
+        (now (input .exit)) (now (output .exit)) ⌝ }
 {
     if state::is_there(input, s) {
         if output.len() - s.text < LINE {

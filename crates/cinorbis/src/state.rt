@@ -67,7 +67,8 @@ fn count(s: State, step: Step) -> State
 
 // Takes the next record.
 pub fn take_record(input: &[u8], output: &mut [u8], s: State) -> State
-    requires { ⌜ (s .at < s .«end») × (s .«end» ≤ length (now input)) × (s .text + 512 ≤ length (now output)) × (s .read + s .refused + 1 < 2 ^ 64) ⌝ }
+    requires { ⌜ (s .at < s .«end») × (s .«end» ≤ length (now input))
+        × (s .text + 512 ≤ length (now output)) × (s .read + s .refused + 1 < 2 ^ 64) ⌝ }
     ensures { λ t. ⌜ Took s (now (input .entry)) (now (output .entry)) t (now (output .exit)) ⌝ }
 {
     let at = s.at;

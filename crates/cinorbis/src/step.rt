@@ -37,7 +37,8 @@ fn is_last(number: u32) -> bool
 
 fn refuse(w: u64, s: &[u8], why: Refusal, out: &mut [u8], at: usize) -> Step
     requires { ⌜ (0 < length (now s)) × (at + 512 ≤ length (now out)) ⌝ }
-    ensures { λ t. ⌜ Stepped w (now (s .entry)) (Result.refused why) (now (out .entry)) at t (now (out .exit)) ⌝ }
+    ensures { λ t. ⌜ Stepped w (now (s .entry)) (Result.refused why) (now (out .entry)) at t
+        (now (out .exit)) ⌝ }
 {
     let number = why.number();
     let end = line::put_refused(w, number, out, at);
@@ -59,8 +60,10 @@ fn tell(
     out: &mut [u8],
     at: usize,
 ) -> Step
-    requires { ⌜ (0 < length (now s)) × Bits (now bits) × (length (now bits) ≤ 256) × (at + 512 ≤ length (now out)) ⌝ }
-    ensures { λ t. ⌜ Stepped w (now (s .entry)) (Result.answered (now (bits .entry)) penalty gap visits) (now (out .entry)) at t
+    requires { ⌜ (0 < length (now s)) × Bits (now bits) × (length (now bits) ≤ 256)
+        × (at + 512 ≤ length (now out)) ⌝ }
+    ensures { λ t. ⌜ Stepped w (now (s .entry))
+        (Result.answered (now (bits .entry)) penalty gap visits) (now (out .entry)) at t
         (now (out .exit)) ⌝ }
 {
     let end = line::put_answer(w, bits, penalty, gap, visits, out, at);
@@ -82,9 +85,11 @@ fn search_into(
     out: &mut [u8],
     at: usize,
 ) -> Step
-    requires { ⌜ (headerOf (now s) ≡ Header.Record code) × (length (now bits) ≡ dimension (code .r) (code .m)) × (length (now word) ≡ 2 ^ (code .m)) ⌝ }
+    requires { ⌜ (headerOf (now s) ≡ Header.Record code)
+        × (length (now bits) ≡ dimension (code .r) (code .m)) × (length (now word) ≡ 2 ^ (code .m)) ⌝ }
     requires { ⌜ (0 < length (now s)) × (length (now bits) ≤ 256) × (at + 512 ≤ length (now out)) ⌝ }
-    ensures { λ t. ⌜ Stepped w (now (s .entry)) (resultOf (now (s .entry))) (now (out .entry)) at t (now (out .exit)) ⌝ }
+    ensures { λ t. ⌜ Stepped w (now (s .entry)) (resultOf (now (s .entry)))
+        (now (out .entry)) at t (now (out .exit)) ⌝ }
 {
     match record::search_record(s, ALLOWANCE, bits, word) {
         Searched::Found {
@@ -97,8 +102,10 @@ fn search_into(
 }
 
 fn search(w: u64, s: &[u8], code: Code, out: &mut [u8], at: usize) -> Step
-    requires { ⌜ (headerOf (now s) ≡ Header.Record code) × (0 < length (now s)) × (at + 512 ≤ length (now out)) ⌝ }
-    ensures { λ t. ⌜ Stepped w (now (s .entry)) (resultOf (now (s .entry))) (now (out .entry)) at t (now (out .exit)) ⌝ }
+    requires { ⌜ (headerOf (now s) ≡ Header.Record code) × (0 < length (now s))
+        × (at + 512 ≤ length (now out)) ⌝ }
+    ensures { λ t. ⌜ Stepped w (now (s .entry)) (resultOf (now (s .entry)))
+        (now (out .entry)) at t (now (out .exit)) ⌝ }
 {
     let mut bits = [0u8; 256];
     let mut word = [0u8; 256];
@@ -110,7 +117,8 @@ fn search(w: u64, s: &[u8], code: Code, out: &mut [u8], at: usize) -> Step
 // The record that the bytes begin with.
 pub fn one(w: u64, s: &[u8], out: &mut [u8], at: usize) -> Step
     requires { ⌜ (0 < length (now s)) × (at + 512 ≤ length (now out)) ⌝ }
-    ensures { λ t. ⌜ Stepped w (now (s .entry)) (resultOf (now (s .entry))) (now (out .entry)) at t (now (out .exit)) ⌝ }
+    ensures { λ t. ⌜ Stepped w (now (s .entry)) (resultOf (now (s .entry)))
+        (now (out .entry)) at t (now (out .exit)) ⌝ }
 {
     match record::header_of(s) {
         Header::Record(code) => search(w, s, code, out, at),

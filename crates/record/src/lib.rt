@@ -114,7 +114,8 @@ fn least(a: usize, b: usize) -> usize
 
 // Writes the readings of a packed part, as many as it holds and there is room for.
 pub fn unpack(part: &[u8], readings: &mut [i16])
-    ensures { λ _. ⌜ now (readings .exit) ≡ laidOver (unpacked (now (part .entry))) (now (readings .entry)) ⌝ }
+    ensures { λ _. ⌜ now (readings .exit)
+        ≡ laidOver (unpacked (now (part .entry))) (now (readings .entry)) ⌝ }
 {
     let whole = part.len() / 3 * 2 + part.len() % 3 / 2;
     let n = least(whole, readings.len());
@@ -181,7 +182,8 @@ pub fn packed(s: &[u8]) -> &[u8]
     }
 }
 
-// Searches the record that the bytes begin with. The refusals are 1, 8, 9, 3, 4, 6, 7, in this order.
+// Searches the record that the bytes begin with. The refusals are 1, 8, 9, 3, 4, 6, 7, in this
+// order.
 pub fn search_record(s: &[u8], allowed: u32, bits: &mut [u8], word: &mut [u8]) -> Searched
     ensures { λ answer. ⌜ Search.told answer (now (bits .exit)) (now (word .exit))
         ≡ searchingRecord allowed (now (s .entry)) (now (bits .entry)) (now (word .entry)) ⌝ }
@@ -195,7 +197,8 @@ pub fn search_record(s: &[u8], allowed: u32, bits: &mut [u8], word: &mut [u8]) -
 fn search_framed(s: &[u8], code: Code, allowed: u32, bits: &mut [u8], word: &mut [u8]) -> Searched
     requires { ⌜ Sound code × (suc (partLength (code .m)) ≤ length (now s)) ⌝ }
     ensures { λ answer. ⌜ Search.told answer (now (bits .exit)) (now (word .exit))
-        ≡ searchingBy (Header.Record code) allowed (now (s .entry)) (now (bits .entry)) (now (word .entry)) ⌝ }
+        ≡ searchingBy (Header.Record code) allowed (now (s .entry))
+        (now (bits .entry)) (now (word .entry)) ⌝ }
 {
     let mut readings = [0i16; 256];
     let n = code.length();

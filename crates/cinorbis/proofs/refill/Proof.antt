@@ -84,14 +84,17 @@ same-length-3 c = search needs
 
 returns-3 : tie.Need-returns-3
 returns-3 c =
+    let r = c .before .before .before .before .before .before .before .read in
+    let m = c .before .before .before .before .before .before .before .before .before .before .before .move-to-front in
     let g = c .before .before .before .before .before .before .before .before .before .before .before .before .before .before .before in
     let s = g .args .s in
-    let m = c .before .before .before .before .before .before .before .before .before .before .before .move-to-front in
-    let q = c .before .before .before .before .before .before .before .read .last .1 .0 in
+    let q = r .last .1 .0 in
+    let behind =
+    count-behind (s .«end» - s .at) (m .last .0) q (c .count .result) (omega (arith, m .kept .0, g .pre .1)) (r .kept .1 .0) (c .count .ensures .0 .0) in
     record {
       kept = kept-front (g .args .input .now) (m .last .0) q (s .at) (s .«end») (g .pre .0) (g .pre .1) (m .ensures);
       more = omega arith;
-      within = omega (arith, count-behind (s .«end» - s .at) (m .last .0) q (c .count .result) (omega (arith, m .kept .0, g .pre .1)) (c .before .before .before .before .before .before .before .read .kept .1 .0) (c .count .ensures .0 .0), m .kept .0);
+      within = omega (arith, behind, m .kept .0);
       is = inl refl;
     }
 

@@ -1,7 +1,8 @@
 -- `cinorbis::turn` meets its contract: each way out is one kind of turn.
-use mathlib.Core.Path.{refl, sym, _∙_}
+use mathlib.Core.Bool.{true, false}
+use mathlib.Core.Path.{_≡_, refl, sym, _∙_}
 use native.Mathlib.Omega.{arith}
-use Rattle.cinorbis.specs.State.{takes, writes, ends, reads}
+use Rattle.cinorbis.specs.State.{isThere, takes, writes, ends, reads}
 use Rattle.cinorbis.specs.StateLaws.{there-first, absent-short}
 use borrow.Author.Needs.{needs}
 use Rattle.cinorbis.proofs.turn.Statement.{statement}
@@ -25,10 +26,17 @@ same-length-2 c = search needs
 returns : tie.Need-returns
 returns c = writes (c .flush .ensures) refl refl
 
+-- the test for the next record
+there : (c : tie.Then1) → isThere (c .before .before .before .before .before .args .s) (c .before .before .before .before .before .args .input .now) ≡ true
+there c = sym (c .before .is-there .ensures) ∙ c .if1 .taken
+
+absent : (c : tie.Else1) → isThere (c .before .before .before .before .before .args .s) (c .before .before .before .before .before .args .input .now) ≡ false
+absent c = sym (c .before .is-there .ensures) ∙ c .if1 .left
+
 take-record-requires : tie.Need-take-record-requires
 take-record-requires c κs =
     let g = c .before .before .before .before .before .before .before .before .before in
-    (there-first (g .args .s) (g .args .input .now) (sym (c .before .before .before .before .before .is-there .ensures) ∙ c .before .before .before .before .if1 .taken) (g .pre .0 .order), g .pre .0 .within, omega arith, g .pre .3)
+    (there-first (g .args .s) (g .args .input .now) (there (c .before .before .before .before)) (g .pre .0 .order), g .pre .0 .within, omega arith, g .pre .3)
 
 same-length-3 : tie.Need-same-length-3
 same-length-3 c = search needs
@@ -37,13 +45,13 @@ same-length-4 : tie.Need-same-length-4
 same-length-4 c = search needs
 
 returns-2 : tie.Need-returns-2
-returns-2 c = takes (sym (c .before .before .before .before .before .before .before .before .is-there .ensures) ∙ c .before .before .before .before .before .before .before .if1 .taken) (c .before .before .take-record .ensures) refl
+returns-2 c = takes (there (c .before .before .before .before .before .before .before)) (c .before .before .take-record .ensures) refl
 
 same-length-5 : tie.Need-same-length-5
 same-length-5 c = search needs
 
 returns-3 : tie.Need-returns-3
-returns-3 c = ends (sym (c .before .before .is-there .ensures) ∙ c .before .if1 .left) (c .if3 .taken) refl refl refl
+returns-3 c = ends (absent (c .before)) (c .if3 .taken) refl refl refl
 
 flush-requires-2 : tie.Need-flush-requires-2
 flush-requires-2 c κs = search needs
@@ -60,14 +68,14 @@ returns-4 c = writes (c .flush2 .ensures) refl refl
 refill-requires : tie.Need-refill-requires
 refill-requires c κs =
     let g = c .before .before .before .before .before .before .before .before .before in
-    let short = absent-short (g .args .s) (g .args .input .now) (sym (c .before .before .before .before .before .is-there .ensures) ∙ c .before .before .before .before .if1 .left) (c .before .before .before .if3 .left) in
+    let short = absent-short (g .args .s) (g .args .input .now) (absent (c .before .before .before .before)) (c .before .before .before .if3 .left) in
     (g .pre .0 .order, g .pre .0 .within, omega (arith, short, g .pre .1))
 
 same-length-8 : tie.Need-same-length-8
 same-length-8 c = search needs
 
 returns-5 : tie.Need-returns-5
-returns-5 c = reads (sym (c .before .before .before .before .before .before .before .before .is-there .ensures) ∙ c .before .before .before .before .before .before .before .if1 .left) (c .before .before .before .before .before .before .if3 .left) (c .before .before .refill .ensures) refl
+returns-5 c = reads (absent (c .before .before .before .before .before .before .before)) (c .before .before .before .before .before .before .if3 .left) (c .before .before .refill .ensures) refl
 
 pub turn-spec : {M : Type 1} → statement M
 turn-spec =

@@ -45,7 +45,9 @@ part-search-within-start : tie.Need-part-search-within-start
 part-search-within-start c = search needs
 
 part-search-within-end : tie.Need-part-search-within-end
-part-search-within-end c = omega (arith, length-most (c .before .before .before .before .before .before .before .before .before .before .pre .0), c .before .before .unpack .kept .1 .0)
+part-search-within-end c =
+    let g = c .before .before .before .before .before .before .before .before .before .before in
+    omega (arith, length-most (g .pre .0), c .before .before .unpack .kept .1 .0)
 
 search-within-requires : tie.Need-search-within-requires
 search-within-requires c κs = search needs

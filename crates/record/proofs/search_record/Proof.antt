@@ -34,13 +34,15 @@ returns c =
     let f = c .before .before .before .before .before .before .before .before .before .before in
     let g = f .before .before .before .before .args in
     c .before .before .before .before .search-framed .ensures
-    ∙ ap (λ (h : Header). searchingBy h (g .allowed) (g .s .now) (g .bits .now) (g .word .now)) (sym (sym (f .frame .ensures) ∙ c .before .before .before .before .before .before .before .before .code .given .1))
+    ∙ ap (λ (h : Header). searchingBy h (g .allowed) (g .s .now) (g .bits .now) (g .word .now))
+    (sym (sym (f .frame .ensures) ∙ c .before .before .before .before .before .before .before .before .code .given .1))
 
 returns-2 : tie.Need-returns-2
 unfolding searchingRecord
 returns-2 c =
     let g = c .before .before .before .before .before .before .before .args in
-    ap (λ (h : Header). searchingBy h (g .allowed) (g .s .now) (g .bits .now) (g .word .now)) (sym (sym (c .before .before .before .frame .ensures) ∙ c .before .why .given .1))
+    ap (λ (h : Header). searchingBy h (g .allowed) (g .s .now) (g .bits .now) (g .word .now))
+    (sym (sym (c .before .before .before .frame .ensures) ∙ c .before .why .given .1))
 
 pub search-record-spec : {M : Type 1} → statement M
 search-record-spec =

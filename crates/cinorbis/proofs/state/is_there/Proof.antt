@@ -20,7 +20,9 @@ sub-result : tie.Need-sub-result
 sub-result c = search needs
 
 returns-3 : tie.Need-returns-3
-returns-3 c = let s = c .before .before .before .before .before .args .s in rw (ne-eqb (s .at) (s .«end») (c .before .before .before .if1 .left), c .before .before .if2 .left, c .record-length .ensures)
+returns-3 c =
+    let s = c .before .before .before .before .before .args .s in
+    rw (ne-eqb (s .at) (s .«end») (c .before .before .before .if1 .left), c .before .before .if2 .left, c .record-length .ensures)
 
 pub is-there-spec : {M : Type 1} → statement M
 is-there-spec =

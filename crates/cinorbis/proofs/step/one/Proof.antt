@@ -38,9 +38,11 @@ same-length-2 c = search needs
 returns-2 : tie.Need-returns-2
 unfolding resultOf
 returns-2 c =
-    let g = c .before .before .before .before .before .before .before .before .before .before .args in
-    let is : headerOf (g .s .now) ≡ _ = sym (header-only _ _ (c .before .before .before .before .before .before .before .header-of .ensures)) ∙ c .before .before .before .before .before .why .given .1 in
-    subst (λ (h : Header). Stepped (g .w) (g .s .now) (headed h (g .s .now)) (g .out .now) (g .at) (c .before .before .refuse .result) (c .before .before .refuse .last .1 .1 .1 .0)) (sym is) (c .before .before .refuse .ensures)
+    let h = c .before .before .before .before .before .before .before in
+    let g = h .before .before .before .args in
+    let t = c .before .before .refuse in
+    let is : headerOf (g .s .now) ≡ _ = sym (header-only _ _ (h .header-of .ensures)) ∙ c .before .before .before .before .before .why .given .1 in
+    subst (λ (x : Header). Stepped (g .w) (g .s .now) (headed x (g .s .now)) (g .out .now) (g .at) (t .result) (t .last .1 .1 .1 .0)) (sym is) (t .ensures)
 
 pub one-spec : {M : Type 1} → statement M
 one-spec =

@@ -31,14 +31,22 @@ module _ (r : tie.After-search-record) where
       (g .pre .0 .0) (g .pre .0 .1) (g .pre .0 .2) (r .search-record .result) (r .search-record .ensures)
 
 -- and where it is an answer
-found : (c : tie.After-known-told) → let p = c .before .penalty .given .0 in answered (bits (c .before .before .before .before .before .before .before)) (p .0) (p .1 .0) (p .1 .1 .0) ≡ resultOf (g (c .before .before .before .before .before .before .before) .args .s .now)
-found c = ap (λ (a : Searched). resultIn a (bits (c .before .before .before .before .before .before .before))) (sym (c .before .penalty .given .1)) ∙ says (c .before .before .before .before .before .before .before)
+module _ (c : tie.After-known-told) where
+  abbrev at-search : tie.After-search-record
+  at-search = c .before .before .before .before .before .before .before
+
+  abbrev values : ℕ × ℕ × ℕ
+  values = let p = c .before .penalty .given .0 in (p .0, p .1 .0, p .1 .1 .0)
+
+  found : answered (bits at-search) (values .0) (values .1) (values .2) ≡ resultOf (g at-search .args .s .now)
+  found = ap (λ (a : Searched). resultIn a (bits at-search)) (sym (c .before .penalty .given .1)) ∙ says at-search
 
 tell-requires : tie.Need-tell-requires
 tell-requires c κs =
     let k = c .before .before in
-    let g = c .before .before .before .before .before .before .before .before .before .before .before .before .before .before .before .before in
-    (g .pre .1 .0, found-bits (g .args .s .now) _ _ _ _ (found k), omega (arith, g .pre .1 .1, c .before .before .before .before .before .before .before .before .before .search-record .kept .1 .1 .0), g .pre .1 .2)
+    let g = k .before .before .before .before .before .before .before .before .before .before .before .before .before .before in
+    let r = k .before .before .before .before .before .before .before .search-record in
+    (g .pre .1 .0, found-bits (g .args .s .now) _ _ _ _ (found k), omega (arith, g .pre .1 .1, r .kept .1 .1 .0), g .pre .1 .2)
 
 enum-known-why : tie.Need-enum-known-why
 enum-known-why c = search needs
