@@ -1,126 +1,172 @@
-"""What the program must write for any bytes, straight from document 01 and sharing nothing with the library: records, brute force over
-all words for the answer, the walk by its text for the visits. Slow; for small codes and short walks."""
+"""What the program must write for any bytes, from document 01 alone and sharing nothing with the crates: records, the walk by its text, and
+a list of all words where there are at most 2^12, with which the walk has to agree."""
+import functools
 
-ALLOWANCE = 1_000_000
-
-
-def kinds(r, m):
-    return [bin(i).count("1") >= m - r for i in range(1 << m)]
+ALLOWED = 1_000_000
 
 
-def word(m, u):
-    return [sum(u[i] for i in range(1 << m) if j & ~i == 0) % 2 for j in range(1 << m)]
+# ---- the code
+def information(r, m):
+    return [bin(i).count("1") >= m - r for i in range(2**m)]
 
 
-def value(m, row, u, i):
-    if m == 0:
-        return row[0]
-    h = 1 << (m - 1)
-    if i < h:
-        low = [min(abs(x), abs(y)) * (-1 if (x < 0) != (y < 0) else 1) for x, y in zip(row[:h], row[h:])]
-        return value(m - 1, low, u, i)
-    a = word(m - 1, u[:h])
-    high = [y - x if b else y + x for x, y, b in zip(row[:h], row[h:], a)]
-    return value(m - 1, high, u[h:], i - h)
+def word_of(u, m):
+    """Word bit j is the sum modulo 2 of all u_i where every one-bit of j is also a one-bit of i."""
+    n = 2**m
+    return [sum(u[i] for i in range(n) if i & j == j) % 2 for j in range(n)]
 
 
-class Walk:
-    """the walk by its text; held: full paths with their penalties, best first"""
+def row_of(bits, info):
+    rest = iter(bits)
+    return [next(rest) if kind else 0 for kind in info]
 
-    def __init__(self, r, m, readings):
-        self.m, self.readings, self.kinds = m, readings, kinds(r, m)
-        self.held, self.visits, self.out = [], 0, False
-        self.go([], 0)
 
-    def go(self, u, p):
-        i = len(u)
-        if i == 1 << self.m:
-            if not self.held or p < self.held[0][0]:
-                self.held = [(p, u)] + self.held[:1]
-            else:
-                self.held = [self.held[0], (p, u)]
+# ---- penalty and gap over all words
+def penalty(readings, word):
+    return sum(abs(v) for v, x in zip(readings, word) if (v > 0 and x == 1) or (v < 0 and x == 0))
+
+
+def best_of_all(r, m, readings):
+    info = information(r, m)
+    k = sum(info)
+    all_bits = [[(w >> (k - 1 - i)) & 1 for i in range(k)] for w in range(2**k)]
+    found = sorted((penalty(readings, word_of(row_of(b, info), m)), b) for b in all_bits)
+    return found[0][1], found[0][0], found[1][0] - found[0][0]
+
+
+# ---- the walk
+def lower(x, y):
+    size = min(abs(x), abs(y))
+    return size if x * y > 0 else -size if x * y < 0 else 0
+
+
+def fold(u):
+    """The word of a row of choices, by halves."""
+    if len(u) == 1:
+        return u
+    h = len(u) // 2
+    a, b = fold(u[:h]), fold(u[h:])
+    return [x ^ y for x, y in zip(a, b)] + b
+
+
+def value_from(readings):
+    """The value at the index after the choices u. The row for a block of 2^level indices depends on the choices before it alone."""
+    top = len(readings).bit_length() - 1
+
+    @functools.lru_cache(maxsize=5000)
+    def row(level, before):
+        if level == top:
+            return readings
+        h = 2**level
+        start = len(before) // (2 * h) * (2 * h)
+        above = row(level + 1, before[:start])
+        if start == len(before):
+            return [lower(x, y) for x, y in zip(above[:h], above[h:])]
+        a = fold(list(before[start:]))
+        return [y - x if bit else y + x for x, y, bit in zip(above[:h], above[h:], a)]
+
+    return lambda u: row(0, tuple(u))[0]
+
+
+class OutOfVisits(Exception):
+    pass
+
+
+def walk(r, m, readings, allowed):
+    """The held paths, best and second, and the visits."""
+    info = information(r, m)
+    value = value_from(readings)
+    held = []
+    visits = 0
+
+    def extend(path, cost, bit, at):
+        nonlocal visits
+        if visits == allowed:
+            raise OutOfVisits
+        visits += 1
+        if (at > 0 and bit == 1) or (at < 0 and bit == 0):
+            cost += abs(at)
+        if len(held) == 2 and cost >= held[1][0]:
             return
-        v = value(self.m, self.readings, u, i)
-        first = int(v < 0)
-        for bit in (first, 1 - first) if self.kinds[i] else (0,):
-            if self.visits == ALLOWANCE:
-                self.out = True
-            if self.out:
-                return
-            self.visits += 1
-            q = p + (abs(v) if v > 0 and bit or v < 0 and not bit else 0)
-            if len(self.held) < 2 or q < self.held[1][0]:
-                self.go(u + [bit], q)
+        onward(path + [bit], cost)
+
+    def onward(path, cost):
+        if len(path) == 2**m:
+            if not held or cost < held[0][0]:
+                held.insert(0, (cost, path))
+                del held[2:]
+            else:
+                held[1:] = [(cost, path)]
+            return
+        at = value(path)
+        if not info[len(path)]:
+            extend(path, cost, 0, at)
+            return
+        first = 1 if at < 0 else 0
+        extend(path, cost, first, at)
+        extend(path, cost, 1 - first, at)
+
+    onward([], 0)
+    return held, visits
 
 
-def all_rows(kind):
-    rows = [[]]
-    for k in kind:
-        rows = [u + [b] for u in rows for b in ((0, 1) if k else (0,))]
-    return rows
+@functools.lru_cache
+def search(r, m, readings):
+    """('found', bits, penalty, gap, visits), or ('refused', number)."""
+    if any(abs(v) > 2047 for v in readings):
+        return ("refused", 4)
+    try:
+        held, visits = walk(r, m, readings, ALLOWED)
+    except OutOfVisits:
+        return ("refused", 6)
+    info = information(r, m)
+    (least, row), (next_least, _) = held
+    answer = [bit for bit, kind in zip(row, info) if kind], least, next_least - least
+    if sum(info) <= 12:
+        by_list = best_of_all(r, m, readings)
+        assert by_list[1:] == answer[1:] and (answer[2] == 0 or by_list[0] == answer[0]), (r, m, readings)
+    if answer[2] == 0:
+        return ("refused", 7)
+    return ("found", *answer, visits)
 
 
-def penalty(readings, x):
-    return sum(abs(v) for v, b in zip(readings, x) if v > 0 and b or v < 0 and not b)
-
-
-def answer(r, m, readings):
-    """the line without its number"""
-    kind = kinds(r, m)
-    walk = Walk(r, m, readings)
-    if walk.out:
-        return "refused 6"
-    if sum(kind) <= 8:
-        least = sorted((penalty(readings, word(m, u)), u) for u in all_rows(kind))
-        assert [p for p, _ in least[:2]] == [p for p, _ in walk.held]
-    (p, u), (q, _) = walk.held
-    if p == q:
-        return "refused 7"
-    bits = "".join(str(b) for b, k in zip(u, kind) if k)
-    return f"info {bits} penalty {p} margin {q - p} visits {walk.visits}"
-
-
-def record(data):
-    """(what the record reads, its length) or (refusal, None) where the next start is not known"""
-    if not data:
-        return 8, None
-    m, r = data[0] >> 4, data[0] & 15
-    if m > 8 or r > m:
-        return 1, None
-    n = 1 << m
-    size = 1 + (12 * n + 7) // 8
-    if len(data) < size:
-        return 8, None
-    bits = "".join(f"{b:08b}" for b in data[1:size])
-    if "1" in bits[12 * n :]:
-        return 9, size
-    fields = [int(bits[12 * j : 12 * j + 12], 2) for j in range(n)]
-    readings = [f - 4096 if f >= 2048 else f for f in fields]
-    if -2048 in readings:
-        return 4, size
-    return (r, m, readings), size
-
-
-def output(data):
-    lines, read, refused, number = [], 0, 0, 0
-    while data:
-        what, size = record(data)
-        text = f"refused {what}" if isinstance(what, int) else answer(*what)
-        lines.append(f"{number} {text}")
-        if text.startswith("refused"):
-            refused += 1
-        else:
-            read += 1
-        number += 1
-        if size is None:
-            break
-        data = data[size:]
-    lines.append(f"{read} read, {refused} refused")
-    return "".join(line + "\n" for line in lines).encode()
-
-
+# ---- records and lines
 def pack(r, m, readings, pad=0):
-    """the bytes of a record; readings from -2048 to 2047"""
-    bits = f"{m:04b}{r:04b}" + "".join(f"{v % 4096:012b}" for v in readings)
-    bits += f"{pad:04b}" if len(bits) % 8 else ""
-    return bytes(int(bits[i : i + 8], 2) for i in range(0, len(bits), 8))
+    """4 bits m, 4 bits r, 12 bits for each reading in two's complement, then the pad (only m = 0 has one)."""
+    text = f"{m:04b}{r:04b}" + "".join(f"{v & 0xFFF:012b}" for v in readings)
+    if m == 0:
+        text += f"{pad:04b}"
+    return bytes(int(text[i : i + 8], 2) for i in range(0, len(text), 8))
+
+
+def output(capture):
+    """the bytes that the program writes for a capture"""
+    read = refused = 0
+    out = []
+    at = 0
+    while at < len(capture):
+        m, r = capture[at] >> 4, capture[at] & 15
+        size = (12 * 2**m + 7) // 8
+        text = "".join(f"{b:08b}" for b in capture[at + 1 : at + 1 + size])
+        if m > 8 or r > m:
+            result = ("refused", 1)
+        elif len(text) < 8 * size:
+            result = ("refused", 8)
+        elif "1" in text[12 * 2**m : 8 * size]:
+            result = ("refused", 9)
+        else:
+            fields = [int(text[12 * j : 12 * j + 12], 2) for j in range(2**m)]
+            result = search(r, m, tuple(f - 4096 if f >= 2048 else f for f in fields))
+        w = read + refused
+        if result[0] == "found":
+            _, bits, least, gap, visits = result
+            out.append(f"{w} info {''.join(map(str, bits))} penalty {least} margin {gap} visits {visits}")
+            read += 1
+        else:
+            out.append(f"{w} refused {result[1]}")
+            refused += 1
+            if result[1] in (1, 8):
+                break
+        at += 1 + size
+    out.append(f"{read} read, {refused} refused")
+    return "".join(line + "\n" for line in out).encode()
