@@ -13,7 +13,8 @@ use Rattle.record.specs.Reader as Reader
 use Rattle.search.specs.declared.Searched.{Searched}
 use Rattle.search.specs.declared.Searched.the-variants.{Found, Refused}
 use Rattle.search.specs.Outcome as Search
-use Rattle.pumpbox.specs.Told.{numbers, told, shown, shownQuick, shownSearch, shownPart, headerNumber, headerR, headerM, headerPlace, readNumber, readPenalty, readPlace, searchedNumber, searchedNumbers}
+use Rattle.pumpbox.specs.Told.{numbers, told, shown, shownQuick, shownSearch, shownPart}
+use Rattle.pumpbox.specs.Told.{headerNumber, headerR, headerM, headerPlace, readNumber, readPenalty, readPlace, searchedNumber, searchedNumbers}
 
 pub told-encoded : (answer : Encoded) (buffer : List ℕ) (o : Encode.Outcome) (returned place : ℕ) (out : List ℕ)
     → Encode.told answer buffer ≡ o → returned ≡ Encode.numberIn answer → place ≡ Encode.placeIn answer → out ≡ numbers 0 0 0 place
