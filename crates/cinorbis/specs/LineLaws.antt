@@ -61,7 +61,7 @@ digits-decimal (suc k) (suc j) n h u l =
     (ap (λ (t : List ℕ). t ++ digit (n % 10) ∷ [])
     (digits-decimal k j (n / 10) (omega arith) (omega (arith, pow-suc 10 (suc k))) (λ z. omega (arith, l (omega arith), pow-suc 10 k))))
 
-pub decimal-digits : (n k : ℕ) → k ≤ 20 → Fewest 10 1 n k → digits 10 k n ≡ decimal n
+decimal-digits : (n k : ℕ) → k ≤ 20 → Fewest 10 1 n k → digits 10 k n ≡ decimal n
 decimal-digits n zero h f = absurd (omega (arith, f .0))
 decimal-digits n (suc k) h f = digits-decimal k 20 n h (f .1) (λ z. let e : suc k - 1 ≡ k = omega arith in rw e at (f .2 (omega arith)))
 

@@ -33,7 +33,7 @@ length-by first (Good c) e = omega (arith, part-small c (made-of (first % 16) (f
 pub next-small : (first : ℕ) → lengthBy (codeOf first) ≤ 385
 next-small first = length-by first (codeOf first) refl
 
-pub counted-after : (s : State) (result : Result) (t : Step) → t .answered ≡ isAnswered result → t .stop ≡ stops result
+counted-after : (s : State) (result : Result) (t : Step) → t .answered ≡ isAnswered result → t .stop ≡ stops result
     → countedBy s t ≡ after s result (t .«end») (s .at + t .taken)
 counted-after s (answered bits penalty gap visits) t a b = rw a
 counted-after s (refused why) t a b = rw (a, b)

@@ -33,7 +33,7 @@ within-held : (x : ℤ) → natAbs x ≤ largestReading → Held x
 within-held (pos n) h = omega arith
 within-held (negsuc n) h = omega arith
 
-pub all-held : (l : List ℤ) → Within largestReading l → AllHeld l
+all-held : (l : List ℤ) → Within largestReading l → AllHeld l
 all-held l h i = within-held (getD l i (pos 0)) (h i)
 
 -- the pad of a record that the layout writes is 0

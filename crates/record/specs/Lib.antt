@@ -5,3 +5,4 @@ pub mod ReaderLaws
 pub mod Accepted
 pub mod OnlyHeader
 pub mod Searching
+pub mod Examples

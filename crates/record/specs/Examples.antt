@@ -1,0 +1,42 @@
+-- Examples of the layout and of the header: 01's record, and the order 1, 8, 9, 4.
+use mathlib.Core.Path.{_≡_, refl}
+use mathlib.Core.List.{[], _∷_, _++_}
+use lib.IntN.{pos, negsuc}
+use Rattle.decoding.specs.BenchFigures.{sample}
+use Rattle.code.specs.Sound.{made}
+use Rattle.code.specs.Entries.{firstAbove}
+use Rattle.code.specs.declared.Refusal.the-variants.{Parameters, Entry, Torn, Pad}
+use Rattle.record.specs.declared.Header.the-variants.{Record, Refused}
+use Rattle.record.specs.Layout.{recordOf, packed, unpacked, partLength, padOf}
+use Rattle.record.specs.Reader.{frameOf, headerOf}
+
+pub record Examples : Type 0 where
+  -- RM(1,2), readings 5, -2, 3, 1: 21 005 FFE 003 001
+  pub record-12 : recordOf 1 2 sample ≡ 0x21 ∷ 0x00 ∷ 0x5F ∷ 0xFE ∷ 0x00 ∷ 0x30 ∷ 0x01 ∷ []
+  pub unpacked-12 : unpacked (0x00 ∷ 0x5F ∷ 0xFE ∷ 0x00 ∷ 0x30 ∷ 0x01 ∷ []) ≡ sample
+  -- one reading, -1, has four pad bits
+  pub record-00 : recordOf 0 0 (negsuc 0 ∷ []) ≡ 0x00 ∷ 0xFF ∷ 0xF0 ∷ []
+  -- bytes after the record stay for the next one
+  pub accepted : headerOf (recordOf 1 2 sample ++ 0x90 ∷ []) ≡ Record (record { r = 1; m = 2 })
+  pub no-byte : headerOf [] ≡ Refused Torn
+  pub lone-90 : headerOf (0x90 ∷ []) ≡ Refused Parameters
+  pub lone-12 : headerOf (0x12 ∷ []) ≡ Refused Parameters
+  pub lone-21 : headerOf (0x21 ∷ []) ≡ Refused Torn
+  pub pad-before-rail : headerOf (0x00 ∷ 0x80 ∷ 0x01 ∷ []) ≡ Refused Pad
+  pub rail : headerOf (recordOf 1 1 (pos 1 ∷ negsuc 2047 ∷ [])) ≡ Refused (Entry 1)
+
+pub examples : Examples
+unfolding made firstAbove recordOf packed unpacked partLength padOf frameOf headerOf
+examples =
+    record {
+      record-12 = refl;
+      unpacked-12 = refl;
+      record-00 = refl;
+      accepted = refl;
+      no-byte = refl;
+      lone-90 = refl;
+      lone-12 = refl;
+      lone-21 = refl;
+      pad-before-rail = refl;
+      rail = refl;
+    }
