@@ -1,16 +1,13 @@
 -- Laws of the work on one record: what the search's answer says of its result.
 use mathlib.Core.Path.{_≡_, refl, ap, sym, _∙_, subst}
-use mathlib.Core.List.{List, [], _∷_}
-use Prim.Native.Nat.{ℕ, suc, _-_, _^_, _≤_}
+use mathlib.Core.List.{List}
+use Prim.Native.Nat.{ℕ, _-_, _^_, _≤_}
 use native.Mathlib.Omega.{arith}
 use lib.IntN.{ℤ}
 use lib.Dec.{ltb, eqb}
 use lib.ListN.{length, take, replicate}
 use lib.Seq.{length-take-le}
-use Rattle.numbers.specs.Sums.{sum}
-use Rattle.words.specs.KindLaws.{sum-kinds, bits-kinds, length-kinds}
 use Rattle.code.specs.Sound.{Sound}
-use Rattle.code.specs.SoundLaws.{length-most}
 use mathlib.Core.Bool.{cond}
 use Rattle.numbers.specs.Choice.{cond-by}
 use Rattle.words.specs.Bits.{Bits}
@@ -99,17 +96,6 @@ headed-bits (Record c) s = answer-bits (c .m) (kinds (c .r) (c .m)) (readingsOf 
 pub found-bits : (s bits : List ℕ) (penalty gap visits : ℕ) → answered bits penalty gap visits ≡ resultOf s → Bits bits
 unfolding resultOf
 found-bits s bits penalty gap visits e = subst BitsIn (sym e) (headed-bits (headerOf s) s)
-
--- k is at most 256
-sum-most : (l : List ℕ) → Bits l → sum l ≤ length l
-unfolding sum
-sum-most [] h = omega arith
-sum-most (x ∷ l) h = omega (arith, h 0, sum-most l (λ i. h (suc i)))
-
-pub dimension-most : (c : Code) → Sound c → dimension (c .r) (c .m) ≤ 256
-dimension-most c s =
-    let ks = kinds (c .r) (c .m) in
-    omega (arith, sum-kinds (c .r) (c .m), sum-most ks (bits-kinds (c .r) (c .m)), length-kinds (c .r) (c .m), length-most s)
 
 pub accepted-sound : (s : List ℕ) (c : Code) → headerOf s ≡ Record c → Sound c
 accepted-sound s c h = framed-record s c (header-framed s c h) .sound

@@ -13,6 +13,7 @@ use Rattle.numbers.specs.Sums.{tabulate}
 use Rattle.numbers.specs.SumsLaws.{getD-tabulate}
 use Rattle.words.specs.BitLaws.{ones-counted}
 use Rattle.words.specs.Kinds.{kind, dimension}
+use Rattle.words.specs.KindLaws.{dimension-most}
 use Rattle.code.specs.declared.Code.{Code}
 use Rattle.code.specs.declared.Made.the-variants.{Good, Bad}
 use Rattle.code.specs.Sound.{Sound, made, largestM}
@@ -69,3 +70,7 @@ made-of r m c e =
 -- n is at most 256
 pub length-most : {c : Code} → Sound c → 2 ^ (c .m) ≤ 256
 length-most s = pow-mono (s .m-small)
+
+-- and so is k
+pub dimension-largest : (c : Code) → Sound c → dimension (c .r) (c .m) ≤ 256
+dimension-largest c s = omega (arith, dimension-most (c .r) (c .m), length-most s)

@@ -113,3 +113,12 @@ sum-kinds (suc r) (suc m) =
 pub sum-kinds-pos : (r m : ℕ) → 0 < sum (kinds r m)
 unfolding dimension total choose
 sum-kinds-pos r m = omega (arith, sum-kinds r m)
+
+-- k is at most n
+sum-most : (l : List ℕ) → Bits l → sum l ≤ length l
+unfolding sum
+sum-most [] h = omega arith
+sum-most (x ∷ l) h = omega (arith, h 0, sum-most l (λ i. h (suc i)))
+
+pub dimension-most : (r m : ℕ) → dimension r m ≤ 2 ^ m
+dimension-most r m = omega (arith, sum-kinds r m, sum-most (kinds r m) (bits-kinds r m), length-kinds r m)

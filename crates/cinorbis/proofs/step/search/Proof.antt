@@ -3,7 +3,8 @@ use mathlib.Core.Path.{_∙_}
 use Prim.Native.Nat.{_≤_}
 use native.Mathlib.Omega.{arith}
 use Rattle.code.specs.SoundLaws.{length-most}
-use Rattle.cinorbis.specs.StepLaws.{accepted-sound, dimension-most, zeros-front}
+use Rattle.code.specs.SoundLaws.{dimension-largest}
+use Rattle.cinorbis.specs.StepLaws.{accepted-sound, zeros-front}
 use borrow.Author.Needs.{needs}
 use Rattle.cinorbis.proofs.step.search.Statement.{statement}
 use Rattle.cinorbis.proofs.step.search.Tie as tie
@@ -21,7 +22,7 @@ part-bits-start : tie.Need-part-bits-start
 part-bits-start c = search needs
 
 part-bits-end : tie.Need-part-bits-end
-part-bits-end c = omega (arith, dimension-most _ (accepted-sound _ _ (c .before .before .before .before .pre .0)), c .before .dimension .ensures)
+part-bits-end c = omega (arith, dimension-largest _ (accepted-sound _ _ (c .before .before .before .before .pre .0)), c .before .dimension .ensures)
 
 sub-search-into-2 : tie.Need-sub-search-into-2
 sub-search-into-2 c = search needs
@@ -38,7 +39,7 @@ search-into-requires c κs =
     let sound = accepted-sound (g .args .s .now) (g .args .code) (g .pre .0) in
     let k = c .before .before .before .before .dimension in
     let n = c .before .before .before .length in
-    let few : k .result ≤ 256 = omega (arith, k .ensures, dimension-most (g .args .code) sound) in
+    let few : k .result ≤ 256 = omega (arith, k .ensures, dimension-largest (g .args .code) sound) in
     let short : n .result ≤ 256 = omega (arith, n .ensures, length-most sound) in (
       (g .pre .0, zeros-front (k .result) few ∙ k .ensures, zeros-front (n .result) short ∙ n .ensures),
       (g .pre .1, omega (arith, zeros-front (k .result) few), g .pre .2),
