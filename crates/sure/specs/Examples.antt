@@ -64,7 +64,7 @@ examples =
       bound-tied = refl;
     }
 
--- ---- a real case: a word of RM(2,5) in noise of 0.6 times its size, clipped at that size
+-- ---- a real case: a word of RM(2,5) in noise of 0.62 times its size, clipped at that size
 abbrev pub hull : List ℤ
 hull =
     pos 100 ∷ negsuc 99 ∷ negsuc 0 ∷ negsuc 15 ∷ negsuc 42 ∷ negsuc 99 ∷ negsuc 99 ∷ negsuc 79 ∷
