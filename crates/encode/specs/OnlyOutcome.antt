@@ -6,7 +6,7 @@ use native.Mathlib.Omega.{arith}
 use Rattle.words.specs.Kinds.{kinds, dimension, encoded}
 use Rattle.words.specs.Inverse.{TakenBack, taken, frozenOne, takenBack}
 use Rattle.code.specs.Sound.{carrying}
-use Rattle.code.specs.RefusalLaws.{refusal-only, place-alone, number-positive}
+use Rattle.code.specs.RefusalLaws.{refusal-only, carries-none, number-above}
 use Rattle.encode.specs.declared.Encoded.{Encoded}
 use Rattle.encode.specs.declared.Encoded.the-variants.{Done, Refused}
 use Rattle.encode.specs.Outcome.{Outcome, told, done, encoding, inverting, takingBack}
@@ -15,12 +15,12 @@ use Rattle.encode.specs.OutcomeLaws.{tested-small}
 -- two answers that tell the same, below number 6
 same-answer : (a b : Encoded) (x y : List ℕ) → told a x ≡ told b y → told a x .number < 6 → a ≡ b
 same-answer Done Done x y e h = refl
-same-answer Done (Refused why) x y e h = absurd (omega (arith, number-positive why, ap (λ (o : Outcome). o .number) e))
-same-answer (Refused why) Done x y e h = absurd (omega (arith, number-positive why, ap (λ (o : Outcome). o .number) e))
+same-answer Done (Refused why) x y e h = absurd (omega (arith, number-above why, ap (λ (o : Outcome). o .number) e))
+same-answer (Refused why) Done x y e h = absurd (omega (arith, number-above why, ap (λ (o : Outcome). o .number) e))
 same-answer (Refused why) (Refused why′) x y e h =
     let number = ap (λ (o : Outcome). o .number) e in
     let carry = ap (λ (o : Outcome). carrying (o .number) (o .place) 0 0) e in
-    ap Refused (refusal-only why why′ (place-alone why h ∙ carry ∙ sym (place-alone why′ (omega arith))))
+    ap Refused (refusal-only why why′ (carries-none why (λ k. omega arith) (λ k. omega arith) ∙ carry ∙ sym (carries-none why′ (λ k. omega arith) (λ k. omega arith))))
 
 buffer-told : (a : Encoded) (x : List ℕ) → told a x .buffer ≡ x
 buffer-told Done x = refl

@@ -22,7 +22,7 @@ use Rattle.code.specs.declared.Refusal.the-variants.{Parameters, InputLength, O
 use Rattle.code.specs.Sound.{Sound, made, numberOf, rm}
 use Rattle.code.specs.SoundInput.{SoundInput}
 use Rattle.code.specs.SoundLaws.{made-of, made-good}
-use Rattle.code.specs.RefusalLaws.{number-positive}
+use Rattle.code.specs.RefusalLaws.{number-above}
 use Rattle.code.specs.Entries.{firstBadBit}
 use Rattle.code.specs.EntriesLaws.{first-none, good-bits}
 use Rattle.encode.specs.Outcome.{Outcome, done, refused, tested, encoding, inverting, takingBack}
@@ -75,7 +75,7 @@ module _ (r m : ℕ) (input : List ℕ) (long : ℕ) (output : List ℕ) (room :
 
   refuses : {A : Type 0} (why : Refusal) → numberOf why < 5 → refused why output ≡ tested r m input long output room rest
       → A ⊎ ((0 < tested r m input long output room rest .number) × (tested r m input long output room rest .number < 5))
-  refuses why h e = inr (rw (← e) (number-positive why, h))
+  refuses why h e = inr (rw (← e) (number-above why, h))
 
   -- either none applies, or the outcome has the number of one
   decided : (Sound (rm r m) × (length input ≡ long) × (length output ≡ room) × Bits input)

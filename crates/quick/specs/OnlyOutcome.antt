@@ -7,7 +7,7 @@ use lib.IntN.{ℤ}
 use lib.ListN.{length}
 use Rattle.code.specs.Sound.{carrying}
 use Rattle.code.specs.AdmittedLaws.{allows, refuses, decided}
-use Rattle.code.specs.RefusalLaws.{refusal-only, place-alone, number-positive}
+use Rattle.code.specs.RefusalLaws.{refusal-only, carries-none, number-above}
 use Rattle.quick.specs.declared.Read.{Read}
 use Rattle.quick.specs.declared.Read.the-variants.{Done, Refused}
 use Rattle.quick.specs.Outcome.{Outcome, told, readingBy, quickReading}
@@ -16,12 +16,12 @@ use Rattle.quick.specs.OutcomeLaws.{reading-refused, reading-done}
 -- two answers that tell the same, below number 5
 same-answer : (a b : Read) (x y v w : List ℕ) → told a x y ≡ told b v w → told a x y .number < 5 → a ≡ b
 same-answer (Done p) (Done q) x y v w e h = ap (λ (o : Outcome). Done (o .penalty)) e
-same-answer (Done p) (Refused why) x y v w e h = absurd (omega (arith, number-positive why, ap (λ (o : Outcome). o .number) e))
-same-answer (Refused why) (Done q) x y v w e h = absurd (omega (arith, number-positive why, ap (λ (o : Outcome). o .number) e))
+same-answer (Done p) (Refused why) x y v w e h = absurd (omega (arith, number-above why, ap (λ (o : Outcome). o .number) e))
+same-answer (Refused why) (Done q) x y v w e h = absurd (omega (arith, number-above why, ap (λ (o : Outcome). o .number) e))
 same-answer (Refused why) (Refused why′) x y v w e h =
     let number = ap (λ (o : Outcome). o .number) e in
     let carry = ap (λ (o : Outcome). carrying (o .number) (o .place) 0 0) e in
-    ap Refused (refusal-only why why′ (place-alone why (omega arith) ∙ carry ∙ sym (place-alone why′ (omega arith))))
+    ap Refused (refusal-only why why′ (carries-none why (λ k. omega arith) (λ k. omega arith) ∙ carry ∙ sym (carries-none why′ (λ k. omega arith) (λ k. omega arith))))
 
 bits-told : (a : Read) (x y : List ℕ) → told a x y .bits ≡ x
 bits-told (Done penalty) x y = refl

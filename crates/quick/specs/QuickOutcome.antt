@@ -15,7 +15,7 @@ use Rattle.decoding.specs.QuickLaws.{encoded-quick, quick-word, quick-least}
 use Rattle.code.specs.Sound.{Carried, rm}
 use Rattle.code.specs.SoundInput.{SoundReadings}
 use Rattle.code.specs.AdmittedLaws.{allows, refuses, decided, sound-allowed}
-use Rattle.code.specs.RefusalLaws.{place-alone, number-positive}
+use Rattle.code.specs.RefusalLaws.{carries-none, number-above}
 use Rattle.quick.specs.Outcome.{Outcome, readingBy, quickReading}
 use Rattle.quick.specs.OutcomeLaws.{reading-refused, reading-done}
 
@@ -49,7 +49,7 @@ module _ (r m : ℕ) (l : List ℤ) (bits word : List ℕ) where
   quick-done z =
       elim (decided r m l (length bits) (length word)) [
         | allows c e is a ↦ (rw is at a, rw (← reading-done r m l bits word c (readingBy c l) e refl, is) (done-by r m l))
-        | refuses why e h ↦ absurd (omega (arith, number-positive why, ap (λ (o : Outcome). o .number) (reading-refused r m l bits word why e)))
+        | refuses why e h ↦ absurd (omega (arith, number-above why, ap (λ (o : Outcome). o .number) (reading-refused r m l bits word why e)))
       ]
 
   pub quick-answers : SoundReadings (rm r m) l (length bits) (length word) → quickReading r m l bits word .number ≡ 0
@@ -62,5 +62,5 @@ module _ (r m : ℕ) (l : List ℤ) (bits word : List ℕ) where
       elim (decided r m l (length bits) (length word)) [
         | allows c e is a ↦ absurd (omega (arith, ap (λ (o : Outcome). o .number) (reading-done r m l bits word c (readingBy c l) e refl)))
         | refuses why e h ↦ rw (← reading-refused r m l bits word why e)
-            (record { first-tests = h; no-penalty = ap (λ (c : Carried). c .penalty) (place-alone why (omega arith)); kept-bits = refl; kept-word = refl })
+            (record { first-tests = h; no-penalty = ap (λ (c : Carried). c .penalty) (carries-none why (λ k. omega arith) (λ k. omega arith)); kept-bits = refl; kept-word = refl })
       ]
