@@ -1,4 +1,6 @@
 pub mod Fold
 pub mod FoldLaws
+pub mod Layers
+pub mod LayerLaws
 pub mod FillLaws
 pub mod Takeable

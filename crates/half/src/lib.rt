@@ -1,7 +1,7 @@
 // On lent bytes: fold, the in-place transform, filling a row with information bits and taking
 // them back.
 ghost use mathlib.Core.Path.{_≡_};
-ghost use Prim.Native.Nat.{_+_, _^_, _≤_};
+ghost use Prim.Native.Nat.{_+_, _*_, _^_, _≤_, _<_};
 ghost use lib.ListN.{length};
 ghost use Rattle.numbers.specs.Sums.{sum};
 ghost use Rattle.words.specs.Bits.{Bits};
@@ -9,12 +9,13 @@ ghost use Rattle.words.specs.Word.{transform};
 ghost use Rattle.words.specs.Kinds.{fill, pick};
 ghost use Rattle.words.specs.Inverse.{firstFrozenOne};
 ghost use Rattle.half.specs.Fold.{folded};
+ghost use Rattle.half.specs.Layers.{onFront, Steps, layer, layers};
 ghost use Rattle.half.specs.Takeable.{Takeable};
 
-// Adds the second half of a word of 2h bits into the first, modulo 2.
-pub fn fold(word: &mut [u8], h: usize)
-    requires { ⌜ (length (now word) ≡ h + h) × Bits (now word) ⌝ }
-    ensures { λ _. ⌜ now (word .exit) ≡ folded h (now (word .entry)) ⌝ }
+// Adds the second h bits of a word into its first h, modulo 2; the word may go on after them.
+fn fold_front(word: &mut [u8], h: usize)
+    requires { ⌜ (h + h ≤ length (now word)) × Bits (now word) ⌝ }
+    ensures { λ _. ⌜ now (word .exit) ≡ onFront (folded h) (h + h) (now (word .entry)) ⌝ }
 {
     let mut j = 0;
     while j < h {
@@ -23,19 +24,65 @@ pub fn fold(word: &mut [u8], h: usize)
     }
 }
 
-// The transform of 2^m bits, in place: the first half, the second half of the same bytes, then
-// their sum.
+// Adds the second half of a word of 2h bits into the first, modulo 2.
+pub fn fold(word: &mut [u8], h: usize)
+    requires { ⌜ (length (now word) ≡ h + h) × Bits (now word) ⌝ }
+    ensures { λ _. ⌜ now (word .exit) ≡ folded h (now (word .entry)) ⌝ }
+{
+    fold_front(word, h);
+}
+
+// Folds each whole block of 2h bits: the word from the block's start on is lent to be folded.
+fn fold_blocks(word: &mut [u8], h: usize)
+    requires { ⌜ Steps h (now word) ⌝ }
+    ensures { λ _. ⌜ now (word .exit) ≡ layer h (now (word .entry)) ⌝ }
+{
+    let n = word.len();
+    let b = h + h;
+    let mut s = 0;
+    while b <= n - s {
+        fold_front(&mut word[s..], h);
+        s += b;
+    }
+}
+
+// One layer. The compiler unrolls the fold of a block where its step is a constant.
+fn layer(word: &mut [u8], h: usize)
+    requires { ⌜ Steps h (now word) ⌝ }
+    ensures { λ _. ⌜ now (word .exit) ≡ layer h (now (word .entry)) ⌝ }
+{
+    match h {
+        1 => fold_blocks(word, 1),
+        2 => fold_blocks(word, 2),
+        8 => fold_blocks(word, 8),
+        16 => fold_blocks(word, 16),
+        32 => fold_blocks(word, 32),
+        64 => fold_blocks(word, 64),
+        128 => fold_blocks(word, 128),
+        _ => fold_blocks(word, h),
+    }
+}
+
+// So many layers, of which the first has step `first`; each step is twice the one before.
+fn layers(word: &mut [u8], first: usize, count: usize)
+    requires { ⌜ (0 < first) × (first * 2 ^ count ≤ length (now word)) × Bits (now word) ⌝ }
+    ensures { λ _. ⌜ now (word .exit) ≡ layers count first (now (word .entry)) ⌝ }
+{
+    let mut h = first;
+    let mut left = count;
+    while 0 < left {
+        layer(word, h);
+        h = h + h;
+        left -= 1;
+    }
+}
+
+// The transform of 2^m bits, in place, layer by layer.
 pub fn transform(word: &mut [u8], m: usize)
     requires { ⌜ (length (now word) ≡ 2 ^ m) × Bits (now word) ⌝ }
     ensures { λ _. ⌜ now (word .exit) ≡ transform m (now (word .entry)) ⌝ }
 {
-    if m == 0 {
-        return;
-    }
-    let h = word.len() / 2;
-    transform(&mut word[0..h], m - 1);
-    transform(&mut word[h..], m - 1);
-    fold(word, h);
+    layers(word, 1, m);
 }
 
 pub fn copy(from: &[u8], to: &mut [u8])
