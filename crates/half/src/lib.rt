@@ -2,14 +2,16 @@
 // them back.
 ghost use mathlib.Core.Path.{_≡_};
 ghost use Prim.Native.Nat.{_+_, _*_, _^_, _≤_, _<_};
-ghost use lib.ListN.{length};
+ghost use mathlib.Core.List.{_++_};
+ghost use lib.ListN.{length, drop};
 ghost use Rattle.numbers.specs.Sums.{sum};
 ghost use Rattle.words.specs.Bits.{Bits};
 ghost use Rattle.words.specs.Word.{transform};
 ghost use Rattle.words.specs.Kinds.{fill, pick};
 ghost use Rattle.words.specs.Inverse.{firstFrozenOne};
 ghost use Rattle.half.specs.Fold.{folded};
-ghost use Rattle.half.specs.Layers.{onFront, Steps, layer, layers};
+ghost use Rattle.half.specs.Layers.{onFront, blocks, Steps, layer, layers};
+ghost use Rattle.half.specs.Eight.{packed, unpacked, bytesAdded, pairsAdded, foursAdded};
 ghost use Rattle.half.specs.Takeable.{Takeable};
 
 // Adds the second h bits of a word into its first h, modulo 2; the word may go on after them.
@@ -77,12 +79,85 @@ fn layers(word: &mut [u8], first: usize, count: usize)
     }
 }
 
-// The transform of 2^m bits, in place, layer by layer.
+fn wide(x: u8) -> u64
+    ensures { λ r. ⌜ (r ≡ x) × (r < 256) ⌝ }
+{
+    x as u64
+}
+
+// The first eight bytes as one number, the first byte lowest. The compiler makes one load of it.
+fn load(word: &[u8]) -> u64
+    requires { ⌜ 8 ≤ length (now word) ⌝ }
+    ensures { λ x. ⌜ x ≡ packed (now (word .entry)) ⌝ }
+{
+    wide(word[0])
+        + wide(word[1]) * 0x100
+        + wide(word[2]) * 0x10000
+        + wide(word[3]) * 0x1000000
+        + wide(word[4]) * 0x100000000
+        + wide(word[5]) * 0x10000000000
+        + wide(word[6]) * 0x1000000000000
+        + wide(word[7]) * 0x100000000000000
+}
+
+// Puts the eight bytes of a number in front. The compiler makes one store of it.
+fn store(word: &mut [u8], x: u64)
+    requires { ⌜ 8 ≤ length (now word) ⌝ }
+    ensures { λ _. ⌜ now (word .exit) ≡ unpacked x ++ drop 8 (now (word .entry)) ⌝ }
+{
+    word[0] = (x % 256) as u8;
+    word[1] = (x / 0x100 % 256) as u8;
+    word[2] = (x / 0x10000 % 256) as u8;
+    word[3] = (x / 0x1000000 % 256) as u8;
+    word[4] = (x / 0x100000000 % 256) as u8;
+    word[5] = (x / 0x10000000000 % 256) as u8;
+    word[6] = (x / 0x1000000000000 % 256) as u8;
+    word[7] = (x / 0x100000000000000 % 256) as u8;
+}
+
+// Eight bits, one in each byte of a number: the first three layers, by bytes, pairs and fours.
+fn three_layers(x: u64) -> u64
+    ensures { λ y. ⌜ y ≡ foursAdded (pairsAdded (bytesAdded x)) ⌝ }
+{
+    let bytes = x ^ ((x >> 8) & 0x00ff00ff00ff00ff);
+    let pairs = bytes ^ ((bytes >> 16) & 0x0000ffff0000ffff);
+    pairs ^ (pairs >> 32)
+}
+
+// The transform of the first eight bits of a word.
+fn eight(word: &mut [u8])
+    requires { ⌜ (8 ≤ length (now word)) × Bits (now word) ⌝ }
+    ensures { λ _. ⌜ now (word .exit) ≡ onFront (transform 3) 8 (now (word .entry)) ⌝ }
+{
+    let x = load(word);
+    store(word, three_layers(x));
+}
+
+// The transform of each block of eight bits.
+fn eights(word: &mut [u8])
+    requires { ⌜ Bits (now word) ⌝ }
+    ensures { λ _. ⌜ now (word .exit) ≡ blocks (transform 3) 8 (now (word .entry)) ⌝ }
+{
+    let n = word.len();
+    let mut s = 0;
+    while 8 <= n - s {
+        eight(&mut word[s..]);
+        s += 8;
+    }
+}
+
+// The transform of 2^m bits, in place, layer by layer; from eight bits on the first three layers
+// are made at once.
 pub fn transform(word: &mut [u8], m: usize)
     requires { ⌜ (length (now word) ≡ 2 ^ m) × Bits (now word) ⌝ }
     ensures { λ _. ⌜ now (word .exit) ≡ transform m (now (word .entry)) ⌝ }
 {
-    layers(word, 1, m);
+    if m < 3 {
+        layers(word, 1, m);
+        return;
+    }
+    eights(word);
+    layers(word, 8, m - 3);
 }
 
 pub fn copy(from: &[u8], to: &mut [u8])
