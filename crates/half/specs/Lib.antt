@@ -1,6 +1,7 @@
 pub mod Fold
 pub mod FoldLaws
 pub mod Layers
+pub mod BlockLaws
 pub mod LayerLaws
 pub mod Eight
 pub mod EightLaws

@@ -41,10 +41,10 @@ fn fold_blocks(word: &mut [u8], h: usize)
 {
     let n = word.len();
     let b = h + h;
-    let mut s = 0;
-    while b <= n - s {
-        fold_front(&mut word[s..], h);
-        s += b;
+    let mut start = 0;
+    while b <= n - start {
+        fold_front(&mut word[start..], h);
+        start += b;
     }
 }
 
@@ -139,10 +139,10 @@ fn eights(word: &mut [u8])
     ensures { λ _. ⌜ now (word .exit) ≡ blocks (transform 3) 8 (now (word .entry)) ⌝ }
 {
     let n = word.len();
-    let mut s = 0;
-    while 8 <= n - s {
-        eight(&mut word[s..]);
-        s += 8;
+    let mut at = 0;
+    while 8 <= n - at {
+        eight(&mut word[at..]);
+        at += 8;
     }
 }
 

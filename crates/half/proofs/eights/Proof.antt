@@ -1,18 +1,18 @@
--- The loop's invariant is `Blockwise`: the blocks before s are transformed.
+-- The loop's invariant is `Blockwise`: the blocks before at are transformed.
 use mathlib.Core.Path.{_≡_}
 use Prim.Native.Nat.{_-_}
 use native.Mathlib.Omega.{arith}
 use lib.ListN.{length}
 use Rattle.words.specs.Word.{transform}
-use Rattle.half.specs.LayerLaws.{Blockwise, first-turn, part-asked, next-turn, last-turn, keeps-transform}
+use Rattle.half.specs.BlockLaws.{Blockwise, first-turn, part-asked, next-turn, last-turn, keeps-transform}
 use Rattle.half.proofs.eights.Statement.{statement}
 use Rattle.half.proofs.eights.Tie as tie
 
 abbrev Inv-loop : tie.InvT-loop
-Inv-loop word₀ n s₀ word s = Blockwise (transform 3) 8 word₀ word s
+Inv-loop word₀ n at₀ word at = Blockwise (transform 3) 8 word₀ word at
 
 abbrev μ-loop : tie.MeasureT-loop
-μ-loop word₀ n s₀ word s = n - s
+μ-loop word₀ n at₀ word at = n - at
 
 loop-holds : tie.Need-loop-holds Inv-loop μ-loop
 loop-holds c =
@@ -35,10 +35,10 @@ eight-requires : tie.Need-eight-requires Inv-loop μ-loop
 eight-requires c κs =
     let g = c .before .before .before .before in
     let l = c .before .before .loop in
-    part-asked (transform 3) 8 (g .args .word .now) (l .word) (l .s) (l .inv) (omega arith)
+    part-asked (transform 3) 8 (g .args .word .now) (l .word) (l .at) (l .inv) (omega arith)
 
-add-s : tie.Need-add-s Inv-loop μ-loop
-add-s c = omega arith
+add-at : tie.Need-add-at Inv-loop μ-loop
+add-at c = omega arith
 
 loop-less : tie.Need-loop-less Inv-loop μ-loop
 loop-less c = omega arith
@@ -48,7 +48,7 @@ loop-again c =
     let g = c .before .before .before .before .before .before .before in
     let l = c .before .before .before .before .before .loop in
     let back = c .before .before .eight in
-    next-turn (transform 3) 8 (g .args .word .now) (l .word) (l .s) (l .inv) (keeps-transform 3) (omega arith) (omega arith) _ (back .ensures)
+    next-turn (transform 3) 8 (g .args .word .now) (l .word) (l .at) (l .inv) (keeps-transform 3) (omega arith) (omega arith) _ (back .ensures)
 
 same-length : tie.Need-same-length Inv-loop μ-loop
 same-length c = omega arith
@@ -57,7 +57,7 @@ returns : tie.Need-returns Inv-loop μ-loop
 returns c =
     let g = c .before .before .before in
     let l = c .before .loop in
-    last-turn (transform 3) 8 (g .args .word .now) (l .word) (l .s) (l .inv) (omega arith)
+    last-turn (transform 3) 8 (g .args .word .now) (l .word) (l .at) (l .inv) (omega arith)
 
 pub eights-spec : {M : Type 1} → statement M
 eights-spec =
@@ -71,7 +71,7 @@ eights-spec =
     part-eight-start
     part-eight-end
     eight-requires
-    add-s
+    add-at
     loop-less
     loop-again
     same-length

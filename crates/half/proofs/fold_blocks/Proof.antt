@@ -1,18 +1,18 @@
--- The loop's invariant is `Blockwise`: the blocks before s are folded.
+-- The loop's invariant is `Blockwise`: the blocks before start are folded.
 use mathlib.Core.Path.{_≡_}
 use Prim.Native.Nat.{_-_, _+_}
 use native.Mathlib.Omega.{arith}
 use lib.ListN.{length}
 use Rattle.half.specs.Fold.{folded}
-use Rattle.half.specs.LayerLaws.{Blockwise, first-turn, part-asked, next-turn, last-turn, keeps-folded}
+use Rattle.half.specs.BlockLaws.{Blockwise, first-turn, part-asked, next-turn, last-turn, keeps-folded}
 use Rattle.half.proofs.fold_blocks.Statement.{statement}
 use Rattle.half.proofs.fold_blocks.Tie as tie
 
 abbrev Inv-loop : tie.InvT-loop
-Inv-loop word₀ h n b s₀ word s = Blockwise (folded h) (h + h) word₀ word s
+Inv-loop word₀ h n b start₀ word start = Blockwise (folded h) (h + h) word₀ word start
 
 abbrev μ-loop : tie.MeasureT-loop
-μ-loop word₀ h n b s₀ word s = n - s
+μ-loop word₀ h n b start₀ word start = n - start
 
 add-b : tie.Need-add-b Inv-loop μ-loop
 add-b c = omega arith
@@ -40,10 +40,10 @@ fold-front-requires c κs =
     let g = c .before .before .before .before in
     let l = c .before .before .loop in
     let h = g .args .h in
-    part-asked (folded h) (h + h) (g .args .word .now) (l .word) (l .s) (l .inv) (omega arith)
+    part-asked (folded h) (h + h) (g .args .word .now) (l .word) (l .start) (l .inv) (omega arith)
 
-add-s : tie.Need-add-s Inv-loop μ-loop
-add-s c = omega arith
+add-start : tie.Need-add-start Inv-loop μ-loop
+add-start c = omega arith
 
 loop-less : tie.Need-loop-less Inv-loop μ-loop
 loop-less c = omega arith
@@ -54,7 +54,7 @@ loop-again c =
     let l = c .before .before .before .before .before .loop in
     let h = g .args .h in
     let back = c .before .before .fold-front in
-    next-turn (folded h) (h + h) (g .args .word .now) (l .word) (l .s) (l .inv) (keeps-folded h) (omega arith) (omega arith) _ (back .ensures)
+    next-turn (folded h) (h + h) (g .args .word .now) (l .word) (l .start) (l .inv) (keeps-folded h) (omega arith) (omega arith) _ (back .ensures)
 
 same-length : tie.Need-same-length Inv-loop μ-loop
 same-length c = omega arith
@@ -64,7 +64,7 @@ returns c =
     let g = c .before .before .before in
     let l = c .before .loop in
     let h = g .args .h in
-    last-turn (folded h) (h + h) (g .args .word .now) (l .word) (l .s) (l .inv) (omega arith)
+    last-turn (folded h) (h + h) (g .args .word .now) (l .word) (l .start) (l .inv) (omega arith)
 
 pub fold-blocks-spec : {M : Type 1} → statement M
 fold-blocks-spec =
@@ -79,7 +79,7 @@ fold-blocks-spec =
     part-fold-front-start
     part-fold-front-end
     fold-front-requires
-    add-s
+    add-start
     loop-less
     loop-again
     same-length

@@ -8,7 +8,8 @@ use lib.Pow.{pow-add}
 use Rattle.words.specs.Bits.{Bits}
 use Rattle.words.specs.Word.{transform}
 use Rattle.half.specs.Layers.{layers}
-use Rattle.half.specs.LayerLaws.{keeps-transform, length-blocks, bits-blocks, layers-double, layers-transform}
+use Rattle.half.specs.BlockLaws.{keeps-transform, length-blocks, bits-blocks}
+use Rattle.half.specs.LayerLaws.{layers-double, layers-transform}
 use Rattle.half.proofs.transform.Statement.{statement}
 use Rattle.half.proofs.transform.Tie as tie
 
