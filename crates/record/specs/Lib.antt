@@ -3,6 +3,7 @@ pub mod LayoutLaws
 pub mod Reader
 pub mod ReaderLaws
 pub mod Accepted
+pub mod HeaderLaws
 pub mod OnlyHeader
 pub mod Searching
 pub mod Examples
