@@ -9,3 +9,4 @@ pub mod State
 pub mod StateLaws
 pub mod Turns
 pub mod TurnsLaws
+pub mod EndLaws

@@ -1,5 +1,5 @@
 -- Laws of what the program must write: it goes record by record, and bytes behind a record do not change its line.
-use mathlib.Core.Path.{_≡_, refl, ap, sym, _∙_}
+use mathlib.Core.Path.{_≡_, refl, ap, _∙_}
 use mathlib.Core.List.{List, [], _∷_, _++_}
 use mathlib.Core.Bool.{true, false, cond}
 use Prim.Native.Nat.{ℕ, zero, suc, _+_, _-_, _^_, _≤_, _<_}
@@ -7,13 +7,9 @@ use native.Mathlib.Omega.{arith}
 use lib.ListN.{length, drop, length-append, length-drop}
 use lib.Seq.{drop-append-le}
 use Rattle.numbers.specs.Choice.{cond-two}
-use Rattle.words.specs.Kinds.{kinds}
-use Rattle.decoding.specs.Answer.{answer}
-use Rattle.code.specs.declared.Refusal.{Refusal}
-use Rattle.code.specs.declared.Refusal.the-variants.{Parameters, Torn}
 use Rattle.record.specs.declared.Header.{Header}
 use Rattle.record.specs.declared.Header.the-variants.{Record, Refused}
-use Rattle.record.specs.Reader.{readingsOf, headerOf}
+use Rattle.record.specs.Reader.{headerOf}
 use Rattle.record.specs.HeaderLaws.{There, header-there, header-before, readings-before}
 use Rattle.cinorbis.specs.Line.{totalLine}
 use Rattle.cinorbis.specs.Program.{Result, allowance, headed, resultOf, lineOf, stops, isAnswered, nextStart, outputFrom}

@@ -1,7 +1,7 @@
 -- Laws of where the program stands: what is next, a record that is taken, and the bytes behind which is read.
 use mathlib.Core.Path.{_≡_, refl, ap, sym, _∙_, subst}
 use mathlib.Core.List.{List, _++_}
-use mathlib.Core.Logic.{⊎-elim}
+use mathlib.Core.Logic.{_⊎_, inl, inr, ⊎-elim}
 use mathlib.Core.Bool.{Bool, true, false, cond}
 use Prim.Native.Nat.{ℕ, zero, suc, _+_, _-_, _≤_, _<_}
 use native.Mathlib.Omega.{arith}
@@ -22,29 +22,30 @@ use Rattle.cinorbis.specs.declared.state.Next.{Next}
 use Rattle.cinorbis.specs.declared.state.Next.the-variants.{Write, Take, Total, Read}
 use Rattle.cinorbis.specs.declared.step.Step.{Step}
 use Rattle.cinorbis.specs.Line.{Put}
-use Rattle.cinorbis.specs.Program.{Result, answered, refused, resultOf, lineOf, stops, isAnswered, nextStart}
+use Rattle.cinorbis.specs.Program.{Result, answered, refused, resultOf, lineOf, stops, isAnswered}
 use Rattle.cinorbis.specs.Step.{Stepped}
-use Rattle.cinorbis.specs.State.{room, Ready, unread, isThere, nextOf, after, countedBy, moved, afterRead, Took}
+use Rattle.cinorbis.specs.State.{room, unread, isThere, nextOf, after, countedBy, moved, afterRead, Took}
 
 -- what the tests on the way to a kind of turn have shown
-abbrev Shown : Bool → Bool → Bool → Bool → Next → Type 0
-Shown closed full there ended Write = Unit {0}
-Shown closed full there ended Take = (closed ≡ false) × (full ≡ false) × (there ≡ true)
-Shown closed full there ended Total = (closed ≡ false) × (full ≡ false) × (there ≡ false) × (ended ≡ true)
-Shown closed full there ended Read = (closed ≡ false) × (full ≡ false) × (there ≡ false) × (ended ≡ false)
+abbrev Shown : Bool → Bool → Bool → Bool → Bool → Next → Type 0
+Shown closed full there ended some Write = (closed ≡ true) ⊎ (full ≡ true) ⊎ (some ≡ true)
+Shown closed full there ended some Take = (closed ≡ false) × (full ≡ false) × (there ≡ true)
+Shown closed full there ended some Total = (closed ≡ false) × (full ≡ false) × (there ≡ false) × (ended ≡ true)
+Shown closed full there ended some Read = (closed ≡ false) × (full ≡ false) × (there ≡ false) × (ended ≡ false)
 
 shown : (closed full there ended some : Bool)
-    → Shown closed full there ended (cond closed Write (cond full Write (cond there Take (cond ended Total (cond some Write Read)))))
-shown true full there ended some = tt
-shown false true there ended some = tt
+    → Shown closed full there ended some (cond closed Write (cond full Write (cond there Take (cond ended Total (cond some Write Read)))))
+shown true full there ended some = inl refl
+shown false true there ended some = inr (inl refl)
 shown false false true ended some = (refl, refl, refl)
 shown false false false true some = (refl, refl, refl, refl)
-shown false false false false true = tt
+shown false false false false true = inr (inr refl)
 shown false false false false false = (refl, refl, refl, refl)
 
-pub next-shown : (s : State) (input : List ℕ) (n : ℕ) (x : Next) → nextOf s input n ≡ x → Shown (s .closed) (ltb (n - s .text) room) (isThere s input) (s .ended) x
+pub next-shown : (s : State) (input : List ℕ) (n : ℕ) (x : Next) → nextOf s input n ≡ x
+    → Shown (s .closed) (ltb (n - s .text) room) (isThere s input) (s .ended) (ltb 0 (s .text)) x
 next-shown s input n x e =
-    subst (Shown (s .closed) (ltb (n - s .text) room) (isThere s input) (s .ended)) e
+    subst (Shown (s .closed) (ltb (n - s .text) room) (isThere s input) (s .ended) (ltb 0 (s .text))) e
     (shown (s .closed) (ltb (n - s .text) room) (isThere s input) (s .ended) (ltb 0 (s .text)))
 
 counted-after : (s : State) (result : Result) (t : Step) → t .answered ≡ isAnswered result → t .stop ≡ stops result

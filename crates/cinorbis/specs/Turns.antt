@@ -3,13 +3,13 @@ use mathlib.Core.Path.{_≡_}
 use mathlib.Core.List.{List, [], _++_}
 use mathlib.Core.Bool.{Bool, true, false}
 use mathlib.Core.Logic.{_⊎_}
-use Prim.Native.Nat.{ℕ, zero, suc, _+_, _-_, _^_}
+use Prim.Native.Nat.{ℕ, zero, suc, _-_, _^_, _<_}
 use lib.IntN.{ℤ, pos, negsuc}
 use lib.ListN.{length, take, drop}
 use Rattle.cinorbis.specs.declared.state.State.{State}
 use Rattle.cinorbis.specs.declared.state.Next.the-variants.{Write, Take, Total, Read}
 use Rattle.cinorbis.specs.Program.{output}
-use Rattle.cinorbis.specs.State.{starting, nextOf, unread, Took, Finished, Flushed, Refilled}
+use Rattle.cinorbis.specs.State.{starting, nextOf, Took, Finished, Flushed, Refilled}
 
 -- a turn does what is next, and only that
 pub data Turned (s : State) (input output : List ℕ) (t : State) (input′ output′ : List ℕ) : Type 0 where
@@ -50,7 +50,7 @@ pub data Chain : ℕ → State → List ℕ → List ℕ → Passed → Type 0 w
       → Chain n s input output p → s .going ≡ true → length input′ ≡ length input → length output′ ≡ length output
       → (w : Turned s input output t input′ output′) → Chain (suc n) t input′ output′ (passing s input output t input′ output′ w p)
 
--- The program has ended, unless it made more turns than 64 bits count.
+-- The program has ended, unless more than 2^62 bytes came.
 pub record Ran : Type 0 where
   pub turns : ℕ
   pub state : State
@@ -58,8 +58,12 @@ pub record Ran : Type 0 where
   pub output : List ℕ
   pub passed : Passed
   pub chain : Chain turns state input output passed
-  pub ends : (state .going ≡ false) ⊎ (turns ≡ 2 ^ 64 - 1)
+  pub ends : (state .going ≡ false) ⊎ (2 ^ 62 < length (passed .came))
 
 -- What was told is what the definition says of all bytes of the input: those that came, and whatever was not read, which is nothing where a read returned 0.
 pub record Tells (p : Passed) : Type 0 where
   pub tells : (rest : List ℕ) → (p .over ≡ true → rest ≡ []) → p .told ≡ output (p .came ++ rest)
+
+pub record Beginning (told all : List ℕ) : Type 0 where
+  pub more : List ℕ
+  pub is : told ++ more ≡ all

@@ -1,27 +1,26 @@
 -- The theorem of the program: whatever pieces the bytes arrive in, what it tells is the output of all of them.
 use mathlib.Core.Path.{_≡_, refl, ap, sym, _∙_, subst}
-use mathlib.Core.List.{List, [], _∷_, _++_, append-assoc, append-nil}
-use mathlib.Core.Logic.{_⊎_, inl, inr, ⊎-elim}
-use mathlib.Core.Bool.{Bool, true, false, cond, not}
-use Prim.Native.Nat.{ℕ, zero, suc, _+_, _-_, _^_, _≤_, _<_, min}
+use mathlib.Core.List.{List, [], _++_, append-assoc, append-nil}
+use mathlib.Core.Logic.{⊎-elim}
+use mathlib.Core.Bool.{Bool, true, false, cond}
+use Prim.Native.Nat.{ℕ, zero, suc, _+_, _-_, _≤_, _<_, min}
 use native.Mathlib.Omega.{arith}
 use native.Mathlib.Numerals.{add-one}
 use native.Mathlib.Nat.{sub-zero}
 use lib.IntN.{ℤ, pos, negsuc}
-use lib.ListN.{length, getD, take, drop, length-append, length-drop, length-take}
-use lib.Seq.{length-take-le, take-at, take-add, take-all, take-length, drop-append-le, drop-drop, getD-take, getD-drop}
+use lib.ListN.{length, getD, take, drop, length-append, length-drop}
+use lib.Seq.{length-take-le, take-at, take-add, take-all, take-length, drop-drop, getD-take, getD-drop}
 use borrow.Author.Tests.{not-false}
 use Rattle.numbers.specs.Choice.{lt-or-le, cond-by, cond-two}
 use Rattle.numbers.specs.Halves.{drop-take}
-use Rattle.code.specs.Sound.{numberOf}
 use Rattle.cinorbis.specs.declared.state.State.{State}
-use Rattle.cinorbis.specs.declared.state.Next.the-variants.{Write, Take, Total, Read}
-use Rattle.cinorbis.specs.Line.{totalLine, Put, written}
-use Rattle.cinorbis.specs.Program.{Result, answered, refused, resultOf, lineOf, stops, isAnswered, nextStart, output}
+use Rattle.cinorbis.specs.declared.state.Next.the-variants.{Take, Total, Read}
+use Rattle.cinorbis.specs.Line.{totalLine, Put}
+use Rattle.cinorbis.specs.Program.{Result, answered, refused, resultOf, lineOf, stops, nextStart, output}
 use Rattle.cinorbis.specs.OutputLaws.{linesOf, linesAfter, lines-end, lines-first, result-before, goes-on-there}
-use Rattle.cinorbis.specs.State.{starting, Ready, unread, isThere, after, afterRead, afterWrite, moved, texted, Took, Finished, Flushed, Refilled}
+use Rattle.cinorbis.specs.State.{starting, Ready, unread, isThere, after, afterRead, afterWrite, Took, Finished}
 use Rattle.cinorbis.specs.StateLaws.{next-shown, there-first, there-whole, absent-none}
-use Rattle.cinorbis.specs.Turns.{Turned, writes, takes, totals, reads, Passed, nothing, withText, withRead, passing, Chain, start, turn, Ran, Tells}
+use Rattle.cinorbis.specs.Turns.{Turned, writes, takes, totals, reads, Passed, nothing, withText, withRead, passing, Chain, start, turn, Ran, Tells, Beginning}
 
 -- what is still to be told, if these bytes are still to come
 abbrev pub toTell : State → List ℕ → List ℕ → List ℕ
@@ -289,6 +288,15 @@ chain-holds n s input output₁ p (start i o) = holds-start i o
 chain-holds n s input output₁ p (turn m s₀ input₀ output₀ p₀ t input′ output′ c g e f w) =
     holds-turned m s₀ input₀ output₀ p₀ (chain-holds m s₀ input₀ output₀ p₀ c) g t input′ output′ e f w
 
+-- At any time, and so after an error too, what was told is a beginning of the output of all bytes.
+pub chain-begins : (n : ℕ) (s : State) (input output₁ : List ℕ) (p : Passed) → Chain n s input output₁ p → (rest : List ℕ) → (p .over ≡ true → rest ≡ [])
+    → Beginning (p .told) (output (p .came ++ rest))
+chain-begins n s input output₁ p c rest z =
+    record {
+      more = take (s .text) output₁ ++ toTell s input rest;
+      is = sym (append-assoc (p .told) (take (s .text) output₁) (toTell s input rest)) ∙ chain-holds n s input output₁ p c .tells rest z;
+    }
+
 -- The theorem. A program that has ended without an error has told the output of all bytes.
 pub chain-tells : (n : ℕ) (s : State) (input output₁ : List ℕ) (p : Passed) → Chain n s input output₁ p → s .going ≡ false → s .failed ≡ false → Tells p
 chain-tells n s input output₁ p c g f =
@@ -299,39 +307,3 @@ chain-tells n s input output₁ p c g f =
 -- and so has a run of the program
 pub ran-tells : (x : Ran) → x .state .going ≡ false → x .state .failed ≡ false → Tells (x .passed)
 ran-tells x = chain-tells (x .turns) (x .state) (x .input) (x .output) (x .passed) (x .chain)
-
--- ---- for the proof at the code: a chain of turns when so many are left of those that are counted
-pub record Along (left : ℕ) (s : State) (input output₁ : List ℕ) : Type 0 where
-  pub turns : ℕ
-  pub passed : Passed
-  pub chain : Chain turns s input output₁ passed
-  pub count : turns + left ≡ 2 ^ 64 - 1
-
-pub along-start : (input output₁ : List ℕ) (s : State) → s ≡ starting → Along (2 ^ 64 - 1) s input output₁
-along-start input output₁ s e = rw e (record { turns = 0; passed = nothing; chain = start input output₁; count = refl })
-
-module _ (left : ℕ) (s : State) (input output₁ : List ℕ) (a : Along left s input output₁) where
-  pub along-stands : Stands (a .turns) s input output₁ (a .passed)
-  along-stands = chain-holds (a .turns) s input output₁ (a .passed) (a .chain) .stands
-
-  pub along-turn : (t : State) (input′ output′ : List ℕ) → 0 < left → s .going ≡ true → length input′ ≡ length input → length output′ ≡ length output₁
-      → Turned s input output₁ t input′ output′ → Along (left - 1) t input′ output′
-  along-turn t input′ output′ h g e f w =
-      record {
-        turns = suc (a .turns);
-        passed = passing s input output₁ t input′ output′ w (a .passed);
-        chain = turn (a .turns) s input output₁ (a .passed) t input′ output′ (a .chain) g e f w;
-        count = omega (arith, a .count);
-      }
-
-  pub along-ran : (s .going ≡ false) ⊎ (left ≡ 0) → Ran
-  along-ran e =
-      record {
-        turns = a .turns;
-        state = s;
-        input = input;
-        output = output₁;
-        passed = a .passed;
-        chain = a .chain;
-        ends = ⊎-elim (λ g. inl g) (λ z. inr (omega (arith, a .count))) e;
-      }

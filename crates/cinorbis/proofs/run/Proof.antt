@@ -3,7 +3,7 @@ use mathlib.Core.Path.{_≡_, refl, _∙_}
 use mathlib.Core.Logic.{inl, inr}
 use native.Mathlib.Omega.{arith}
 use lib.ListN.{length}
-use Rattle.cinorbis.specs.TurnsLaws.{Along, along-start, along-stands, along-turn, along-ran}
+use Rattle.cinorbis.specs.EndLaws.{Along, along-start, along-stands, along-turn, along-ran}
 use Rattle.cinorbis.proofs.run.Statement.{statement}
 use Rattle.cinorbis.proofs.run.Tie as tie
 
@@ -53,7 +53,7 @@ same-length-2 c = c .before .before .loop .inv .2
 returns : tie.Need-returns Inv-loop μ-loop
 returns c =
     let o = c .before .before .loop in
-    along-ran (o .left) (o .s) (o .input) (o .output) (o .inv .0) (inl (c .if1 .left))
+    along-ran (o .left) (o .s) (o .input) (o .output) (o .inv .0) (omega (arith, c .before .before .before .before .before .before .pre .0, o .inv .1)) (omega (arith, c .before .before .before .before .before .before .pre .1, o .inv .2)) (inl (c .if1 .left))
 
 same-length-3 : tie.Need-same-length-3 Inv-loop μ-loop
 same-length-3 c = c .before .loop .inv .1
@@ -64,7 +64,7 @@ same-length-4 c = c .before .loop .inv .2
 returns-2 : tie.Need-returns-2 Inv-loop μ-loop
 returns-2 c =
     let o = c .before .loop in
-    along-ran (o .left) (o .s) (o .input) (o .output) (o .inv .0) (inr (omega arith))
+    along-ran (o .left) (o .s) (o .input) (o .output) (o .inv .0) (omega (arith, c .before .before .before .before .before .pre .0, o .inv .1)) (omega (arith, c .before .before .before .before .before .pre .1, o .inv .2)) (inr (omega arith))
 
 pub run-spec : {M : Type 1} → statement M
 run-spec =

@@ -1,10 +1,10 @@
 -- `cinorbis::turn` meets its contract: each way out is one kind of turn.
-use mathlib.Core.Path.{_≡_, refl, sym, _∙_}
+use mathlib.Core.Path.{_≡_, refl}
 use Prim.Native.Nat.{_-_}
 use native.Mathlib.Omega.{arith}
 use borrow.Author.Tests.{ltb-false}
 use lib.ListN.{length}
-use Rattle.cinorbis.specs.declared.state.Next.the-variants.{Write, Take, Total, Read}
+use Rattle.cinorbis.specs.declared.state.Next.the-variants.{Take, Total, Read}
 use Rattle.cinorbis.specs.State.{nextOf}
 use Rattle.cinorbis.specs.StateLaws.{next-shown, there-first, absent-short}
 use Rattle.cinorbis.specs.Turns.{writes, takes, totals, reads}

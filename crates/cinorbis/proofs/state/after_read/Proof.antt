@@ -1,5 +1,5 @@
 -- `cinorbis::state::after_read` meets its contract: the tests on the number tell its three cases apart.
-use mathlib.Core.Path.{_≡_, ap, sym, _∙_}
+use mathlib.Core.Path.{ap, sym, _∙_}
 use mir.Val.{toZ, ofZ}
 use mir.Facts.{toZ-ofZ}
 use mir.Syntax.{w64}
