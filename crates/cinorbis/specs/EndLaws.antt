@@ -45,7 +45,8 @@ module _ (n most : ℕ) (s : State) (input output : List ℕ) (r : Ready s input
   due-written-last true c = let b = rw c at before in rw c (omega (arith, b))
   due-written-last false c = omega (arith, before)
 
-  due-written : (done : Bool) → (s .closed ≡ true) ⊎ (ltb (length output - s .text) room ≡ true) ⊎ (ltb 0 (s .text) ≡ true) → suc n + due (afterWrite done s) ≤ most
+  due-written : (done : Bool) → (s .closed ≡ true) ⊎ (ltb (length output - s .text) room ≡ true) ⊎ (ltb 0 (s .text) ≡ true)
+      → suc n + due (afterWrite done s) ≤ most
   due-written done =
       ⊎-elim (λ c. due-written-last done c)
       (⊎-elim (λ f. due-written-some done (omega (arith, ltb-true (length output - s .text) room f))) (λ f. due-written-some done (ltb-true 0 (s .text) f)))
@@ -75,7 +76,8 @@ module _ (n most : ℕ) (s : State) (input output : List ℕ) (r : Ready s input
       length-append (p .came) (take (suc j) fresh) ∙ ap (λ (n : ℕ). length (p .came) + n) (length-take (suc j) fresh ∙ ap (min (suc j)) long) in
       let one : 1 ≤ c = omega (arith, absent-short s input t e) in
       rw came
-      (grown n (length (p .came)) k c (min 1 (s .text)) (cond (s .closed) 0 2) (cond (s .ended) 0 1) (cond (s .going) 1 0) (rw b at before) one (at-most-one (s .going)))
+      (grown n (length (p .came)) k c (min 1 (s .text)) (cond (s .closed) 0 2) (cond (s .ended) 0 1) (cond (s .going) 1 0)
+      (rw b at before) one (at-most-one (s .going)))
 
   due-turned : (p : Passed) → most ≡ 3 * length (p .came) + 4 → (t : State) (input′ output′ : List ℕ) → length input′ ≡ length input
       → (w : Turned s input output t input′ output′) → suc n + due t ≤ 3 * length (passing s input output t input′ output′ w p .came) + 4
@@ -110,9 +112,12 @@ pub record Along (left : ℕ) (s : State) (input output : List ℕ) : Type 0 whe
   pub passed : Passed
   pub chain : Chain turns s input output passed
   pub count : turns + left ≡ 2 ^ 64 - 1
+  pub space : longest ≤ length input
+  pub line : room ≤ length output
 
-pub along-start : (input output : List ℕ) (s : State) → s ≡ starting → Along (2 ^ 64 - 1) s input output
-along-start input output s e = rw e (record { turns = 0; passed = nothing; chain = start input output; count = refl })
+pub along-start : (input output : List ℕ) (s : State) → s ≡ starting → longest ≤ length input → room ≤ length output → Along (2 ^ 64 - 1) s input output
+along-start input output s e space line =
+    rw e (record { turns = 0; passed = nothing; chain = start input output; count = refl; space = space; line = line })
 
 module _ (left : ℕ) (s : State) (input output : List ℕ) (a : Along left s input output) where
   pub along-stands : Stands (a .turns) s input output (a .passed)
@@ -126,10 +131,12 @@ module _ (left : ℕ) (s : State) (input output : List ℕ) (a : Along left s in
         passed = passing s input output t input′ output′ w (a .passed);
         chain = turn (a .turns) s input output (a .passed) t input′ output′ (a .chain) g e f w;
         count = omega (arith, a .count);
+        space = omega (arith, a .space);
+        line = omega (arith, a .line);
       }
 
-  pub along-ran : longest ≤ length input → room ≤ length output → (s .going ≡ false) ⊎ (left ≡ 0) → Ran
-  along-ran space line e =
+  pub along-ran : (s .going ≡ false) ⊎ (left ≡ 0) → Ran
+  along-ran e =
       record {
         turns = a .turns;
         state = s;
@@ -139,5 +146,5 @@ module _ (left : ℕ) (s : State) (input output : List ℕ) (a : Along left s in
         chain = a .chain;
         ends =
             ⊎-elim (λ g. inl g)
-            (λ z. inr (omega (arith, a .count, chain-due (a .turns) s input output (a .passed) (a .chain) space line))) e;
+            (λ z. inr (omega (arith, a .count, chain-due (a .turns) s input output (a .passed) (a .chain) (a .space) (a .line)))) e;
       }

@@ -69,7 +69,8 @@ refusalsAfter result n = cond (isAnswered result) n (suc n)
 
 -- after a record with this result, when s are the bytes behind it
 abbrev pub linesAfter : ℕ → ℕ → Result → List ℕ → List ℕ
-linesAfter a f result s = cond (stops result) (totalLine (answersAfter result a) (refusalsAfter result f)) (linesOf (answersAfter result a) (refusalsAfter result f) s)
+linesAfter a f result s =
+    cond (stops result) (totalLine (answersAfter result a) (refusalsAfter result f)) (linesOf (answersAfter result a) (refusalsAfter result f) s)
 
 -- the first record's line and then those of the others, whatever stands behind the bytes s if that does not change the record
 pub lines-first : (a f : ℕ) (s rest : List ℕ) → 0 < length s → resultOf (s ++ rest) ≡ resultOf s

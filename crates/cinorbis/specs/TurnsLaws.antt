@@ -20,7 +20,8 @@ use Rattle.cinorbis.specs.Program.{Result, answered, refused, resultOf, 
 use Rattle.cinorbis.specs.OutputLaws.{linesOf, linesAfter, lines-end, lines-first, result-before, goes-on-there}
 use Rattle.cinorbis.specs.State.{starting, Ready, unread, isThere, after, afterRead, afterWrite, Took, Finished}
 use Rattle.cinorbis.specs.StateLaws.{next-shown, there-first, there-whole, absent-none}
-use Rattle.cinorbis.specs.Turns.{Turned, writes, takes, totals, reads, Passed, nothing, withText, withRead, passing, Chain, start, turn, Ran, Tells, Beginning}
+use Rattle.cinorbis.specs.Turns.{Turned, writes, takes, totals, reads, Passed, nothing, withText, withRead, passing}
+use Rattle.cinorbis.specs.Turns.{Chain, start, turn, Ran, Tells, Beginning}
 
 -- what is still to be told, if these bytes are still to come
 abbrev pub toTell : State → List ℕ → List ℕ → List ℕ
@@ -60,7 +61,15 @@ put-text d at t «end» d′ p h =
 put-within : (d : List ℕ) (at : ℕ) (t : List ℕ) («end» : ℕ) (d′ : List ℕ) → Put d at t «end» d′ → at ≤ length d → length d′ ≡ length d → «end» ≤ length d
 put-within d at t «end» d′ p h e =
     let n = at + length t in
-    omega (arith, p .end-is, ap length (p .text-is), length-append (take at d ++ t) (drop n d), length-append (take at d) t, length-take-le at d h, length-drop n d)
+    omega (
+      arith,
+      p .end-is,
+      ap length (p .text-is),
+      length-append (take at d ++ t) (drop n d),
+      length-append (take at d) t,
+      length-take-le at d h,
+      length-drop n d,
+    )
 
 holds-start : (input output₁ : List ℕ) → Holds 0 starting input output₁ nothing
 unfolding output
@@ -141,7 +150,8 @@ module _ (n : ℕ) (s : State) (input output₁ : List ℕ) (p : Passed) (h : Ho
         rw e (sym (drop-take k (s .«end» - s .at) (drop (s .at) input) ∙ ap (take (s .«end» - s .at - k)) (drop-drop k (s .at) input)))
 
     left-after : (result : Result) (text : ℕ) (rest : List ℕ)
-        → toTell (after s result text (s .at + nextStart u)) input rest ≡ linesAfter (s .read) (s .refused) result (drop (nextStart u) u ++ cond (s .ended) [] rest)
+        → toTell (after s result text (s .at + nextStart u)) input rest
+        ≡ linesAfter (s .read) (s .refused) result (drop (nextStart u) u ++ cond (s .ended) [] rest)
     left-after (answered bits penalty gap visits) text rest = rw (closed, unread-after, add-one)
     left-after (refused why) text rest =
         let none : s .«end» - s .«end» ≡ 0 = omega arith in

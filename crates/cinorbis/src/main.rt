@@ -76,7 +76,8 @@ fn turn(input: &mut [u8], output: &mut [u8], s: State) -> State
     }
 }
 
-// Nothing says that the input ends, so the turns are counted down from a number that no run uses up.
+// Nothing says that the input ends, so the turns are counted down, from a number that only more than
+// 2^62 bytes use up.
 fn run(input: &mut [u8], output: &mut [u8])
     requires { ⌜ (longest ≤ length (now input)) × (room ≤ length (now output)) ⌝ }
     ensures { λ _. ⌜ Ran ⌝ }

@@ -56,7 +56,10 @@ returns c =
       kept = kept-front (g .args .input .now) (m .last .0) (r .last .1 .0) (s .at) (s .«end») (g .pre .0) (g .pre .1) (m .ensures);
       is =
           c .after-read .ensures
-          ∙ rw (toZ-ofZ (record { sfits = r .ok }), length-behind (s .«end» - s .at) (length (g .args .input .now)) (m .last .0) (r .last .1 .0) (m .kept .0) (omega (arith, g .pre .1)) (r .kept .1 .0));
+          ∙ rw (
+            toZ-ofZ (record { sfits = r .ok }),
+            length-behind (s .«end» - s .at) (length (g .args .input .now)) (m .last .0) (r .last .1 .0) (m .kept .0) (omega (arith, g .pre .1)) (r .kept .1 .0),
+          );
     }
 
 pub refill-spec : {M : Type 1} → statement M

@@ -19,14 +19,15 @@ start-requires c κs = tt
 loop-holds : tie.Need-loop-holds Inv-loop μ-loop
 loop-holds c =
     let g = c .before .before .before .args in
-    (along-start (g .input .now) (g .output .now) (c .start .result) (c .start .ensures), refl, refl)
+    let pre = c .before .before .before .pre in
+    (along-start (g .input .now) (g .output .now) (c .start .result) (c .start .ensures) (pre .0) (pre .1), refl, refl)
 
 turn-requires : tie.Need-turn-requires Inv-loop μ-loop
 turn-requires c κs =
     let o = c .before .before .before .before .loop in
     let along = o .inv .0 in
     let stands = along-stands (o .left) (o .s) (o .input) (o .output) along in
-    (stands .ready, omega (arith, c .before .before .before .before .before .before .before .before .pre .0, o .inv .1), omega (arith, stands .counts, along .count))
+    (stands .ready, along .space, omega (arith, stands .counts, along .count))
 
 sub-left : tie.Need-sub-left Inv-loop μ-loop
 sub-left c = omega arith
@@ -39,7 +40,8 @@ loop-again c =
     let o = c .before .before .before .before .before .before .before .before .before .loop in
     let t = c .before .before .before .before .turn in
     let going = c .before .before .before .before .before .before .before .if1 .taken in (
-      along-turn (o .left) (o .s) (o .input) (o .output) (o .inv .0) (t .result) (t .last .0) (t .last .1 .0) (omega arith) going (t .kept .0) (t .kept .1 .0) (t .ensures),
+      along-turn (o .left) (o .s) (o .input) (o .output) (o .inv .0) (t .result) (t .last .0) (t .last .1 .0)
+          (omega arith) going (t .kept .0) (t .kept .1 .0) (t .ensures),
       t .kept .0 ∙ o .inv .1,
       t .kept .1 .0 ∙ o .inv .2,
     )
@@ -53,7 +55,7 @@ same-length-2 c = c .before .before .loop .inv .2
 returns : tie.Need-returns Inv-loop μ-loop
 returns c =
     let o = c .before .before .loop in
-    along-ran (o .left) (o .s) (o .input) (o .output) (o .inv .0) (omega (arith, c .before .before .before .before .before .before .pre .0, o .inv .1)) (omega (arith, c .before .before .before .before .before .before .pre .1, o .inv .2)) (inl (c .if1 .left))
+    along-ran (o .left) (o .s) (o .input) (o .output) (o .inv .0) (inl (c .if1 .left))
 
 same-length-3 : tie.Need-same-length-3 Inv-loop μ-loop
 same-length-3 c = c .before .loop .inv .1
@@ -64,7 +66,7 @@ same-length-4 c = c .before .loop .inv .2
 returns-2 : tie.Need-returns-2 Inv-loop μ-loop
 returns-2 c =
     let o = c .before .loop in
-    along-ran (o .left) (o .s) (o .input) (o .output) (o .inv .0) (omega (arith, c .before .before .before .before .before .pre .0, o .inv .1)) (omega (arith, c .before .before .before .before .before .pre .1, o .inv .2)) (inr (omega arith))
+    along-ran (o .left) (o .s) (o .input) (o .output) (o .inv .0) (inr (omega arith))
 
 pub run-spec : {M : Type 1} → statement M
 run-spec =

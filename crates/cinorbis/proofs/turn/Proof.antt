@@ -29,7 +29,8 @@ take-record-requires c κs =
     let g = c .before .before .before .before .before .before .before .before in
     let is : nextOf (g .args .s) (g .args .input .now) (length (g .args .output .now)) ≡ Take = cc in
     let t = next-shown (g .args .s) (g .args .input .now) (length (g .args .output .now)) Take is in
-    (there-first (g .args .s) (g .args .input .now) (t .2) (g .pre .0 .order), g .pre .0 .within, omega (arith, ltb-false (length (g .args .output .now) - g .args .s .text) 512 (t .1)), g .pre .2)
+    let fits = ltb-false (length (g .args .output .now) - g .args .s .text) 512 (t .1) in
+    (there-first (g .args .s) (g .args .input .now) (t .2) (g .pre .0 .order), g .pre .0 .within, omega (arith, fits), g .pre .2)
 
 enum-told-3 : tie.Need-enum-told-3
 enum-told-3 c = search needs
