@@ -8,8 +8,8 @@ import re
 
 TOP = os.path.join(os.path.dirname(os.path.abspath(__file__)), "..")
 
-# A program has no public function: what it writes is this definition.
-ALSO = [("spec", "crates/cinorbis/specs/Program.antt", "output")]
+# A program has no public function: these say how it runs and what it has told.
+ALSO = [("spec", "crates/cinorbis/specs/Turns.antt", name) for name in ("Ran", "Tells")]
 
 
 def read(path):
@@ -74,8 +74,9 @@ def meant(name, module):
 
 
 def words(text):
-    """The names in a text, each with the short module name before it, if there is one."""
-    return re.findall(r"(?:(?<![\w.·-])([A-Za-z]\w*)\.)?([^\s(){}\[\],;⌜⌝.:λ→×⊎≡]+)", re.sub(r"(--|//).*", "", text))
+    """The names in a text, each with the short module name before it, if there is one; fields that are taken out of a record are left out."""
+    text = re.sub(r"(--|//).*|(?<!\S)\.\S+", " ", text)
+    return re.findall(r"(?:(?<![\w.·-])([A-Za-z]\w*)\.)?([^\s(){}\[\],;⌜⌝.:λ→×⊎≡]+)", text)
 
 
 def contracts(path):
@@ -118,11 +119,11 @@ def reached(roots):
             continue
         found[where, name] = file.lines[name]
         for short, word in words("\n".join(file.lines[name])):
-            if not short and word in file.owner:
-                left.append(("spec", where, word))
-            else:
-                root = meant(word, file.modules.get(short) if short else file.names.get(word))
+            if short or word in file.names:
+                root = meant(word, file.modules.get(short) if short else file.names[word])
                 left += [root] if root else []
+            elif word in file.owner:
+                left.append(("spec", where, word))
     return found
 
 
@@ -133,12 +134,20 @@ def believed():
     return found
 
 
+def amount(found):
+    """How much text that is, in words."""
+    definitions = {key: lines for key, lines in found.items() if key[0].endswith(".antt")}
+    count = sum(len(lines) for lines in definitions.values())
+    types = sum(len(lines) for lines in found.values()) - count
+    return f"{count} lines of definitions in {len({path for path, _ in definitions})} files, and {types} lines of types that the code declares"
+
+
 def main():
     found = believed()
     for path in sorted({path for path, _ in found}):
         names = sorted(name for file, name in found if file == path)
         print(f"{path}: {sum(len(found[path, name]) for name in names)} lines: {', '.join(names)}")
-    print(f"{sum(len(lines) for lines in found.values())} lines")
+    print(amount(found))
 
 
 if __name__ == "__main__":
