@@ -1,8 +1,11 @@
 pub mod Layout
 pub mod LayoutLaws
+pub mod PairLaws
 pub mod Reader
 pub mod ReaderLaws
 pub mod Accepted
 pub mod OnlyHeader
+pub mod Unpacking
+pub mod UnpackingLaws
 pub mod Searching
 pub mod Examples
