@@ -58,7 +58,17 @@ typedef struct {
     uint64_t place;  /* under 4: the number of the reading */
 } cinorbis_part;
 
-/* Each call returns 0 when done, or the number of its refusal. */
+/* Lengths, for a caller who has to lend memory. 0 where the code, or the first byte of a record, is refused.
+ * n = 2^m. Promise: length. */
+size_t cinorbis_length(uint32_t m);
+
+/* k, the number of information bits of RM(r,m): the sum of the binomials (m choose j) for j from 0 to r. Promise: dimension. */
+size_t cinorbis_dimension(uint32_t r, uint32_t m);
+
+/* How many bytes a record has, told by its first byte. A number above 255 is no byte: 0. Promise: record_length. */
+size_t cinorbis_record_length(uint32_t first_byte);
+
+/* Each of the calls below returns 0 when done, or the number of its refusal. */
 
 /* The word of k information bits. Done: word holds it. Refuses 1, 2, 3, 4. Promise: encode. */
 uint32_t cinorbis_encode(uint32_t r, uint32_t m, const uint8_t *bits, size_t bits_length, uint8_t *word, size_t word_length,
@@ -83,6 +93,10 @@ uint32_t cinorbis_search_within(uint32_t r, uint32_t m, uint32_t allowed, const 
 
 /* The record that the bytes begin with: its code and its packed part. Refuses 1, 8, 9, 4. Promise: header, packed. */
 uint32_t cinorbis_record(const uint8_t *bytes, size_t bytes_length, cinorbis_part *part);
+
+/* The readings of a packed part, as cinorbis_record gives it: its bytes go in, n readings come out. Refuses 2 for a part of a length
+ * that no record has, 3 for a buffer of another length than its readings. The numbers are all 0. Promise: unpack. */
+uint32_t cinorbis_unpack(const uint8_t *part, size_t part_length, int16_t *readings, size_t readings_length, cinorbis_numbers *numbers);
 
 /* The search of the record that the bytes begin with. Refuses 1, 8, 9, 3, 4, 6, 7. Promise: search_record. */
 uint32_t cinorbis_search_record(uint32_t allowed, const uint8_t *bytes, size_t bytes_length, uint8_t *bits, size_t bits_length,

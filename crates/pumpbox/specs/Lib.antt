@@ -1,2 +1,4 @@
 pub mod Told
 pub mod ToldLaws
+pub mod Lengths
+pub mod Unpacked

@@ -18,9 +18,12 @@ pub record Outcome : Type 0 where
   pub readings : List ℤ
 
 -- the answer in the rules' numbers
+abbrev pub numberIn : Unpacked → ℕ
+numberIn Done = 0
+numberIn (Refused why) = numberOf why
+
 abbrev pub told : Unpacked → List ℤ → Outcome
-told Done readings = record { number = 0; readings = readings }
-told (Refused why) readings = record { number = numberOf why; readings = readings }
+told answer readings = record { number = numberIn answer; readings = readings }
 
 -- of a packed part, and the buffer for its readings
 unfoldable pub unpacking : List ℕ → List ℤ → Outcome

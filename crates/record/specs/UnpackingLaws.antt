@@ -1,15 +1,19 @@
 -- Laws of unpacking: when each answer is given, and that no second answer meets the promise.
 use mathlib.Core.Path.{_≡_, refl, ap, sym, _∙_}
 use mathlib.Core.List.{List}
-use Prim.Native.Nat.{ℕ, suc}
+use Prim.Native.Nat.{ℕ, zero, suc, _<_}
+use native.Mathlib.Omega.{arith}
+use native.Mathlib.Decide.{ℕ-discrete}
 use lib.IntN.{ℤ}
 use lib.ListN.{length}
+use lib.Pow.{pow-pos}
 use borrow.Author.Tests.{eq-eqb, ne-eqb}
 use Rattle.code.specs.Sound.{largestM}
-use Rattle.code.specs.declared.Refusal.the-variants.{InputLength, OutputLength}
+use Rattle.code.specs.declared.Refusal.the-variants.{Parameters, InputLength, OutputLength, Entry, NotAWord, OutOfVisits, Tied, Torn, Pad}
+use Rattle.record.specs.declared.Unpacked.{Unpacked}
 use Rattle.record.specs.declared.Unpacked.the-variants.{Done, Refused}
-use Rattle.record.specs.Layout.{unpacked, readingsIn}
-use Rattle.record.specs.Unpacking.{told, unpacking}
+use Rattle.record.specs.Layout.{unpacked, partLength, readingsIn}
+use Rattle.record.specs.Unpacking.{Outcome, numberIn, told, unpacking}
 
 -- the three answers, by the tests
 module _ (p : List ℕ) (d : List ℤ) where
@@ -28,3 +32,59 @@ module _ (p : List ℕ) (d : List ℤ) where
     pub all-unpacked : length d ≡ n → unpacking p d ≡ told Done (unpacked p)
     unfolding unpacking
     all-unpacked e = rw (ne-eqb n 0 some, eq-eqb (length d) n e)
+
+  -- every outcome has a number below 4
+  small : unpacking p d .number < 4
+  small =
+      elim (ℕ-discrete n 0) [
+        | yes z ↦ rw (no-part z) (omega arith)
+        | no z ↦ elim (ℕ-discrete (length d) n) [
+          | yes e ↦ rw (all-unpacked z e) (omega arith)
+          | no f ↦ rw (other-room z f) (omega arith)
+        ]
+      ]
+
+-- the answer of a number below 4
+abbrev answerOf : ℕ → Unpacked
+answerOf zero = Done
+answerOf (suc zero) = Refused Parameters
+answerOf (suc (suc zero)) = Refused InputLength
+answerOf (suc (suc (suc n))) = Refused OutputLength
+
+answer-is : (a : Unpacked) → numberIn a < 4 → answerOf (numberIn a) ≡ a
+answer-is Done h = refl
+answer-is (Refused Parameters) h = refl
+answer-is (Refused InputLength) h = refl
+answer-is (Refused OutputLength) h = refl
+answer-is (Refused (Entry place)) h = absurd (omega arith)
+answer-is (Refused (NotAWord index)) h = absurd (omega arith)
+answer-is (Refused (OutOfVisits allowed)) h = absurd (omega arith)
+answer-is (Refused (Tied penalty visits)) h = absurd (omega arith)
+answer-is (Refused Torn) h = absurd (omega arith)
+answer-is (Refused Pad) h = absurd (omega arith)
+
+module _ (p : List ℕ) (d : List ℤ) where
+  is-answer : (a : Unpacked) (x : List ℤ) → told a x ≡ unpacking p d → answerOf (unpacking p d .number) ≡ a
+  is-answer a x e =
+      ap (λ (o : Outcome). answerOf (o .number)) (sym e) ∙ answer-is a (omega (arith, ap (λ (o : Outcome). o .number) e, small p d))
+
+  -- no second answer and no second buffer
+  pub unpack-only : (a b : Unpacked) (x y : List ℤ) → told a x ≡ unpacking p d → told b y ≡ unpacking p d → (a ≡ b) × (x ≡ y)
+  unpack-only a b x y e f = (sym (is-answer a x e) ∙ is-answer b y f, ap (λ (o : Outcome). o .readings) (e ∙ sym f))
+
+-- 2 is given exactly where no record has a part of that length
+pub part-of-none : (b k : ℕ) → ((m : ℕ) → m < b → k ≡ partLength m → ⊥) → readingsIn b k ≡ 0
+unfolding readingsIn
+part-of-none zero k h = refl
+part-of-none (suc m) k h = rw (ne-eqb k (partLength m) (h m (omega arith))) (part-of-none m k (λ j g. h j (omega arith)))
+
+pub part-of-some : (b m : ℕ) → m < b → readingsIn b (partLength m) ≡ 0 → ⊥
+unfolding readingsIn
+part-of-some zero m h z = omega arith
+part-of-some (suc b) m h z =
+    elim (ℕ-discrete (partLength m) (partLength b)) [
+      | yes e ↦ omega (arith, pow-pos b, rw (eq-eqb (partLength m) (partLength b) e) at z)
+      | no f ↦
+          let g : m ≡ b → ⊥ = λ s. f (ap partLength s) in
+          part-of-some b m (omega (arith, g)) (rw (ne-eqb (partLength m) (partLength b) f) at z)
+    ]
