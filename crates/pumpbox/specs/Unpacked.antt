@@ -1,4 +1,4 @@
--- What C sees of unpacking: the number returned, the numbers, all 0, and the readings.
+-- What C sees of unpacking: the number returned, the numbers, and the readings.
 use mathlib.Core.List.{List}
 use Prim.Native.Nat.{ℕ}
 use lib.IntN.{ℤ}
@@ -14,4 +14,4 @@ abbrev pub told : ℕ → List ℕ → List ℤ → Told
 told returned out readings = record { returned = returned; out = out; readings = readings }
 
 abbrev pub shown : Outcome → Told
-shown o = told (o .number) (numbers 0 0 0 0) (o .readings)
+shown o = told (o .number) (numbers 0 0 0 (o .place)) (o .readings)

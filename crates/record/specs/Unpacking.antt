@@ -5,7 +5,7 @@ use Prim.Native.Nat.{ℕ, suc}
 use lib.IntN.{ℤ}
 use lib.ListN.{length}
 use lib.Dec.{eqb}
-use Rattle.code.specs.Sound.{largestM, numberOf}
+use Rattle.code.specs.Sound.{largestM, numberOf, placeOf}
 use Rattle.code.specs.declared.Refusal.the-variants.{InputLength, OutputLength}
 use Rattle.record.specs.declared.Unpacked.{Unpacked}
 use Rattle.record.specs.declared.Unpacked.the-variants.{Done, Refused}
@@ -14,6 +14,8 @@ use Rattle.record.specs.Layout.{unpacked, readingsIn}
 pub record Outcome : Type 0 where
   -- 0 where the readings are unpacked, else the refusal's number
   pub number : ℕ
+  -- no refusal of this call carries a place: 0
+  pub place : ℕ
   -- the lent buffer as the call leaves it
   pub readings : List ℤ
 
@@ -22,8 +24,12 @@ abbrev pub numberIn : Unpacked → ℕ
 numberIn Done = 0
 numberIn (Refused why) = numberOf why
 
+abbrev pub placeIn : Unpacked → ℕ
+placeIn Done = 0
+placeIn (Refused why) = placeOf why
+
 abbrev pub told : Unpacked → List ℤ → Outcome
-told answer readings = record { number = numberIn answer; readings = readings }
+told answer readings = record { number = numberIn answer; place = placeIn answer; readings = readings }
 
 -- of a packed part, and the buffer for its readings
 unfoldable pub unpacking : List ℕ → List ℤ → Outcome

@@ -9,11 +9,13 @@ use lib.ListN.{length}
 use lib.Pow.{pow-pos}
 use borrow.Author.Tests.{eq-eqb, ne-eqb}
 use Rattle.code.specs.Sound.{largestM}
-use Rattle.code.specs.declared.Refusal.the-variants.{Parameters, InputLength, OutputLength, Entry, NotAWord, OutOfVisits, Tied, Torn, Pad}
+use Rattle.code.specs.RefusalLaws.{number-above}
+use Rattle.record.specs.SameRefusal.{same-refusal}
+use Rattle.code.specs.declared.Refusal.the-variants.{InputLength, OutputLength}
 use Rattle.record.specs.declared.Unpacked.{Unpacked}
 use Rattle.record.specs.declared.Unpacked.the-variants.{Done, Refused}
 use Rattle.record.specs.Layout.{unpacked, partLength, readingsIn}
-use Rattle.record.specs.Unpacking.{Outcome, numberIn, told, unpacking}
+use Rattle.record.specs.Unpacking.{Outcome, numberIn, placeIn, told, unpacking}
 
 -- the three answers, by the tests
 module _ (p : List ℕ) (d : List ℤ) where
@@ -44,33 +46,19 @@ module _ (p : List ℕ) (d : List ℤ) where
         ]
       ]
 
--- the answer of a number below 4
-abbrev answerOf : ℕ → Unpacked
-answerOf zero = Done
-answerOf (suc zero) = Refused Parameters
-answerOf (suc (suc zero)) = Refused InputLength
-answerOf (suc (suc (suc n))) = Refused OutputLength
+answer-only : (a b : Unpacked) → numberIn a < 4 → numberIn a ≡ numberIn b → placeIn a ≡ placeIn b → a ≡ b
+answer-only Done Done h e f = refl
+answer-only Done (Refused why) h e f = absurd (omega (arith, number-above why))
+answer-only (Refused why) Done h e f = absurd (omega (arith, number-above why))
+answer-only (Refused why) (Refused why′) h e f = ap Refused (same-refusal why why′ (omega arith) e f)
 
-answer-is : (a : Unpacked) → numberIn a < 4 → answerOf (numberIn a) ≡ a
-answer-is Done h = refl
-answer-is (Refused Parameters) h = refl
-answer-is (Refused InputLength) h = refl
-answer-is (Refused OutputLength) h = refl
-answer-is (Refused (Entry place)) h = absurd (omega arith)
-answer-is (Refused (NotAWord index)) h = absurd (omega arith)
-answer-is (Refused (OutOfVisits allowed)) h = absurd (omega arith)
-answer-is (Refused (Tied penalty visits)) h = absurd (omega arith)
-answer-is (Refused Torn) h = absurd (omega arith)
-answer-is (Refused Pad) h = absurd (omega arith)
-
-module _ (p : List ℕ) (d : List ℤ) where
-  is-answer : (a : Unpacked) (x : List ℤ) → told a x ≡ unpacking p d → answerOf (unpacking p d .number) ≡ a
-  is-answer a x e =
-      ap (λ (o : Outcome). answerOf (o .number)) (sym e) ∙ answer-is a (omega (arith, ap (λ (o : Outcome). o .number) e, small p d))
-
-  -- no second answer and no second buffer
-  pub unpack-only : (a b : Unpacked) (x y : List ℤ) → told a x ≡ unpacking p d → told b y ≡ unpacking p d → (a ≡ b) × (x ≡ y)
-  unpack-only a b x y e f = (sym (is-answer a x e) ∙ is-answer b y f, ap (λ (o : Outcome). o .readings) (e ∙ sym f))
+-- no second answer and no second buffer
+pub unpack-only : (p : List ℕ) (d : List ℤ) (a b : Unpacked) (x y : List ℤ)
+    → told a x ≡ unpacking p d → told b y ≡ unpacking p d → (a ≡ b) × (x ≡ y)
+unpack-only p d a b x y e f =
+    let same : told a x ≡ told b y = e ∙ sym f in
+    let less : numberIn a < 4 = omega (arith, ap (λ (o : Outcome). o .number) e, small p d) in
+    (answer-only a b less (ap (λ (o : Outcome). o .number) same) (ap (λ (o : Outcome). o .place) same), ap (λ (o : Outcome). o .readings) same)
 
 -- 2 is given exactly where no record has a part of that length
 pub part-of-none : (b k : ℕ) → ((m : ℕ) → m < b → k ≡ partLength m → ⊥) → readingsIn b k ≡ 0
