@@ -2,16 +2,16 @@
 use mathlib.Core.List.{List}
 use Prim.Native.Nat.{ℕ}
 use lib.IntN.{ℤ}
-use Rattle.record.specs.Unpacking.{Outcome}
+use Rattle.record.specs.Unpacking.{UnpackedOutcome}
 use Rattle.pumpbox.specs.Told.{numbers}
 
-pub record Told : Type 0 where
+pub record UnpackTold : Type 0 where
   pub returned : ℕ
   pub out : List ℕ
   pub readings : List ℤ
 
-abbrev pub told : ℕ → List ℕ → List ℤ → Told
-told returned out readings = record { returned = returned; out = out; readings = readings }
+abbrev pub unpackTold : ℕ → List ℕ → List ℤ → UnpackTold
+unpackTold returned out readings = record { returned = returned; out = out; readings = readings }
 
-abbrev pub shown : Outcome → Told
-shown o = told (o .number) (numbers 0 0 0 (o .place)) (o .readings)
+abbrev pub shownUnpacked : UnpackedOutcome → UnpackTold
+shownUnpacked o = unpackTold (o .carry .number) (numbers 0 0 0 (o .carry .place)) (o .readings)

@@ -2,11 +2,11 @@
 use crate::put_numbers;
 use record::Unpacked;
 ghost use mathlib.Core.Path.{_≡_};
-ghost use Rattle.record.specs.Unpacking.{numberIn, placeIn, unpacking};
-ghost use Rattle.pumpbox.specs.Unpacked.{told, shown};
+ghost use Rattle.record.specs.Unpacking.{carriedIn, unpacking};
+ghost use Rattle.pumpbox.specs.Unpacked.{unpackTold, shownUnpacked};
 
 fn number_of(answer: Unpacked) -> u32
-    ensures { λ number. ⌜ number ≡ numberIn answer ⌝ }
+    ensures { λ number. ⌜ number ≡ carriedIn answer .number ⌝ }
 {
     match answer {
         Unpacked::Done => 0,
@@ -15,7 +15,7 @@ fn number_of(answer: Unpacked) -> u32
 }
 
 fn place_of(answer: Unpacked) -> usize
-    ensures { λ place. ⌜ place ≡ placeIn answer ⌝ }
+    ensures { λ place. ⌜ place ≡ carriedIn answer .place ⌝ }
 {
     match answer {
         Unpacked::Done => 0,
@@ -25,8 +25,8 @@ fn place_of(answer: Unpacked) -> usize
 
 #[no_mangle]
 pub extern "C" fn cinorbis_unpack(part: &[u8], readings: &mut [i16], out: &mut [u64; 4]) -> u32
-    ensures { λ number. ⌜ told number (now (out .exit)) (now (readings .exit))
-        ≡ shown (unpacking (now (part .entry)) (now (readings .entry))) ⌝ }
+    ensures { λ number. ⌜ unpackTold number (now (out .exit)) (now (readings .exit))
+        ≡ shownUnpacked (unpacking (now (part .entry)) (now (readings .entry))) ⌝ }
 {
     let answer = record::unpack(part, readings);
     put_numbers(out, 0, 0, 0, place_of(answer));

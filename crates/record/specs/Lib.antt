@@ -5,7 +5,6 @@ pub mod Reader
 pub mod ReaderLaws
 pub mod Accepted
 pub mod OnlyHeader
-pub mod SameRefusal
 pub mod Unpacking
 pub mod UnpackingLaws
 pub mod Searching

@@ -5,34 +5,28 @@ use Prim.Native.Nat.{ℕ, suc}
 use lib.IntN.{ℤ}
 use lib.ListN.{length}
 use lib.Dec.{eqb}
-use Rattle.code.specs.Sound.{largestM, numberOf, placeOf}
+use Rattle.code.specs.Sound.{Carried, carrying, carried, largestM}
 use Rattle.code.specs.declared.Refusal.the-variants.{InputLength, OutputLength}
 use Rattle.record.specs.declared.Unpacked.{Unpacked}
 use Rattle.record.specs.declared.Unpacked.the-variants.{Done, Refused}
 use Rattle.record.specs.Layout.{unpacked, readingsIn}
 
-pub record Outcome : Type 0 where
-  -- 0 where the readings are unpacked, else the refusal's number
-  pub number : ℕ
-  -- no refusal of this call carries a place: 0
-  pub place : ℕ
+pub record UnpackedOutcome : Type 0 where
+  -- all 0 where the readings are unpacked, else what the refusal carries
+  pub carry : Carried
   -- the lent buffer as the call leaves it
   pub readings : List ℤ
 
 -- the answer in the rules' numbers
-abbrev pub numberIn : Unpacked → ℕ
-numberIn Done = 0
-numberIn (Refused why) = numberOf why
+abbrev pub carriedIn : Unpacked → Carried
+carriedIn Done = carrying 0 0 0 0
+carriedIn (Refused why) = carried why
 
-abbrev pub placeIn : Unpacked → ℕ
-placeIn Done = 0
-placeIn (Refused why) = placeOf why
-
-abbrev pub told : Unpacked → List ℤ → Outcome
-told answer readings = record { number = numberIn answer; place = placeIn answer; readings = readings }
+abbrev pub told : Unpacked → List ℤ → UnpackedOutcome
+told answer readings = record { carry = carriedIn answer; readings = readings }
 
 -- of a packed part, and the buffer for its readings
-unfoldable pub unpacking : List ℕ → List ℤ → Outcome
+unfoldable pub unpacking : List ℕ → List ℤ → UnpackedOutcome
 unpacking part readings =
     let n = readingsIn (suc largestM) (length part) in
     cond (eqb n 0) (told (Refused InputLength) readings)

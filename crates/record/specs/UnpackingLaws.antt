@@ -8,14 +8,13 @@ use lib.IntN.{ℤ}
 use lib.ListN.{length}
 use lib.Pow.{pow-pos}
 use borrow.Author.Tests.{eq-eqb, ne-eqb}
-use Rattle.code.specs.Sound.{largestM}
-use Rattle.code.specs.RefusalLaws.{number-above}
-use Rattle.record.specs.SameRefusal.{same-refusal}
+use Rattle.code.specs.Sound.{Carried, largestM}
+use Rattle.code.specs.RefusalLaws.{refusal-only, number-above}
 use Rattle.code.specs.declared.Refusal.the-variants.{InputLength, OutputLength}
 use Rattle.record.specs.declared.Unpacked.{Unpacked}
 use Rattle.record.specs.declared.Unpacked.the-variants.{Done, Refused}
 use Rattle.record.specs.Layout.{unpacked, partLength, readingsIn}
-use Rattle.record.specs.Unpacking.{Outcome, numberIn, placeIn, told, unpacking}
+use Rattle.record.specs.Unpacking.{UnpackedOutcome, carriedIn, told, unpacking}
 
 -- the three answers, by the tests
 module _ (p : List ℕ) (d : List ℤ) where
@@ -35,30 +34,17 @@ module _ (p : List ℕ) (d : List ℤ) where
     unfolding unpacking
     all-unpacked e = rw (ne-eqb n 0 some, eq-eqb (length d) n e)
 
-  -- every outcome has a number below 4
-  small : unpacking p d .number < 4
-  small =
-      elim (ℕ-discrete n 0) [
-        | yes z ↦ rw (no-part z) (omega arith)
-        | no z ↦ elim (ℕ-discrete (length d) n) [
-          | yes e ↦ rw (all-unpacked z e) (omega arith)
-          | no f ↦ rw (other-room z f) (omega arith)
-        ]
-      ]
+answer-only : (a b : Unpacked) → carriedIn a ≡ carriedIn b → a ≡ b
+answer-only Done Done e = refl
+answer-only Done (Refused why) e = absurd (omega (arith, number-above why, ap (λ (c : Carried). c .number) e))
+answer-only (Refused why) Done e = absurd (omega (arith, number-above why, ap (λ (c : Carried). c .number) e))
+answer-only (Refused why) (Refused why′) e = ap Refused (refusal-only why why′ e)
 
-answer-only : (a b : Unpacked) → numberIn a < 4 → numberIn a ≡ numberIn b → placeIn a ≡ placeIn b → a ≡ b
-answer-only Done Done h e f = refl
-answer-only Done (Refused why) h e f = absurd (omega (arith, number-above why))
-answer-only (Refused why) Done h e f = absurd (omega (arith, number-above why))
-answer-only (Refused why) (Refused why′) h e f = ap Refused (same-refusal why why′ (omega arith) e f)
-
--- no second answer and no second buffer
-pub unpack-only : (p : List ℕ) (d : List ℤ) (a b : Unpacked) (x y : List ℤ)
-    → told a x ≡ unpacking p d → told b y ≡ unpacking p d → (a ≡ b) × (x ≡ y)
-unpack-only p d a b x y e f =
+-- no second answer and no second buffer meet the promise
+pub unpack-only : (o : UnpackedOutcome) (a b : Unpacked) (x y : List ℤ) → told a x ≡ o → told b y ≡ o → (a ≡ b) × (x ≡ y)
+unpack-only o a b x y e f =
     let same : told a x ≡ told b y = e ∙ sym f in
-    let less : numberIn a < 4 = omega (arith, ap (λ (o : Outcome). o .number) e, small p d) in
-    (answer-only a b less (ap (λ (o : Outcome). o .number) same) (ap (λ (o : Outcome). o .place) same), ap (λ (o : Outcome). o .readings) same)
+    (answer-only a b (ap (λ (p : UnpackedOutcome). p .carry) same), ap (λ (p : UnpackedOutcome). p .readings) same)
 
 -- 2 is given exactly where no record has a part of that length
 pub part-of-none : (b k : ℕ) → ((m : ℕ) → m < b → k ≡ partLength m → ⊥) → readingsIn b k ≡ 0

@@ -3,7 +3,7 @@ use mathlib.Core.Path.{ap, ap₂, _∙_}
 use mathlib.Core.List.{List}
 use Prim.Native.Nat.{ℕ}
 use Rattle.pumpbox.specs.Told.{numbers}
-use Rattle.pumpbox.specs.Unpacked.{told, shown}
+use Rattle.pumpbox.specs.Unpacked.{unpackTold, shownUnpacked}
 use borrow.Author.Needs.{needs}
 use Rattle.pumpbox.proofs.unpacking.cinorbis_unpack.Statement.{statement}
 use Rattle.pumpbox.proofs.unpacking.cinorbis_unpack.Tie as tie
@@ -26,9 +26,9 @@ same-length c = search needs
 returns : tie.Need-returns
 returns c =
     let u = c .before .before .before .before .before .unpack in
-    ap₂ (λ (n : ℕ) (l : List ℕ). told n l (u .last .1 .0)) (c .number-of .ensures)
+    ap₂ (λ (n : ℕ) (l : List ℕ). unpackTold n l (u .last .1 .0)) (c .number-of .ensures)
     (c .before .put-numbers .ensures ∙ ap (numbers 0 0 0) (c .before .before .place-of .ensures))
-    ∙ ap shown (u .ensures)
+    ∙ ap shownUnpacked (u .ensures)
 
 pub cinorbis-unpack-spec : {M : Type 1} → statement M
 cinorbis-unpack-spec =
