@@ -1,12 +1,14 @@
 -- Laws of the faults: which telegrams have none, and that a fault is told by its number and what it carries.
 use mathlib.Core.Path.{_≡_, refl, ap, sym, _∙_}
+use mathlib.Core.Bool.{_&&_, _||_}
 use mathlib.Core.Logic.{⊎-elim}
 use mathlib.Core.List.{List, []}
 use Prim.Native.Nat.{ℕ, zero, suc, _+_, _-_, _≤_, _<_}
 use native.Mathlib.Omega.{arith}
 use native.Mathlib.Decide.{ℕ-discrete}
+use lib.Dec.{ltb, eqb}
 use borrow.Author.Tests.{lt-ltb, le-ltb, eq-eqb, ne-eqb}
-use Rattle.numbers.specs.Choice.{lt-or-le}
+use Rattle.numbers.specs.Choice.{lt-or-le, cond-by}
 use Rattle.code.specs.Sound as Code
 use Rattle.code.specs.declared.Refusal.{Refusal}
 use Rattle.code.specs.declared.Refusal.the-variants.{Parameters, InputLength, OutputLength, Entry, NotAWord, OutOfVisits, Tied, Torn, Pad}
@@ -53,7 +55,7 @@ ownFault (suc zero) = Tilt
 ownFault (suc (suc zero)) = ZeroTilt
 ownFault (suc (suc (suc n))) = Field
 
-pub own-fault : (why : Fault) → 13 ≤ numberOf why → ownFault (numberOf why - 13) ≡ why
+own-fault : (why : Fault) → 13 ≤ numberOf why → ownFault (numberOf why - 13) ≡ why
 own-fault (Link why) h = absurd (omega (arith, link-number why .below))
 own-fault Marker h = refl
 own-fault Tilt h = refl
@@ -66,6 +68,9 @@ link-fault Marker h = absurd (omega arith)
 link-fault Tilt h = absurd (omega arith)
 link-fault ZeroTilt h = absurd (omega arith)
 link-fault Field h = absurd (omega arith)
+
+pub own-same : (why why′ : Fault) → 13 ≤ numberOf why → numberOf why ≡ numberOf why′ → why ≡ why′
+own-same why why′ h e = sym (own-fault why h) ∙ ap (λ (k : ℕ). ownFault (k - 13)) e ∙ own-fault why′ (omega arith)
 
 -- the search's refusals, by what the search promises
 link-same : (why why′ : Refusal) → Code.numberOf why ≡ Code.numberOf why′ → Code.placeOf why ≡ Code.placeOf why′
@@ -87,8 +92,31 @@ fault-same why why′ n p q v =
     (link-same (a .0) (b .0) (ap numberOf (sym (a .1)) ∙ n ∙ ap numberOf (b .1)) (ap placeOf (sym (a .1)) ∙ p ∙ ap placeOf (b .1))
     (ap penaltyOf (sym (a .1)) ∙ q ∙ ap penaltyOf (b .1)) (ap visitsOf (sym (a .1)) ∙ v ∙ ap visitsOf (b .1)))
     ∙ sym (b .1))
-    (λ h. sym (own-fault why h) ∙ ap (λ (k : ℕ). ownFault (k - 13)) n ∙ own-fault why′ (omega arith))
+    (λ h. own-same why why′ h n)
     (lt-or-le (numberOf why) 13)
+
+-- ---- what the tests find has one of the telegram's own numbers
+abbrev pub Own : Tested → Type 0
+Own Good = Unit {0}
+Own (Bad why) = 13 ≤ numberOf why
+
+own-before : (x y : Tested) → Own x → Own y → Own (before x y)
+own-before Good y a b = b
+own-before (Bad why) y a b = a
+
+module _ (t : Telegram) where
+  own-tilt : Own (tiltFault t)
+  own-tilt =
+      cond-by Own (ltb largestTilt (t .tilt)) (Bad Tilt) _ (λ e. omega arith)
+      (λ e. cond-by Own (eqb (t .tilt) 0 && eqb (t .direction) 1) (Bad ZeroTilt) Good (λ f. omega arith) (λ f. tt))
+
+  pub own-writer : Own (writerFault t)
+  own-writer =
+      own-before (tiltFault t) (fieldFault t) own-tilt
+      (cond-by Own (ltb largestCylinder (t .cylinder) || ltb largestDirection (t .direction)) (Bad Field) Good (λ e. omega arith) (λ e. tt))
+
+  pub own-reader : (marker : ℕ) → Own (readerFault marker t)
+  own-reader marker = own-before (markerFault marker) (tiltFault t) (cond-by Own (eqb marker 0) Good (Bad Marker) (λ e. tt) (λ e. omega arith)) own-tilt
 
 -- ---- the telegrams that have no fault
 -- 0 where the tests find nothing, else the fault's number

@@ -2,7 +2,11 @@
 pub mod Telegram
 pub mod Faults
 pub mod Outcome
+-- What is stated over them, and that it holds
+pub mod Theorems
+pub mod TheoremsMet
 -- Laws
 pub mod TelegramLaws
 pub mod FaultLaws
 pub mod OutcomeLaws
+pub mod OnlyOutcome
