@@ -1,4 +1,4 @@
--- A refusal is known by its number and the values that it carries. Only 6 and 7 carry a penalty or visits.
+-- A refusal is known by its number and the values that it carries. Only 4 and 5 carry a place, only 6 and 7 a penalty or visits.
 use mathlib.Core.Path.{_≡_, refl, sym, _∙_}
 use mathlib.Core.Bool.{cond}
 use Prim.Native.Nat.{ℕ, _<_}
@@ -49,6 +49,32 @@ number-above (Tied penalty visits) = omega arith
 number-above Torn = omega arith
 number-above Pad = omega arith
 number-above Map = omega arith
+
+-- and none is above 12: the numbers from 13 on are the telegram's own
+pub number-below : (why : Refusal) → numberOf why < 13
+number-below Parameters = omega arith
+number-below InputLength = omega arith
+number-below OutputLength = omega arith
+number-below (Entry place) = omega arith
+number-below (NotAWord index) = omega arith
+number-below (OutOfVisits allowed) = omega arith
+number-below (Tied penalty visits) = omega arith
+number-below Torn = omega arith
+number-below Pad = omega arith
+number-below Map = omega arith
+
+-- no place but under 4 and 5
+pub carries-no-place : (why : Refusal) → (numberOf why ≡ 4 → ⊥) → (numberOf why ≡ 5 → ⊥) → placeOf why ≡ 0
+carries-no-place Parameters f g = refl
+carries-no-place InputLength f g = refl
+carries-no-place OutputLength f g = refl
+carries-no-place (Entry place) f g = absurd (f refl)
+carries-no-place (NotAWord index) f g = absurd (g refl)
+carries-no-place (OutOfVisits allowed) f g = refl
+carries-no-place (Tied penalty visits) f g = refl
+carries-no-place Torn f g = refl
+carries-no-place Pad f g = refl
+carries-no-place Map f g = refl
 
 -- no penalty and no visits but under 6 and 7
 pub carries-none : (why : Refusal) → (numberOf why ≡ 6 → ⊥) → (numberOf why ≡ 7 → ⊥) → (penaltyOf why ≡ 0) × (visitsOf why ≡ 0)

@@ -2,7 +2,6 @@
 use mathlib.Core.Path.{_≡_, refl, ap, sym, _∙_}
 use mathlib.Core.Bool.{_&&_, _||_}
 use mathlib.Core.Logic.{⊎-elim}
-use mathlib.Core.List.{List, []}
 use Prim.Native.Nat.{ℕ, zero, suc, _+_, _-_, _≤_, _<_}
 use native.Mathlib.Omega.{arith}
 use native.Mathlib.Decide.{ℕ-discrete}
@@ -11,10 +10,8 @@ use borrow.Author.Tests.{lt-ltb, le-ltb, eq-eqb, ne-eqb}
 use Rattle.numbers.specs.Choice.{lt-or-le, cond-by}
 use Rattle.code.specs.Sound as Code
 use Rattle.code.specs.declared.Refusal.{Refusal}
-use Rattle.code.specs.declared.Refusal.the-variants.{Parameters, InputLength, OutputLength, Entry, NotAWord, OutOfVisits, Tied, Torn, Pad}
-use Rattle.search.specs.Outcome as Search
-use Rattle.search.specs.OnlyOutcome.{search-only}
-use Rattle.search.specs.declared.Searched.the-variants as searched
+use Rattle.code.specs.declared.Refusal.the-variants.{OutputLength}
+use Rattle.code.specs.RefusalLaws.{refusal-only, number-above, number-below, carries-no-place, carries-none}
 use Rattle.telegram.specs.declared.Telegram.{Telegram}
 use Rattle.telegram.specs.declared.Fault.{Fault}
 use Rattle.telegram.specs.declared.Fault.the-variants.{Link, Marker, Tilt, ZeroTilt, Field}
@@ -24,25 +21,15 @@ use Rattle.telegram.specs.Faults.{largestCylinder, largestDirection, lar
 use Rattle.telegram.specs.Faults.{before, numberOf, placeOf, penaltyOf, visitsOf, Writable}
 use Rattle.telegram.specs.TelegramLaws.{Fits}
 
--- ---- the numbers of the search's refusals: none is 0 or one of the telegram's own, and 3 is an output's length
-pub record LinkNumber (why : Refusal) : Type 0 where
-  pub above : 0 < Code.numberOf why
-  pub below : Code.numberOf why < 13
-  pub three : Code.numberOf why ≡ 3 → why ≡ OutputLength
-
-pub link-number : (why : Refusal) → LinkNumber why
-link-number Parameters = record { above = omega arith; below = omega arith; three = λ e. absurd (omega arith) }
-link-number InputLength = record { above = omega arith; below = omega arith; three = λ e. absurd (omega arith) }
-link-number OutputLength = record { above = omega arith; below = omega arith; three = λ e. refl }
-link-number (Entry place) = record { above = omega arith; below = omega arith; three = λ e. absurd (omega arith) }
-link-number (NotAWord index) = record { above = omega arith; below = omega arith; three = λ e. absurd (omega arith) }
-link-number (OutOfVisits allowed) = record { above = omega arith; below = omega arith; three = λ e. absurd (omega arith) }
-link-number (Tied penalty visits) = record { above = omega arith; below = omega arith; three = λ e. absurd (omega arith) }
-link-number Torn = record { above = omega arith; below = omega arith; three = λ e. absurd (omega arith) }
-link-number Pad = record { above = omega arith; below = omega arith; three = λ e. absurd (omega arith) }
+-- ---- the numbers
+-- 3 is an output's length
+pub link-three : (why : Refusal) → Code.numberOf why ≡ 3 → why ≡ OutputLength
+link-three why e =
+    let none = carries-none why (λ z. omega arith) (λ z. omega arith) in
+    refusal-only why OutputLength e (carries-no-place why (λ z. omega arith) (λ z. omega arith)) (none .0) (none .1)
 
 pub fault-above : (why : Fault) → 0 < numberOf why
-fault-above (Link why) = link-number why .above
+fault-above (Link why) = number-above why
 fault-above Marker = omega arith
 fault-above Tilt = omega arith
 fault-above ZeroTilt = omega arith
@@ -56,7 +43,7 @@ ownFault (suc (suc zero)) = ZeroTilt
 ownFault (suc (suc (suc n))) = Field
 
 own-fault : (why : Fault) → 13 ≤ numberOf why → ownFault (numberOf why - 13) ≡ why
-own-fault (Link why) h = absurd (omega (arith, link-number why .below))
+own-fault (Link why) h = absurd (omega (arith, number-below why))
 own-fault Marker h = refl
 own-fault Tilt h = refl
 own-fault ZeroTilt h = refl
@@ -72,14 +59,6 @@ link-fault Field h = absurd (omega arith)
 pub own-same : (why why′ : Fault) → 13 ≤ numberOf why → numberOf why ≡ numberOf why′ → why ≡ why′
 own-same why why′ h e = sym (own-fault why h) ∙ ap (λ (k : ℕ). ownFault (k - 13)) e ∙ own-fault why′ (omega arith)
 
--- the search's refusals, by what the search promises
-link-same : (why why′ : Refusal) → Code.numberOf why ≡ Code.numberOf why′ → Code.placeOf why ≡ Code.placeOf why′
-    → Code.penaltyOf why ≡ Code.penaltyOf why′ → Code.visitsOf why ≡ Code.visitsOf why′ → why ≡ why′
-link-same why why′ n p q v =
-    let same : Search.refused why [] [] ≡ Search.refused why′ [] [] = rw (n, p, q, v) in
-    let only = search-only (Search.refused why′ [] []) (searched.Refused why) (searched.Refused why′) [] [] [] [] same refl in
-    cc (only .0)
-
 pub fault-same : (why why′ : Fault) → numberOf why ≡ numberOf why′ → placeOf why ≡ placeOf why′ → penaltyOf why ≡ penaltyOf why′
     → visitsOf why ≡ visitsOf why′ → why ≡ why′
 fault-same why why′ n p q v =
@@ -89,7 +68,7 @@ fault-same why why′ n p q v =
     let b = link-fault why′ (omega arith) in
     a .1
     ∙ ap Link
-    (link-same (a .0) (b .0) (ap numberOf (sym (a .1)) ∙ n ∙ ap numberOf (b .1)) (ap placeOf (sym (a .1)) ∙ p ∙ ap placeOf (b .1))
+    (refusal-only (a .0) (b .0) (ap numberOf (sym (a .1)) ∙ n ∙ ap numberOf (b .1)) (ap placeOf (sym (a .1)) ∙ p ∙ ap placeOf (b .1))
     (ap penaltyOf (sym (a .1)) ∙ q ∙ ap penaltyOf (b .1)) (ap visitsOf (sym (a .1)) ∙ v ∙ ap visitsOf (b .1)))
     ∙ sym (b .1))
     (λ h. own-same why why′ h n)

@@ -17,7 +17,7 @@ use Rattle.telegram.specs.declared.Written.the-variants as write
 use Rattle.telegram.specs.declared.Heard.{Heard}
 use Rattle.telegram.specs.declared.Heard.the-variants as hear
 use Rattle.telegram.specs.Faults.{numberOf, writerFault}
-use Rattle.telegram.specs.FaultLaws.{link-number, link-fault, own-same, fault-above, fault-same, Own, own-writer}
+use Rattle.telegram.specs.FaultLaws.{link-three, link-fault, own-same, fault-above, fault-same, Own, own-writer}
 use Rattle.telegram.specs.Outcome.{WriteOutcome, toldWritten, writtenIf, writing, ReadOutcome, told}
 use Rattle.telegram.specs.OutcomeLaws.{given, writing-short, writing-tested}
 
@@ -63,13 +63,13 @@ module _ (cylinder direction tilt : ℕ) (word : List ℕ) where
 fault-told : (why why′ : Fault) → numberOf why ≡ numberOf why′ → Writes (numberOf why) → why ≡ why′
 fault-told why why′ e w =
     ⊎-elim (λ z. absurd (omega (arith, fault-above why)))
-    (⊎-elim (λ three. link-three why three ∙ sym (link-three why′ (sym e ∙ three))) (λ own. own-same why why′ own e))
+    (⊎-elim (λ three. output-length why three ∙ sym (output-length why′ (sym e ∙ three))) (λ own. own-same why why′ own e))
     w
   where
-    link-three : (f : Fault) → numberOf f ≡ 3 → f ≡ Link OutputLength
-    link-three f three =
+    output-length : (f : Fault) → numberOf f ≡ 3 → f ≡ Link OutputLength
+    output-length f three =
         let l = link-fault f (omega arith) in
-        l .1 ∙ ap Link (link-number (l .0) .three (ap numberOf (sym (l .1)) ∙ three))
+        l .1 ∙ ap Link (link-three (l .0) (ap numberOf (sym (l .1)) ∙ three))
 
 told-written : (a b : Written) (x y : List ℕ) → Writes (toldWritten a x .number) → toldWritten a x ≡ toldWritten b y → (a ≡ b) × (x ≡ y)
 told-written write.Done write.Done x y w e = (refl, ap (λ (o : WriteOutcome). o .word) e)

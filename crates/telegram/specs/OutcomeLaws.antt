@@ -18,6 +18,7 @@ use Rattle.code.specs.declared.Refusal.{Refusal}
 use Rattle.code.specs.declared.Refusal.the-variants.{OutOfVisits}
 use Rattle.code.specs.Sound as Code
 use Rattle.code.specs.SoundLaws.{made-good}
+use Rattle.code.specs.RefusalLaws.{number-above}
 use Rattle.code.specs.AdmittedLaws.{allows, refuses, decided}
 use Rattle.encode.specs.Outcome as Encode
 use Rattle.encode.specs.OutcomeLaws.{passes-all}
@@ -31,7 +32,6 @@ use Rattle.telegram.specs.declared.Fault.the-variants.{Link}
 use Rattle.telegram.specs.Telegram.{binary, telegramBits, wordOf}
 use Rattle.telegram.specs.TelegramLaws.{length-bits, bits-bits}
 use Rattle.telegram.specs.Faults.{writerFault}
-use Rattle.telegram.specs.FaultLaws.{link-number}
 use Rattle.telegram.specs.Outcome.{refused, writtenIf, writing, unread, judged, heard, searched, reading}
 
 -- ---- RM(2,5)
@@ -103,7 +103,7 @@ module _ (allowed : ℕ) (l : List ℤ) where
   pub reading-refused : (why : Refusal) (b w : List ℕ) → searched allowed l ≡ Search.refused why b w → reading allowed l ≡ unread (Link why)
   unfolding reading
   reading-refused why b w e =
-      ap heard e ∙ rw (ne-eqb (Search.refused why b w .number) 0 (λ z. omega (arith, link-number why .above)))
+      ap heard e ∙ rw (ne-eqb (Search.refused why b w .number) 0 (λ z. omega (arith, number-above why)))
 
 -- ---- the search, by its demands
 -- the buffers that the reader lends to it
@@ -155,7 +155,7 @@ module _ (allowed : ℕ) (l : List ℤ) where
   found-all n =
       elim (tests allowed l) [
         | passed x ↦ by-answer x n (answer 5 (kinds 2 5) l allowed) (admitted-answered x allowed)
-        | stopped why e h ↦ absurd (omega (arith, ap (λ (o : Search.Outcome). o .number) e, link-number why .above))
+        | stopped why e h ↦ absurd (omega (arith, ap (λ (o : Search.Outcome). o .number) e, number-above why))
       ]
 
   -- under another allowance that is large enough, the same
