@@ -35,95 +35,6 @@ pub extern "C" fn cinorbis_telegram_write(
     written_number(answer)
 }
 
-// The parts of a reader's answer.
-fn heard_number(answer: Heard) -> u32
-    ensures { λ r. ⌜ r ≡ Tilt.told answer .number ⌝ }
-{
-    match answer {
-        Heard::Shown {
-            telegram: _,
-            penalty: _,
-            gap: _,
-            visits: _,
-        } => 0,
-        Heard::Refused(why) => why.number(),
-    }
-}
-
-fn heard_penalty(answer: Heard) -> u32
-    ensures { λ r. ⌜ r ≡ Tilt.told answer .penalty ⌝ }
-{
-    match answer {
-        Heard::Shown {
-            telegram: _,
-            penalty,
-            gap: _,
-            visits: _,
-        } => penalty,
-        Heard::Refused(why) => why.penalty(),
-    }
-}
-
-fn heard_gap(answer: Heard) -> u32
-    ensures { λ r. ⌜ r ≡ Tilt.told answer .gap ⌝ }
-{
-    match answer {
-        Heard::Shown {
-            telegram: _,
-            penalty: _,
-            gap,
-            visits: _,
-        } => gap,
-        Heard::Refused(_) => 0,
-    }
-}
-
-fn heard_visits(answer: Heard) -> u32
-    ensures { λ r. ⌜ r ≡ Tilt.told answer .visits ⌝ }
-{
-    match answer {
-        Heard::Shown {
-            telegram: _,
-            penalty: _,
-            gap: _,
-            visits,
-        } => visits,
-        Heard::Refused(why) => why.visits(),
-    }
-}
-
-fn heard_place(answer: Heard) -> usize
-    ensures { λ r. ⌜ r ≡ Tilt.told answer .place ⌝ }
-{
-    match answer {
-        Heard::Shown {
-            telegram: _,
-            penalty: _,
-            gap: _,
-            visits: _,
-        } => 0,
-        Heard::Refused(why) => why.place(),
-    }
-}
-
-fn heard_telegram(answer: Heard) -> Telegram
-    ensures { λ r. ⌜ r ≡ Tilt.told answer .telegram ⌝ }
-{
-    match answer {
-        Heard::Shown {
-            telegram,
-            penalty: _,
-            gap: _,
-            visits: _,
-        } => telegram,
-        Heard::Refused(_) => Telegram {
-            cylinder: 0,
-            direction: 0,
-            tilt: 0,
-        },
-    }
-}
-
 // Cylinder, direction and tilt, in the order of the header's struct.
 fn put_telegram(out: &mut [u64; 3], t: Telegram)
     ensures { λ _. ⌜ now (out .exit) ≡ fields t ⌝ }
@@ -136,15 +47,23 @@ fn put_heard(answer: Heard, telegram: &mut [u64; 3], out: &mut [u64; 4]) -> u32
     ensures { λ number. ⌜ told number (now (out .exit)) (now (telegram .exit) ∷ [])
         ≡ shownRead (Tilt.told answer) ⌝ }
 {
-    put_numbers(
-        out,
-        heard_penalty(answer),
-        heard_gap(answer),
-        heard_visits(answer),
-        heard_place(answer),
-    );
-    put_telegram(telegram, heard_telegram(answer));
-    heard_number(answer)
+    match answer {
+        Heard::Shown {
+            telegram: shown,
+            penalty,
+            gap,
+            visits,
+        } => {
+            put_numbers(out, penalty, gap, visits, 0);
+            put_telegram(telegram, shown);
+            0
+        }
+        Heard::Refused(why) => {
+            put_numbers(out, why.penalty(), 0, why.visits(), why.place());
+            *telegram = [0, 0, 0];
+            why.number()
+        }
+    }
 }
 
 #[no_mangle]
