@@ -5,6 +5,7 @@ pub mod Outcome
 -- What is stated over them, and that it holds
 pub mod Theorems
 pub mod TheoremsMet
+pub mod Examples
 -- Laws
 pub mod TelegramLaws
 pub mod FaultLaws

@@ -91,15 +91,15 @@ pub fn write(cylinder: u32, direction: u32, tilt: u32, word: &mut [u8]) -> Writt
 pub fn read_within(allowed: u32, readings: &[i16]) -> Heard
     ensures { λ answer. ⌜ told answer ≡ reading allowed (now (readings .entry)) ⌝ }
 {
-    let mut bits = [0u8; 16];
+    let mut found = [0u8; 16];
     let mut word = [0u8; 32];
-    match search::search_within(2, 5, allowed, readings, &mut bits, &mut word) {
+    match search::search_within(2, 5, allowed, readings, &mut found, &mut word) {
         Searched::Refused(why) => Heard::Refused(Fault::Link(why)),
         Searched::Found {
             penalty,
             gap,
             visits,
-        } => judge(&bits, penalty, gap, visits),
+        } => judge(&found, penalty, gap, visits),
     }
 }
 
