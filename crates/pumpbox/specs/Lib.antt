@@ -1,4 +1,7 @@
+-- What the exports tell
 pub mod Told
+-- The parts of the answers, and laws
+pub mod Answers
 pub mod ToldLaws
 pub mod Telegrams
 pub mod TelegramsLaws

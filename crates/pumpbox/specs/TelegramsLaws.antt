@@ -8,7 +8,7 @@ use Rattle.telegram.specs.declared.Telegram.{Telegram}
 use Rattle.telegram.specs.declared.Fault.{Fault}
 use Rattle.telegram.specs.declared.Heard.{Heard}
 use Rattle.telegram.specs.declared.Heard.the-variants as hear
-use Rattle.telegram.specs.Faults.{numberOf, placeOf, penaltyOf, visitsOf}
+use Rattle.telegram.specs.Faults.{faultCarries}
 use Rattle.telegram.specs.Outcome.{WriteOutcome, toldWritten}
 use Rattle.telegram.specs.Outcome as Tilt
 use Rattle.pumpbox.specs.Told.{told, numbers}
@@ -29,7 +29,7 @@ module _ (answer : Heard) where
       → told 0 out (telegram ∷ []) ≡ shownRead (Tilt.told answer)
   told-shown t p g v out telegram e f h = rw (e, f, h)
 
-  pub told-unread : (why : Fault) (number penalty visits place : ℕ) (out : List ℕ) → answer ≡ hear.Refused why → number ≡ numberOf why
-      → penalty ≡ penaltyOf why → visits ≡ visitsOf why → place ≡ placeOf why → out ≡ numbers penalty 0 visits place
+  pub told-unread : (why : Fault) (number penalty visits place : ℕ) (out : List ℕ) → answer ≡ hear.Refused why → number ≡ faultCarries why .number
+      → penalty ≡ faultCarries why .penalty → visits ≡ faultCarries why .visits → place ≡ faultCarries why .place → out ≡ numbers penalty 0 visits place
       → told number out ((0 ∷ 0 ∷ 0 ∷ []) ∷ []) ≡ shownRead (Tilt.told answer)
   told-unread why number penalty visits place out e n p v a f = rw (e, f, n, p, v, a)

@@ -28,7 +28,7 @@ pub extern "C" fn cinorbis_telegram_write(
     out: &mut [u64; 4],
 ) -> u32
     ensures { λ number. ⌜ told number (now (out .exit)) (now (word .exit) ∷ [])
-        ≡ shownWritten (Tilt.writing cylinder direction tilt (now (word .entry))) ⌝ }
+        ≡ shownWritten (Tilt.writingTelegram cylinder direction tilt (now (word .entry))) ⌝ }
 {
     let answer = telegram::write(cylinder, direction, tilt, word);
     put_numbers(out, 0, 0, 0, 0);
@@ -74,7 +74,7 @@ pub extern "C" fn cinorbis_telegram_read_within(
     out: &mut [u64; 4],
 ) -> u32
     ensures { λ number. ⌜ told number (now (out .exit)) (now (telegram .exit) ∷ [])
-        ≡ shownRead (Tilt.reading allowed (now (readings .entry))) ⌝ }
+        ≡ shownRead (Tilt.readingTelegram allowed (now (readings .entry))) ⌝ }
 {
     let answer = telegram::read_within(allowed, readings);
     put_heard(answer, telegram, out)
@@ -87,7 +87,7 @@ pub extern "C" fn cinorbis_telegram_read(
     out: &mut [u64; 4],
 ) -> u32
     ensures { λ number. ⌜ told number (now (out .exit)) (now (telegram .exit) ∷ [])
-        ≡ shownRead (Tilt.reading defaultAllowance (now (readings .entry))) ⌝ }
+        ≡ shownRead (Tilt.readingTelegram defaultAllowance (now (readings .entry))) ⌝ }
 {
     let answer = telegram::read(readings);
     put_heard(answer, telegram, out)

@@ -1,6 +1,6 @@
--- Laws of the faults: which telegrams have none, and that a fault is told by its number and what it carries.
+-- Laws of the faults: which telegrams have none, and that a fault is known by what it carries.
 use mathlib.Core.Path.{_≡_, refl, ap, sym, _∙_}
-use mathlib.Core.Bool.{_&&_, _||_}
+use mathlib.Core.Bool.{_&&_}
 use mathlib.Core.Logic.{⊎-elim}
 use Prim.Native.Nat.{ℕ, zero, suc, _+_, _-_, _≤_, _<_}
 use native.Mathlib.Omega.{arith}
@@ -8,76 +8,66 @@ use native.Mathlib.Decide.{ℕ-discrete}
 use lib.Dec.{ltb, eqb}
 use borrow.Author.Tests.{lt-ltb, le-ltb, eq-eqb, ne-eqb}
 use Rattle.numbers.specs.Choice.{lt-or-le, cond-by}
-use Rattle.code.specs.Sound as Code
+use Rattle.code.specs.Sound.{Carried}
 use Rattle.code.specs.declared.Refusal.{Refusal}
-use Rattle.code.specs.declared.Refusal.the-variants.{OutputLength}
-use Rattle.code.specs.RefusalLaws.{refusal-only, number-above, number-below, carries-no-place, carries-none}
+use Rattle.code.specs.RefusalLaws.{refusal-only, number-above, number-below}
 use Rattle.telegram.specs.declared.Telegram.{Telegram}
 use Rattle.telegram.specs.declared.Fault.{Fault}
 use Rattle.telegram.specs.declared.Fault.the-variants.{Link, Marker, Tilt, ZeroTilt, Field}
 use Rattle.telegram.specs.declared.Tested.{Tested}
 use Rattle.telegram.specs.declared.Tested.the-variants.{Good, Bad}
 use Rattle.telegram.specs.Faults.{largestCylinder, largestDirection, largestTilt, tiltFault, fieldFault, markerFault, writerFault, readerFault}
-use Rattle.telegram.specs.Faults.{before, numberOf, placeOf, penaltyOf, visitsOf, Writable}
+use Rattle.telegram.specs.Faults.{before, faultCarries, Writable}
 use Rattle.telegram.specs.TelegramLaws.{Fits}
 
--- ---- the numbers
--- 3 is an output's length
-pub link-three : (why : Refusal) → Code.numberOf why ≡ 3 → why ≡ OutputLength
-link-three why e =
-    let none = carries-none why (λ z. omega arith) (λ z. omega arith) in
-    refusal-only why OutputLength e (carries-no-place why (λ z. omega arith) (λ z. omega arith)) (none .0) (none .1)
+-- ---- a fault by what it carries
+abbrev faultNumber : Fault → ℕ
+faultNumber why = faultCarries why .number
 
-pub fault-above : (why : Fault) → 0 < numberOf why
+pub fault-above : (why : Fault) → 0 < faultCarries why .number
 fault-above (Link why) = number-above why
 fault-above Marker = omega arith
 fault-above Tilt = omega arith
 fault-above ZeroTilt = omega arith
 fault-above Field = omega arith
 
--- ---- a fault by its number
 abbrev ownFault : ℕ → Fault
 ownFault zero = Marker
 ownFault (suc zero) = Tilt
 ownFault (suc (suc zero)) = ZeroTilt
 ownFault (suc (suc (suc n))) = Field
 
-own-fault : (why : Fault) → 13 ≤ numberOf why → ownFault (numberOf why - 13) ≡ why
+-- from 13 on by its number
+own-fault : (why : Fault) → 13 ≤ faultNumber why → ownFault (faultNumber why - 13) ≡ why
 own-fault (Link why) h = absurd (omega (arith, number-below why))
 own-fault Marker h = refl
 own-fault Tilt h = refl
 own-fault ZeroTilt h = refl
 own-fault Field h = refl
 
-pub link-fault : (why : Fault) → numberOf why < 13 → (w : Refusal) × (why ≡ Link w)
+-- below it is the decoder's
+link-fault : (why : Fault) → faultNumber why < 13 → (w : Refusal) × (why ≡ Link w)
 link-fault (Link why) h = (why, refl)
 link-fault Marker h = absurd (omega arith)
 link-fault Tilt h = absurd (omega arith)
 link-fault ZeroTilt h = absurd (omega arith)
 link-fault Field h = absurd (omega arith)
 
-pub own-same : (why why′ : Fault) → 13 ≤ numberOf why → numberOf why ≡ numberOf why′ → why ≡ why′
-own-same why why′ h e = sym (own-fault why h) ∙ ap (λ (k : ℕ). ownFault (k - 13)) e ∙ own-fault why′ (omega arith)
-
-pub fault-same : (why why′ : Fault) → numberOf why ≡ numberOf why′ → placeOf why ≡ placeOf why′ → penaltyOf why ≡ penaltyOf why′
-    → visitsOf why ≡ visitsOf why′ → why ≡ why′
-fault-same why why′ n p q v =
+pub fault-only : (why why′ : Fault) → faultCarries why ≡ faultCarries why′ → why ≡ why′
+fault-only why why′ e =
+    let n = ap (λ (c : Carried). c .number) e in
     ⊎-elim
     (λ h.
     let a = link-fault why h in
     let b = link-fault why′ (omega arith) in
-    a .1
-    ∙ ap Link
-    (refusal-only (a .0) (b .0) (ap numberOf (sym (a .1)) ∙ n ∙ ap numberOf (b .1)) (ap placeOf (sym (a .1)) ∙ p ∙ ap placeOf (b .1))
-    (ap penaltyOf (sym (a .1)) ∙ q ∙ ap penaltyOf (b .1)) (ap visitsOf (sym (a .1)) ∙ v ∙ ap visitsOf (b .1)))
-    ∙ sym (b .1))
-    (λ h. own-same why why′ h n)
-    (lt-or-le (numberOf why) 13)
+    a .1 ∙ ap Link (refusal-only (a .0) (b .0) (ap faultCarries (sym (a .1)) ∙ e ∙ ap faultCarries (b .1))) ∙ sym (b .1))
+    (λ h. sym (own-fault why h) ∙ ap (λ (k : ℕ). ownFault (k - 13)) n ∙ own-fault why′ (omega arith))
+    (lt-or-le (faultNumber why) 13)
 
 -- ---- what the tests find has one of the telegram's own numbers
 abbrev pub Own : Tested → Type 0
 Own Good = Unit {0}
-Own (Bad why) = 13 ≤ numberOf why
+Own (Bad why) = 13 ≤ faultCarries why .number
 
 own-before : (x y : Tested) → Own x → Own y → Own (before x y)
 own-before Good y a b = b
@@ -89,11 +79,6 @@ module _ (t : Telegram) where
       cond-by Own (ltb largestTilt (t .tilt)) (Bad Tilt) _ (λ e. omega arith)
       (λ e. cond-by Own (eqb (t .tilt) 0 && eqb (t .direction) 1) (Bad ZeroTilt) Good (λ f. omega arith) (λ f. tt))
 
-  pub own-writer : Own (writerFault t)
-  own-writer =
-      own-before (tiltFault t) (fieldFault t) own-tilt
-      (cond-by Own (ltb largestCylinder (t .cylinder) || ltb largestDirection (t .direction)) (Bad Field) Good (λ e. omega arith) (λ e. tt))
-
   pub own-reader : (marker : ℕ) → Own (readerFault marker t)
   own-reader marker = own-before (markerFault marker) (tiltFault t) (cond-by Own (eqb marker 0) Good (Bad Marker) (λ e. tt) (λ e. omega arith)) own-tilt
 
@@ -101,7 +86,7 @@ module _ (t : Telegram) where
 -- 0 where the tests find nothing, else the fault's number
 abbrev testNumber : Tested → ℕ
 testNumber Good = 0
-testNumber (Bad why) = numberOf why
+testNumber (Bad why) = faultNumber why
 
 good-before : (x y : Tested) → before x y ≡ Good → (x ≡ Good) × (y ≡ Good)
 good-before Good y e = (refl, e)

@@ -3,7 +3,7 @@ use mathlib.Core.Bool.{cond, _&&_, _||_}
 use mathlib.Core.Path.{_≡_}
 use Prim.Native.Nat.{ℕ, _≤_}
 use lib.Dec.{ltb, eqb}
-use Rattle.code.specs.Sound as Code
+use Rattle.code.specs.Sound.{Carried, carrying, carried}
 use Rattle.telegram.specs.declared.Telegram.{Telegram}
 use Rattle.telegram.specs.declared.Fault.{Fault}
 use Rattle.telegram.specs.declared.Fault.the-variants.{Link, Marker, Tilt, ZeroTilt, Field}
@@ -51,31 +51,10 @@ pub record Writable (t : Telegram) : Type 0 where
   pub tilt-small : t .tilt ≤ largestTilt
   pub zero-level : t .tilt ≡ 0 → t .direction ≡ 0
 
--- ---- a fault's number, and what it carries: what the search's refusal does, else nothing
-abbrev pub numberOf : Fault → ℕ
-numberOf (Link why) = Code.numberOf why
-numberOf Marker = 13
-numberOf Tilt = 14
-numberOf ZeroTilt = 15
-numberOf Field = 16
-
-abbrev pub placeOf : Fault → ℕ
-placeOf (Link why) = Code.placeOf why
-placeOf Marker = 0
-placeOf Tilt = 0
-placeOf ZeroTilt = 0
-placeOf Field = 0
-
-abbrev pub penaltyOf : Fault → ℕ
-penaltyOf (Link why) = Code.penaltyOf why
-penaltyOf Marker = 0
-penaltyOf Tilt = 0
-penaltyOf ZeroTilt = 0
-penaltyOf Field = 0
-
-abbrev pub visitsOf : Fault → ℕ
-visitsOf (Link why) = Code.visitsOf why
-visitsOf Marker = 0
-visitsOf Tilt = 0
-visitsOf ZeroTilt = 0
-visitsOf Field = 0
+-- ---- what is told of a fault: what the search's refusal carries, else its number alone
+abbrev pub faultCarries : Fault → Carried
+faultCarries (Link why) = carried why
+faultCarries Marker = carrying 13 0 0 0
+faultCarries Tilt = carrying 14 0 0 0
+faultCarries ZeroTilt = carrying 15 0 0 0
+faultCarries Field = carrying 16 0 0 0

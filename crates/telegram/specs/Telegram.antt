@@ -12,9 +12,9 @@ binary zero x = []
 binary (suc width) x = digit width x ∷ binary width x
 
 -- and back: the number whose binary digits these are
-unfoldable pub number : List ℕ → ℕ
-number [] = 0
-number (b ∷ l) = b * 2 ^ length l + number l
+unfoldable pub ofBinary : List ℕ → ℕ
+ofBinary [] = 0
+ofBinary (b ∷ l) = b * 2 ^ length l + ofBinary l
 
 -- with any marker
 abbrev pub bitsWith : ℕ → Telegram → List ℕ
@@ -26,7 +26,7 @@ telegramBits t = bitsWith 0 t
 
 -- and back: what 16 bits say
 abbrev pub telegramOf : List ℕ → Telegram
-telegramOf b = record { cylinder = number (take 3 b); direction = number (take 1 (drop 3 b)); tilt = number (take 11 (drop 4 b)) }
+telegramOf b = record { cylinder = ofBinary (take 3 b); direction = ofBinary (take 1 (drop 3 b)); tilt = ofBinary (take 11 (drop 4 b)) }
 
 abbrev pub markerOf : List ℕ → ℕ
 markerOf b = getD b 15 0

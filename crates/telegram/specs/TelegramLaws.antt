@@ -10,7 +10,7 @@ use Rattle.words.specs.Bits.{Bits, digit}
 use Rattle.words.specs.BitLaws.{digit-bit, digit-first, digit-second, Alike, second-alike, by-halves}
 use Rattle.words.specs.TransformLaws.{bits-append, bits-more, bits-take, bits-drop}
 use Rattle.telegram.specs.declared.Telegram.{Telegram}
-use Rattle.telegram.specs.Telegram.{binary, number, bitsWith, telegramOf, markerOf}
+use Rattle.telegram.specs.Telegram.{binary, ofBinary, bitsWith, telegramOf, markerOf}
 
 -- ---- binary digits
 pub length-binary : (w x : ℕ) → length (binary w x) ≡ w
@@ -38,50 +38,50 @@ binary-alike zero x y h = refl
 binary-alike (suc w) x y h = ap₂ _∷_ (h w (le-refl (suc w))) (binary-alike w x y (λ p k. h p (omega arith)))
 
 -- ---- and back
-pub number-binary : (w x : ℕ) → x < 2 ^ w → number (binary w x) ≡ x
-unfolding binary number
+pub number-binary : (w x : ℕ) → x < 2 ^ w → ofBinary (binary w x) ≡ x
+unfolding binary ofBinary
 number-binary zero x h = omega arith
 number-binary (suc w) x h =
-    by-halves (λ (y : ℕ). digit w y * 2 ^ length (binary w y) + number (binary w y) ≡ y) w
+    by-halves (λ (y : ℕ). digit w y * 2 ^ length (binary w y) + ofBinary (binary w y) ≡ y) w
     (λ y k. rw (digit-first w y k, number-binary w y k) (omega arith))
     (λ y k.
     rw (digit-second w y k, length-binary w (2 ^ w + y), binary-alike w (2 ^ w + y) y (second-alike w y), number-binary w y k) (omega arith))
     x h
 
-pub number-most : (l : List ℕ) → Bits l → number l < 2 ^ length l
-unfolding number
+pub number-most : (l : List ℕ) → Bits l → ofBinary l < 2 ^ length l
+unfolding ofBinary
 number-most [] h = omega arith
 number-most (zero ∷ l) h = omega (arith, number-most l (λ i. h (suc i)), two-pow-succ (length l))
 number-most (suc zero ∷ l) h = omega (arith, number-most l (λ i. h (suc i)), two-pow-succ (length l))
 number-most (suc (suc b) ∷ l) h = absurd (omega (arith, h 0))
 
-pub binary-number : (l : List ℕ) → Bits l → binary (length l) (number l) ≡ l
-unfolding binary number
+pub binary-number : (l : List ℕ) → Bits l → binary (length l) (ofBinary l) ≡ l
+unfolding binary ofBinary
 binary-number [] h = refl
 binary-number (zero ∷ l) h =
     let k = number-most l (λ i. h (suc i)) in
-    let e : 0 * 2 ^ length l + number l ≡ number l = omega arith in
-    rw e (ap₂ _∷_ (digit-first (length l) (number l) k) (binary-number l (λ i. h (suc i))))
+    let e : 0 * 2 ^ length l + ofBinary l ≡ ofBinary l = omega arith in
+    rw e (ap₂ _∷_ (digit-first (length l) (ofBinary l) k) (binary-number l (λ i. h (suc i))))
 binary-number (suc zero ∷ l) h =
     let k = number-most l (λ i. h (suc i)) in
     let w = length l in
-    let e : 1 * 2 ^ w + number l ≡ 2 ^ w + number l = omega arith in
+    let e : 1 * 2 ^ w + ofBinary l ≡ 2 ^ w + ofBinary l = omega arith in
     rw e
-    (ap₂ _∷_ (digit-second w (number l) k)
-    (binary-alike w (2 ^ w + number l) (number l) (second-alike w (number l)) ∙ binary-number l (λ i. h (suc i))))
+    (ap₂ _∷_ (digit-second w (ofBinary l) k)
+    (binary-alike w (2 ^ w + ofBinary l) (ofBinary l) (second-alike w (ofBinary l)) ∙ binary-number l (λ i. h (suc i))))
 binary-number (suc (suc b) ∷ l) h = absurd (omega (arith, h 0))
 
 -- ---- the number digit by digit, from the front
 twice-more : (n b p : ℕ) → (2 * n + b) * p ≡ n * (p + p) + b * p
 twice-more n b p = omega (arith, add-mul (2 * n) b p, mul-assoc 2 n p, mul-add n p p)
 
-number-cons : (b : ℕ) (l : List ℕ) → number (b ∷ l) ≡ b * 2 ^ length l + number l
-unfolding number
+number-cons : (b : ℕ) (l : List ℕ) → ofBinary (b ∷ l) ≡ b * 2 ^ length l + ofBinary l
+unfolding ofBinary
 number-cons b l = refl
 
 -- n and the rest of the digits, with one more of them taken to n
 pub number-next : (n i : ℕ) (l : List ℕ) → i < length l
-    → (2 * n + getD l i 0) * 2 ^ (length l - suc i) + number (drop (suc i) l) ≡ n * 2 ^ (length l - i) + number (drop i l)
+    → (2 * n + getD l i 0) * 2 ^ (length l - suc i) + ofBinary (drop (suc i) l) ≡ n * 2 ^ (length l - i) + ofBinary (drop i l)
 number-next n i l h =
     let k = length l - suc i in
     let e : length l - i ≡ suc k = omega arith in
@@ -89,8 +89,8 @@ number-next n i l h =
     (omega (arith, twice-more n (getD l i 0) (2 ^ k), ap (λ (p : ℕ). n * p) (two-pow-succ k)))
 
 -- all of them taken
-pub number-end : (n i : ℕ) (l : List ℕ) → length l ≤ i → n * 2 ^ (length l - i) + number (drop i l) ≡ n
-unfolding number
+pub number-end : (n i : ℕ) (l : List ℕ) → length l ≤ i → n * 2 ^ (length l - i) + ofBinary (drop i l) ≡ n
+unfolding ofBinary
 number-end n i l h =
     let e : length l - i ≡ 0 = omega arith in
     rw (e, drop-of-length-le l {i = i} h) (omega arith)
@@ -122,15 +122,15 @@ pub record Fits (t : Telegram) : Type 0 where
 pub telegram-bits : (k : ℕ) (t : Telegram) → Fits t → telegramOf (bitsWith k t) ≡ t
 unfolding binary
 telegram-bits k t f =
-    let cylinder : number (take 3 (bitsWith k t)) ≡ t .cylinder = number-binary 3 (t .cylinder) (f .cylinder-fits) in
-    let direction : number (take 1 (drop 3 (bitsWith k t))) ≡ t .direction = number-binary 1 (t .direction) (f .direction-fits) in
-    let tilt : number (take 11 (drop 4 (bitsWith k t))) ≡ t .tilt = number-binary 11 (t .tilt) (f .tilt-fits) in
+    let cylinder : ofBinary (take 3 (bitsWith k t)) ≡ t .cylinder = number-binary 3 (t .cylinder) (f .cylinder-fits) in
+    let direction : ofBinary (take 1 (drop 3 (bitsWith k t))) ≡ t .direction = number-binary 1 (t .direction) (f .direction-fits) in
+    let tilt : ofBinary (take 11 (drop 4 (bitsWith k t))) ≡ t .tilt = number-binary 11 (t .tilt) (f .tilt-fits) in
     rw (cylinder, direction, tilt)
 
-binary-width : (w : ℕ) (l : List ℕ) → length l ≡ w → Bits l → binary w (number l) ≡ l
+binary-width : (w : ℕ) (l : List ℕ) → length l ≡ w → Bits l → binary w (ofBinary l) ≡ l
 binary-width w l e h = rw (← e) (binary-number l h)
 
-number-width : (w : ℕ) (l : List ℕ) → length l ≡ w → Bits l → number l < 2 ^ w
+number-width : (w : ℕ) (l : List ℕ) → length l ≡ w → Bits l → ofBinary l < 2 ^ w
 number-width w l e h = rw (← e) (number-most l h)
 
 -- and back, for any 16 bits

@@ -13,7 +13,7 @@ use Rattle.telegram.specs.declared.Telegram.{Telegram}
 use Rattle.telegram.specs.declared.Fault.the-variants.{Link, Marker}
 use Rattle.telegram.specs.Telegram.{wordOf}
 use Rattle.telegram.specs.Faults.{Writable}
-use Rattle.telegram.specs.Outcome.{done, writing, nothing, shown, unread, searched, reading}
+use Rattle.telegram.specs.Outcome.{done, writingTelegram, nothing, showing, unread, searched, readingTelegram}
 
 -- the search of the readings finds the telegram's word
 pub record Finds (allowed : ℕ) (l : List ℤ) (t : Telegram) : Type 0 where
@@ -27,34 +27,34 @@ turned l = map negℤ l
 pub record WriteTheorems : Type 0 where
   -- The writer accepts these telegrams and no others.
   pub accepts : (t : Telegram) (word : List ℕ) → length word ≡ 32
-      → (writing (t .cylinder) (t .direction) (t .tilt) word ≡ done (wordOf t)) ↔ Writable t
+      → (writingTelegram (t .cylinder) (t .direction) (t .tilt) word ≡ done (wordOf t)) ↔ Writable t
   -- No two telegrams have one word.
   pub one-word : (t t′ : Telegram) → Writable t → Writable t′ → wordOf t ≡ wordOf t′ → t ≡ t′
 
 pub record ReadTheorems : Type 0 where
   -- What was written is read, for any readings whose search finds the written word.
   pub written-read : (t : Telegram) → Writable t → (allowed : ℕ) (l : List ℤ) → Finds allowed l t
-      → (let o = searched allowed l in reading allowed l ≡ shown t (o .penalty) (o .gap) (o .visits))
+      → (let o = searched allowed l in readingTelegram allowed l ≡ showing t (o .penalty) (o .gap) (o .visits))
   -- Every readable telegram is one that the writer accepts, and its word is the one that was found.
-  pub read-written : (allowed : ℕ) (l : List ℤ) → reading allowed l .number ≡ 0
-      → Writable (reading allowed l .telegram) × Finds allowed l (reading allowed l .telegram)
+  pub read-written : (allowed : ℕ) (l : List ℤ) → readingTelegram allowed l .carry .number ≡ 0
+      → Writable (readingTelegram allowed l .telegram) × Finds allowed l (readingTelegram allowed l .telegram)
   -- With the standing allowance the reader never gives 6, since it is above the whole tree.
   pub whole-tree : tree (kinds 2 5) ≡ 131759
-  pub never-out : (l : List ℤ) → reading defaultAllowance l .number ≡ 6 → ⊥
+  pub never-out : (l : List ℤ) → readingTelegram defaultAllowance l .carry .number ≡ 6 → ⊥
 
 pub record TurnedTheorems (t : Telegram) (l : List ℤ) : Type 0 where
   -- If every reading is negated, the reader refuses with 13 and shows nothing if the walk on the negated readings stays within its allowance,
-  pub marked : (allowed : ℕ) → needed 5 (kinds 2 5) (turned l) ≤ allowed → reading allowed (turned l) ≡ unread Marker
+  pub marked : (allowed : ℕ) → needed 5 (kinds 2 5) (turned l) ≤ allowed → readingTelegram allowed (turned l) ≡ unread Marker
   -- else with 6.
-  pub out : (allowed : ℕ) → allowed < needed 5 (kinds 2 5) (turned l) → reading allowed (turned l) ≡ unread (Link (OutOfVisits allowed))
+  pub out : (allowed : ℕ) → allowed < needed 5 (kinds 2 5) (turned l) → readingTelegram allowed (turned l) ≡ unread (Link (OutOfVisits allowed))
   -- The negated walk needs exactly as many visits, so under one allowance it is 13 exactly where the upright one was read.
   pub same-visits : needed 5 (kinds 2 5) (turned l) ≡ needed 5 (kinds 2 5) l
-  pub exactly : (allowed : ℕ) → (reading allowed (turned l) .number ≡ 13) ↔ (reading allowed l .number ≡ 0)
+  pub exactly : (allowed : ℕ) → (readingTelegram allowed (turned l) .carry .number ≡ 13) ↔ (readingTelegram allowed l .carry .number ≡ 0)
 
 -- A turned-over link never shows a tilt: for all telegrams, all readings that say one, and all allowances.
 pub record NeverShown : Type 0 where
-  pub refused : (t : Telegram) → Writable t → (l : List ℤ) (allowed allowed′ : ℕ) → Finds allowed l t → 0 < reading allowed′ (turned l) .number
-  pub hidden : (t : Telegram) → Writable t → (l : List ℤ) (allowed allowed′ : ℕ) → Finds allowed l t → reading allowed′ (turned l) .telegram ≡ nothing
+  pub refused : (t : Telegram) → Writable t → (l : List ℤ) (allowed allowed′ : ℕ) → Finds allowed l t → 0 < readingTelegram allowed′ (turned l) .carry .number
+  pub hidden : (t : Telegram) → Writable t → (l : List ℤ) (allowed allowed′ : ℕ) → Finds allowed l t → readingTelegram allowed′ (turned l) .telegram ≡ nothing
 
 -- how many telegrams these are: numbered from 0, each once
 abbrev pub telegrams : ℕ

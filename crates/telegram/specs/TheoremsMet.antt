@@ -32,9 +32,9 @@ use Rattle.telegram.specs.Telegram.{binary, bitsWith, telegramBits, tele
 use Rattle.telegram.specs.TelegramLaws.{length-bits, bits-bits, marker-bits, telegram-bits, fits-telegram, bits-telegram}
 use Rattle.telegram.specs.Faults.{Writable, writerFault, readerFault}
 use Rattle.telegram.specs.FaultLaws.{fault-above, Own, own-reader, writer-good, good-writer, reader-good, good-reader, writable-fits, read-writable}
-use Rattle.telegram.specs.Outcome.{WriteOutcome, done, writtenIf, writing, ReadOutcome, shown, unread, shownIf, judged, passedOn, searched, reading}
+use Rattle.telegram.specs.Outcome.{WriteOutcome, done, writtenIf, writingTelegram, ReadOutcome, showing, unread, shownIf, judged, passedOn, searched, readingTelegram}
 use Rattle.telegram.specs.OutcomeLaws.{dimension-25, sum-25, writing-tested, reading-found, reading-refused}
-use Rattle.telegram.specs.OutcomeLaws.{Passed, tests, passed, stopped, Found, found-all, found-again, out-of-visits, found-long, found-bits}
+use Rattle.telegram.specs.OutcomeLaws.{Passed, tests, passed, stopped, FoundBest, found-all, found-again, out-of-visits, found-long, found-bits}
 use Rattle.telegram.specs.Theorems.{Finds, turned, WriteTheorems, ReadTheorems, TurnedTheorems, NeverShown, telegrams, ordinal, Counted, Theorems}
 
 -- ---- words of RM(2,5)
@@ -63,7 +63,7 @@ ones-word =
     record { bits = markerAlone; long = sym sum-25; are-bits = bits-more (replicate 15 0) 1 (bits-zeros 15) (omega arith); gives = refl }
 
 -- ---- the writer
-written-good : (x : Tested) (t : Telegram) (word : List ℕ) → writtenIf x t word .number ≡ 0 → x ≡ Good
+written-good : (x : Tested) (t : Telegram) (word : List ℕ) → writtenIf x t word .carry .number ≡ 0 → x ≡ Good
 written-good Good t word e = refl
 written-good (Bad why) t word e = absurd (omega (arith, fault-above why))
 
@@ -72,7 +72,7 @@ write-theorems =
     record {
       accepts = λ t word e.
           let is = writing-tested (t .cylinder) (t .direction) (t .tilt) word e in (
-            λ w. good-writer t (written-good (writerFault t) t word (ap (λ (o : WriteOutcome). o .number) (sym is ∙ w))),
+            λ w. good-writer t (written-good (writerFault t) t word (ap (λ (o : WriteOutcome). o .carry .number) (sym is ∙ w))),
             λ w. is ∙ ap (λ (x : Tested). writtenIf x t word) (writer-good t w),
           );
       one-word = λ t t′ w w′ e.
@@ -82,7 +82,7 @@ write-theorems =
     }
 
 -- ---- the reader
-judged-upright : (t : Telegram) → Writable t → (p g v : ℕ) → judged (telegramBits t) p g v ≡ shown t p g v
+judged-upright : (t : Telegram) → Writable t → (p g v : ℕ) → judged (telegramBits t) p g v ≡ showing t p g v
 judged-upright t w p g v =
     ap₂ (λ (k : ℕ) (u : Telegram). shownIf (readerFault k u) u p g v) (marker-bits 0 t) (telegram-bits 0 t (writable-fits w))
     ∙ ap (λ (x : Tested). shownIf x t p g v) (reader-good t w)
@@ -93,14 +93,14 @@ judged-turned t p g v = refl
 
 -- the bits that the search found are the telegram's
 module _ (allowed : ℕ) (l : List ℤ) (t : Telegram) (w : Writable t) (h : Finds allowed l t) where
-  sent : Found allowed l
+  sent : FoundBest allowed l
   sent = found-all allowed l (h .answers)
 
   sent-bits : searched allowed l .bits ≡ telegramBits t
   sent-bits =
       bits-only (searched allowed l .bits) (telegramBits t) (sent .best .information) (information t) (sent .best .gives ∙ h .finds)
 
-  written-read : let o = searched allowed l in reading allowed l ≡ shown t (o .penalty) (o .gap) (o .visits)
+  written-read : let o = searched allowed l in readingTelegram allowed l ≡ showing t (o .penalty) (o .gap) (o .visits)
   written-read =
       let o = searched allowed l in
       reading-found allowed l (h .answers)
@@ -109,10 +109,10 @@ module _ (allowed : ℕ) (l : List ℤ) (t : Telegram) (w : Writable t) (h : Fin
 
   -- ---- every reading negated
   same-visits : needed 5 (kinds 2 5) (turned l) ≡ needed 5 (kinds 2 5) l
-  same-visits = demands-code 2 5 l (sent .passes .long) .demand-3-all-ones ones-word .same-visits
+  same-visits = demands-code 2 5 l (sent .passes .entries .long) .demand-3-all-ones ones-word .same-visits
 
   turned-passed : Passed (turned l)
-  turned-passed = outcome-demands (sent .passes) .demand-3-all-ones ones-word (replicate 16 0) (replicate 32 0) (sym dimension-25) refl .admitted
+  turned-passed = outcome-demands (replicate 16 0) (replicate 32 0) (sent .passes) .demand-3-all-ones ones-word (replicate 16 0) (replicate 32 0) (sym dimension-25) refl .sound
 
   module _ (allowed′ : ℕ) where
     module _ (k : needed 5 (kinds 2 5) (turned l) ≤ allowed′) where
@@ -126,11 +126,11 @@ module _ (allowed : ℕ) (l : List ℤ) (t : Telegram) (w : Writable t) (h : Fin
             finds = ap (λ (o : Search.Outcome). o .word) again ∙ h .finds;
           }
 
-      marked : reading allowed′ (turned l) ≡ unread Marker
+      marked : readingTelegram allowed′ (turned l) ≡ unread Marker
       unfolding ones-word
       marked =
           let o = searched allowed′ (turned l) in
-          let plus = outcome-demands (sent .passes) .demand-3-all-ones ones-word (replicate 16 0) (replicate 32 0) (sym dimension-25) refl .same-search allowed′ .0 in
+          let plus = outcome-demands (replicate 16 0) (replicate 32 0) (sent .passes) .demand-3-all-ones ones-word (replicate 16 0) (replicate 32 0) (sym dimension-25) refl .same-search allowed′ .0 in
           let bits : o .bits ≡ xors (telegramBits t) markerAlone =
           plus .bits-added (still-finds .answers) ∙ ap (λ (b : List ℕ). xors b markerAlone) (ap (λ (s : Search.Outcome). s .bits) again ∙ sent-bits) in
           reading-found allowed′ (turned l) (plus .same-number ∙ still-finds .answers)
@@ -138,10 +138,10 @@ module _ (allowed : ℕ) (l : List ℤ) (t : Telegram) (w : Writable t) (h : Fin
           ∙ judged-turned t (o .penalty) (o .gap) (o .visits)
 
     module _ (k : allowed′ < needed 5 (kinds 2 5) (turned l)) where
-      out : reading allowed′ (turned l) ≡ unread (Link (OutOfVisits allowed′))
+      out : readingTelegram allowed′ (turned l) ≡ unread (Link (OutOfVisits allowed′))
       out = reading-refused allowed′ (turned l) (OutOfVisits allowed′) (replicate 16 0) (replicate 32 0) (out-of-visits allowed′ (turned l) turned-passed k)
 
-      out-upright : reading allowed′ l ≡ unread (Link (OutOfVisits allowed′))
+      out-upright : readingTelegram allowed′ l ≡ unread (Link (OutOfVisits allowed′))
       out-upright =
           reading-refused allowed′ l (OutOfVisits allowed′) (replicate 16 0) (replicate 32 0)
           (out-of-visits allowed′ l (sent .passes) (rw (← same-visits) k))
@@ -149,7 +149,7 @@ module _ (allowed : ℕ) (l : List ℤ) (t : Telegram) (w : Writable t) (h : Fin
 module _ (allowed : ℕ) (l : List ℤ) (t : Telegram) (w : Writable t) (h : Finds allowed l t) where
   turned-theorems : TurnedTheorems t l
   turned-theorems =
-      let number : ReadOutcome → ℕ = λ o. o .number in
+      let number : ReadOutcome → ℕ = λ o. o .carry .number in
       let need = needed 5 (kinds 2 5) (turned l) in
       record {
         marked = marked allowed l t w h;
@@ -179,16 +179,16 @@ never-shown =
     }
 
 -- ---- what is read
-reading-other : (allowed : ℕ) (l : List ℤ) → (searched allowed l .number ≡ 0 → ⊥) → reading allowed l ≡ passedOn (searched allowed l)
-unfolding reading
+reading-other : (allowed : ℕ) (l : List ℤ) → (searched allowed l .number ≡ 0 → ⊥) → readingTelegram allowed l ≡ passedOn (searched allowed l)
+unfolding readingTelegram
 reading-other allowed l n = rw (ne-eqb (searched allowed l .number) 0 n)
 
-shown-good : (x : Tested) (t : Telegram) (p g v : ℕ) → shownIf x t p g v .number ≡ 0 → x ≡ Good
+shown-good : (x : Tested) (t : Telegram) (p g v : ℕ) → shownIf x t p g v .carry .number ≡ 0 → x ≡ Good
 shown-good Good t p g v e = refl
 shown-good (Bad why) t p g v e = absurd (omega (arith, fault-above why))
 
 -- no test of the reader gives 6
-shown-own : (x : Tested) (t : Telegram) (p g v : ℕ) → Own x → shownIf x t p g v .number ≡ 6 → ⊥
+shown-own : (x : Tested) (t : Telegram) (p g v : ℕ) → Own x → shownIf x t p g v .carry .number ≡ 6 → ⊥
 shown-own Good t p g v o e = omega arith
 shown-own (Bad why) t p g v o e = omega arith
 
@@ -196,7 +196,7 @@ module _ (allowed : ℕ) (l : List ℤ) (n : searched allowed l .number ≡ 0) w
   abbrev b : List ℕ
   b = searched allowed l .bits
 
-  read-found : reading allowed l .number ≡ 0 → Writable (reading allowed l .telegram) × Finds allowed l (reading allowed l .telegram)
+  read-found : readingTelegram allowed l .carry .number ≡ 0 → Writable (readingTelegram allowed l .telegram) × Finds allowed l (readingTelegram allowed l .telegram)
   read-found z =
       let o = searched allowed l in
       let f = found-all allowed l n in
@@ -204,9 +204,9 @@ module _ (allowed : ℕ) (l : List ℤ) (n : searched allowed l .number ≡ 0) w
       let bits = found-bits allowed l f in
       let t = telegramOf b in
       let is = reading-found allowed l n in
-      let good = shown-good (readerFault (markerOf b) t) t (o .penalty) (o .gap) (o .visits) (ap (λ (r : ReadOutcome). r .number) (sym is) ∙ z) in
+      let good = shown-good (readerFault (markerOf b) t) t (o .penalty) (o .gap) (o .visits) (ap (λ (r : ReadOutcome). r .carry .number) (sym is) ∙ z) in
       let g = good-reader t (markerOf b) good in
-      let says : reading allowed l .telegram ≡ t =
+      let says : readingTelegram allowed l .telegram ≡ t =
       ap (λ (r : ReadOutcome). r .telegram) (is ∙ ap (λ (x : Tested). shownIf x t (o .penalty) (o .gap) (o .visits)) good) in
       let whole : telegramBits t ≡ b = ap (λ (k : ℕ). bitsWith k t) (sym (g .0)) ∙ bits-telegram b long bits in
       rw says (
@@ -214,15 +214,15 @@ module _ (allowed : ℕ) (l : List ℤ) (n : searched allowed l .number ≡ 0) w
         record { answers = n; finds = sym (f .best .gives) ∙ ap (encoded 5 (kinds 2 5)) (sym whole) },
       )
 
-read-six : (allowed : ℕ) (l : List ℤ) → reading allowed l .number ≡ 6 → searched allowed l .number ≡ 6
+read-six : (allowed : ℕ) (l : List ℤ) → readingTelegram allowed l .carry .number ≡ 6 → searched allowed l .number ≡ 6
 read-six allowed l e =
     let o = searched allowed l in
     elim (ℕ-discrete (o .number) 0) [
       | yes n ↦ absurd
           (shown-own (readerFault (markerOf (o .bits)) (telegramOf (o .bits))) (telegramOf (o .bits)) (o .penalty) (o .gap) (o .visits)
           (own-reader (telegramOf (o .bits)) (markerOf (o .bits)))
-          (ap (λ (r : ReadOutcome). r .number) (sym (reading-found allowed l n)) ∙ e))
-      | no n ↦ ap (λ (r : ReadOutcome). r .number) (sym (reading-other allowed l n)) ∙ e
+          (ap (λ (r : ReadOutcome). r .carry .number) (sym (reading-found allowed l n)) ∙ e))
+      | no n ↦ ap (λ (r : ReadOutcome). r .carry .number) (sym (reading-other allowed l n)) ∙ e
     ]
 
 tree-25 : tree (kinds 2 5) ≡ 131759
@@ -236,13 +236,13 @@ read-theorems =
       read-written = λ allowed l z.
           elim (ℕ-discrete (searched allowed l .number) 0) [
             | yes n ↦ read-found allowed l n z
-            | no n ↦ absurd (n (ap (λ (r : ReadOutcome). r .number) (sym (reading-other allowed l n)) ∙ z))
+            | no n ↦ absurd (n (ap (λ (r : ReadOutcome). r .carry .number) (sym (reading-other allowed l n)) ∙ z))
           ];
       whole-tree = tree-25;
       never-out = λ l e.
           let six = read-six defaultAllowance l e in
           elim (tests defaultAllowance l) [
-            | passed x ↦ outcome-demands x .whole-tree defaultAllowance (omega (arith, tree-25)) six
+            | passed x ↦ outcome-demands (replicate 16 0) (replicate 32 0) x .whole-tree defaultAllowance (omega (arith, tree-25)) six
             | stopped why f h ↦ omega (arith, six, ap (λ (o : Search.Outcome). o .number) f)
           ];
     }

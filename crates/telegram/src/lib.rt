@@ -7,11 +7,11 @@ ghost use Prim.Native.Nat.{_≤_};
 ghost use lib.ListN.{length};
 ghost use Rattle.code.specs.Sound.{defaultAllowance};
 ghost use Rattle.words.specs.Bits.{Bits};
-ghost use Rattle.telegram.specs.Telegram.{binary, number, telegramOf, wordOf};
+ghost use Rattle.telegram.specs.Telegram.{binary, ofBinary, telegramOf, wordOf};
 ghost use Rattle.telegram.specs.Faults.{tiltFault, fieldFault, writerFault, readerFault};
-ghost use Rattle.telegram.specs.Faults.{numberOf, placeOf, penaltyOf, visitsOf};
-ghost use Rattle.telegram.specs.Outcome.{toldWritten, writing};
-ghost use Rattle.telegram.specs.Outcome.{told, judged, reading};
+ghost use Rattle.telegram.specs.Faults.{faultCarries};
+ghost use Rattle.telegram.specs.Outcome.{toldWritten, writingTelegram};
+ghost use Rattle.telegram.specs.Outcome.{told, judged, readingTelegram};
 
 // What the tilt head says. Direction 1 is to port; the tilt is in hundredths of a degree.
 pub struct Telegram {
@@ -68,7 +68,7 @@ pub enum Heard {
 // Writes the telegram's word into the lent buffer.
 pub fn write(cylinder: u32, direction: u32, tilt: u32, word: &mut [u8]) -> Written
     ensures { λ answer. ⌜ toldWritten answer (now (word .exit))
-        ≡ writing cylinder direction tilt (now (word .entry)) ⌝ }
+        ≡ writingTelegram cylinder direction tilt (now (word .entry)) ⌝ }
 {
     if word.len() != Telegram::LENGTH {
         return Written::Refused(Fault::Link(Refusal::OutputLength));
@@ -89,7 +89,7 @@ pub fn write(cylinder: u32, direction: u32, tilt: u32, word: &mut [u8]) -> Writt
 
 // The telegram of the best word for the readings, or why there is none to show.
 pub fn read_within(allowed: u32, readings: &[i16]) -> Heard
-    ensures { λ answer. ⌜ told answer ≡ reading allowed (now (readings .entry)) ⌝ }
+    ensures { λ answer. ⌜ told answer ≡ readingTelegram allowed (now (readings .entry)) ⌝ }
 {
     let mut found = [0u8; 16];
     let mut word = [0u8; 32];
@@ -105,7 +105,7 @@ pub fn read_within(allowed: u32, readings: &[i16]) -> Heard
 
 // The same, with the default allowance.
 pub fn read(readings: &[i16]) -> Heard
-    ensures { λ answer. ⌜ told answer ≡ reading defaultAllowance (now (readings .entry)) ⌝ }
+    ensures { λ answer. ⌜ told answer ≡ readingTelegram defaultAllowance (now (readings .entry)) ⌝ }
 {
     read_within(code::Code::DEFAULT_ALLOWANCE, readings)
 }
@@ -177,7 +177,7 @@ fn put_number(number: u32, bits: &mut [u8])
 // The number whose binary digits these are, most significant first.
 fn number_of(bits: &[u8]) -> u32
     requires { ⌜ Bits (now bits) × (length (now bits) ≤ 16) ⌝ }
-    ensures { λ n. ⌜ n ≡ number (now (bits .entry)) ⌝ }
+    ensures { λ n. ⌜ n ≡ ofBinary (now (bits .entry)) ⌝ }
 {
     let mut n = 0;
     let mut i = 0;
@@ -241,7 +241,7 @@ fn judge(bits: &[u8], penalty: u32, gap: u32, visits: u32) -> Heard
 impl Fault {
     // The rules' number.
     pub fn number(self) -> u32
-        ensures { λ r. ⌜ r ≡ numberOf self ⌝ }
+        ensures { λ r. ⌜ r ≡ faultCarries self .number ⌝ }
     {
         match self {
             Fault::Link(why) => why.number(),
@@ -254,7 +254,7 @@ impl Fault {
 
     // What the search's refusal carries, else 0.
     pub fn place(self) -> usize
-        ensures { λ r. ⌜ r ≡ placeOf self ⌝ }
+        ensures { λ r. ⌜ r ≡ faultCarries self .place ⌝ }
     {
         match self {
             Fault::Link(why) => why.place(),
@@ -266,7 +266,7 @@ impl Fault {
     }
 
     pub fn penalty(self) -> u32
-        ensures { λ r. ⌜ r ≡ penaltyOf self ⌝ }
+        ensures { λ r. ⌜ r ≡ faultCarries self .penalty ⌝ }
     {
         match self {
             Fault::Link(why) => why.penalty(),
@@ -278,7 +278,7 @@ impl Fault {
     }
 
     pub fn visits(self) -> u32
-        ensures { λ r. ⌜ r ≡ visitsOf self ⌝ }
+        ensures { λ r. ⌜ r ≡ faultCarries self .visits ⌝ }
     {
         match self {
             Fault::Link(why) => why.visits(),

@@ -76,8 +76,9 @@ returns c =
     let y = c .before .before .before .before .before .before .before .before .before .put-number2 in
     let z = c .before .before .before .before .before .before .put-number3 in
     let bits = bits-put t (x .last .1 .0) (x .ensures) (y .last .1 .0) (y .ensures) (z .last .1 .0) (z .ensures) in
-    ap (λ (o : Encode.Outcome). o .buffer)
-    (c .before .before .encode .ensures ∙ ap (λ (b : List ℕ). Encode.encoding 2 5 b (s .args .word .now)) bits ∙ word-written t (s .args .word .now) (s .pre))
+    let e = c .before .before .encode in
+    word-written t (s .args .word .now) (s .pre) (e .result) (e .last .1 .1 .1 .0)
+    (e .ensures ∙ ap (λ (b : List ℕ). Encode.encoding 2 5 b (s .args .word .now)) bits)
 
 pub put-word-spec : {M : Type 1} → statement M
 put-word-spec =
