@@ -49,19 +49,6 @@ number-above Torn = omega arith
 number-above Pad = omega arith
 number-above Map = omega arith
 
--- and none is above 12: the numbers from 13 on are the telegram's own
-pub number-below : (why : Refusal) → numberOf why < 13
-number-below Parameters = omega arith
-number-below InputLength = omega arith
-number-below OutputLength = omega arith
-number-below (Entry place) = omega arith
-number-below (NotAWord index) = omega arith
-number-below (OutOfVisits allowed) = omega arith
-number-below (Tied penalty visits) = omega arith
-number-below Torn = omega arith
-number-below Pad = omega arith
-number-below Map = omega arith
-
 -- no penalty and no visits but under 6 and 7
 pub carries-none : (why : Refusal) → (numberOf why ≡ 6 → ⊥) → (numberOf why ≡ 7 → ⊥) → carried why ≡ carrying (numberOf why) (carried why .place) 0 0
 carries-none Parameters f g = refl

@@ -8,9 +8,10 @@ use native.Mathlib.Decide.{ℕ-discrete}
 use lib.Dec.{ltb, eqb}
 use borrow.Author.Tests.{lt-ltb, le-ltb, eq-eqb, ne-eqb}
 use Rattle.numbers.specs.Choice.{lt-or-le, cond-by}
-use Rattle.code.specs.Sound.{Carried}
+use Rattle.code.specs.Sound.{Carried, carried}
 use Rattle.code.specs.declared.Refusal.{Refusal}
-use Rattle.code.specs.RefusalLaws.{refusal-only, number-above, number-below}
+use Rattle.code.specs.declared.Refusal.the-variants.{Parameters, InputLength, OutputLength, Entry, NotAWord, OutOfVisits, Tied, Torn, Pad, Map}
+use Rattle.code.specs.RefusalLaws.{refusal-only, number-above}
 use Rattle.telegram.specs.declared.Telegram.{Telegram}
 use Rattle.telegram.specs.declared.Fault.{Fault}
 use Rattle.telegram.specs.declared.Fault.the-variants.{Link, Marker, Tilt, ZeroTilt, Field}
@@ -21,6 +22,19 @@ use Rattle.telegram.specs.Faults.{before, faultCarries, Writable}
 use Rattle.telegram.specs.TelegramLaws.{Fits}
 
 -- ---- a fault by what it carries
+-- the decoder's numbers stay below the telegram's own
+number-below : (why : Refusal) → carried why .number < 13
+number-below Parameters = omega arith
+number-below InputLength = omega arith
+number-below OutputLength = omega arith
+number-below (Entry place) = omega arith
+number-below (NotAWord index) = omega arith
+number-below (OutOfVisits allowed) = omega arith
+number-below (Tied penalty visits) = omega arith
+number-below Torn = omega arith
+number-below Pad = omega arith
+number-below Map = omega arith
+
 abbrev faultNumber : Fault → ℕ
 faultNumber why = faultCarries why .number
 

@@ -42,7 +42,7 @@ pub record ReadTheorems : Type 0 where
   pub whole-tree : tree (kinds 2 5) ≡ 131759
   pub never-out : (l : List ℤ) → readingTelegram defaultAllowance l .carry .number ≡ 6 → ⊥
 
-pub record TurnedTheorems (t : Telegram) (l : List ℤ) : Type 0 where
+pub record TurnedTheorems (l : List ℤ) : Type 0 where
   -- If every reading is negated, the reader refuses with 13 and shows nothing if the walk on the negated readings stays within its allowance,
   pub marked : (allowed : ℕ) → needed 5 (kinds 2 5) (turned l) ≤ allowed → readingTelegram allowed (turned l) ≡ unread Marker
   -- else with 6.
@@ -51,10 +51,11 @@ pub record TurnedTheorems (t : Telegram) (l : List ℤ) : Type 0 where
   pub same-visits : needed 5 (kinds 2 5) (turned l) ≡ needed 5 (kinds 2 5) l
   pub exactly : (allowed : ℕ) → (readingTelegram allowed (turned l) .carry .number ≡ 13) ↔ (readingTelegram allowed l .carry .number ≡ 0)
 
--- A turned-over link never shows a tilt: for all telegrams, all readings that say one, and all allowances.
-pub record NeverShown : Type 0 where
-  pub refused : (t : Telegram) → Writable t → (l : List ℤ) (allowed allowed′ : ℕ) → Finds allowed l t → 0 < readingTelegram allowed′ (turned l) .carry .number
-  pub hidden : (t : Telegram) → Writable t → (l : List ℤ) (allowed allowed′ : ℕ) → Finds allowed l t → readingTelegram allowed′ (turned l) .telegram ≡ nothing
+-- A turned-over link never shows a tilt: for all telegrams, all readings whose search finds one, and all allowances.
+abbrev pub NeverShown : Type 0
+NeverShown =
+    (t : Telegram) → Writable t → (l : List ℤ) (allowed allowed′ : ℕ) → Finds allowed l t
+    → (let o = readingTelegram allowed′ (turned l) in (0 < o .carry .number) × (o .telegram ≡ nothing))
 
 -- how many telegrams these are: numbered from 0, each once
 abbrev pub telegrams : ℕ
@@ -71,6 +72,6 @@ pub record Counted : Type 0 where
 pub record Theorems : Type 0 where
   pub writes : WriteTheorems
   pub reads : ReadTheorems
-  pub turns : (t : Telegram) → Writable t → (allowed : ℕ) (l : List ℤ) → Finds allowed l t → TurnedTheorems t l
+  pub turns : (t : Telegram) → Writable t → (allowed : ℕ) (l : List ℤ) → Finds allowed l t → TurnedTheorems l
   pub never-shown : NeverShown
   pub counted : Counted

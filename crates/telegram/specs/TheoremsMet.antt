@@ -147,7 +147,7 @@ module _ (allowed : ℕ) (l : List ℤ) (t : Telegram) (w : Writable t) (h : Fin
           (out-of-visits allowed′ l (sent .passes) (rw (← same-visits) k))
 
 module _ (allowed : ℕ) (l : List ℤ) (t : Telegram) (w : Writable t) (h : Finds allowed l t) where
-  turned-theorems : TurnedTheorems t l
+  turned-theorems : TurnedTheorems l
   turned-theorems =
       let number : ReadOutcome → ℕ = λ o. o .carry .number in
       let need = needed 5 (kinds 2 5) (turned l) in
@@ -168,15 +168,9 @@ module _ (allowed : ℕ) (l : List ℤ) (t : Telegram) (w : Writable t) (h : Fin
       }
 
 never-shown : NeverShown
-never-shown =
-    record {
-      refused = λ t w l allowed allowed′ h.
-          ⊎-elim (λ k. rw (out allowed l t w h allowed′ k) (omega arith)) (λ k. rw (marked allowed l t w h allowed′ k) (omega arith))
-          (lt-or-le allowed′ (needed 5 (kinds 2 5) (turned l)));
-      hidden = λ t w l allowed allowed′ h.
-          ⊎-elim (λ k. rw (out allowed l t w h allowed′ k)) (λ k. rw (marked allowed l t w h allowed′ k))
-          (lt-or-le allowed′ (needed 5 (kinds 2 5) (turned l)));
-    }
+never-shown t w l allowed allowed′ h =
+    ⊎-elim (λ k. rw (out allowed l t w h allowed′ k) (omega arith, refl)) (λ k. rw (marked allowed l t w h allowed′ k) (omega arith, refl))
+    (lt-or-le allowed′ (needed 5 (kinds 2 5) (turned l)))
 
 -- ---- what is read
 reading-other : (allowed : ℕ) (l : List ℤ) → (searched allowed l .number ≡ 0 → ⊥) → readingTelegram allowed l ≡ passedOn (searched allowed l)
