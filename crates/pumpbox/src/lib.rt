@@ -2,6 +2,7 @@
 // A call returns 0 or its refusal's number.
 mod lengths;
 mod unpacking;
+mod writing;
 
 use encode::Encoded;
 use quick::Read;
