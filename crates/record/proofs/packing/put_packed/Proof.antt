@@ -63,8 +63,14 @@ slice-write-part-2 c =
     let g = c .before .before .before .before .before .before .before .before in
     let pairs = c .before .before .before .before .before .put-packed-pairs in
     let k = length (g .args .readings .now) / 2 in
-    omega (arith, length-packed-any (g .args .readings .now), pairs .kept .1 .0, g .pre .1, c .before .before .if1 .taken,
-    length-set (pairs .last .1 .0) (3 * k) (c .field-of .result / 16))
+    omega (
+      arith,
+      length-packed-any (g .args .readings .now),
+      pairs .kept .1 .0,
+      g .pre .1,
+      c .before .before .if1 .taken,
+      length-set (pairs .last .1 .0) (3 * k) (c .field-of .result / 16),
+    )
 
 same-length : tie.Need-same-length
 same-length c = search needs

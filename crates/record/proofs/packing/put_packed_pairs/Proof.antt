@@ -97,8 +97,12 @@ add-part-3 c = omega arith
 slice-write-part-3 : tie.Need-slice-write-part-3 Inv-loop μ-loop
 slice-write-part-3 c =
     let o = c .before .before .before .before .before .loop in
-    omega (arith, length-packed-any (c .before .before .before .before .before .before .before .args .readings .now), length-set (o .part) (3 * o .j) (c .before .before .field-of .result / 16),
-    length-set (set (o .part) (3 * o .j) (c .before .before .field-of .result / 16)) (3 * o .j + 1) (16 * (c .before .before .field-of .result % 16) + c .field-of2 .result / 256))
+    omega (
+      arith,
+      length-packed-any (c .before .before .before .before .before .before .before .args .readings .now),
+      length-set (o .part) (3 * o .j) (c .before .before .field-of .result / 16),
+      length-set (set (o .part) (3 * o .j) (c .before .before .field-of .result / 16)) (3 * o .j + 1) (16 * (c .before .before .field-of .result % 16) + c .field-of2 .result / 256),
+    )
 
 add-j : tie.Need-add-j Inv-loop μ-loop
 add-j c = omega arith
