@@ -7,3 +7,5 @@ pub mod Lengths
 pub mod Unpacked
 pub mod Written
 pub mod WrittenLaws
+pub mod Telegrams
+pub mod TelegramsLaws
