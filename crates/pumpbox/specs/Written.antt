@@ -7,18 +7,18 @@ use Rattle.record.specs.declared.Written.the-variants.{Next, Refused}
 use Rattle.record.specs.Writing.{WrittenOutcome}
 use Rattle.pumpbox.specs.Told.{Told, told}
 
-abbrev pub shownWritten : WrittenOutcome → Told
-shownWritten o = told (o .carry .number) (o .next ∷ o .carry .place ∷ []) (o .buffer ∷ [])
+abbrev pub shownWrote : WrittenOutcome → Told
+shownWrote o = told (o .carry .number) (o .next ∷ o .carry .place ∷ []) (o .buffer ∷ [])
 
 -- ---- the parts of an answer
-abbrev pub next : Written → ℕ
-next (Next k) = k
-next (Refused why) = 0
+abbrev pub wroteNext : Written → ℕ
+wroteNext (Next k) = k
+wroteNext (Refused why) = 0
 
-abbrev pub number : Written → ℕ
-number (Next k) = 0
-number (Refused why) = carried why .number
+abbrev pub wroteNumber : Written → ℕ
+wroteNumber (Next k) = 0
+wroteNumber (Refused why) = carried why .number
 
-abbrev pub place : Written → ℕ
-place (Next k) = 0
-place (Refused why) = carried why .place
+abbrev pub wrotePlace : Written → ℕ
+wrotePlace (Next k) = 0
+wrotePlace (Refused why) = carried why .place

@@ -4,10 +4,10 @@ ghost use mathlib.Core.Path.{_≡_};
 ghost use mathlib.Core.List.{[], _∷_};
 ghost use Rattle.record.specs.Writing.{writing};
 ghost use Rattle.pumpbox.specs.Told.{told};
-ghost use Rattle.pumpbox.specs.Written.{next, number, place, shownWritten};
+ghost use Rattle.pumpbox.specs.Written.{wroteNext, wroteNumber, wrotePlace, shownWrote};
 
 fn next_of(answer: Written) -> usize
-    ensures { λ k. ⌜ k ≡ next answer ⌝ }
+    ensures { λ k. ⌜ k ≡ wroteNext answer ⌝ }
 {
     match answer {
         Written::Next(next) => next,
@@ -16,7 +16,7 @@ fn next_of(answer: Written) -> usize
 }
 
 fn number_of(answer: Written) -> u32
-    ensures { λ k. ⌜ k ≡ number answer ⌝ }
+    ensures { λ k. ⌜ k ≡ wroteNumber answer ⌝ }
 {
     match answer {
         Written::Next(_) => 0,
@@ -25,7 +25,7 @@ fn number_of(answer: Written) -> u32
 }
 
 fn place_of(answer: Written) -> usize
-    ensures { λ k. ⌜ k ≡ place answer ⌝ }
+    ensures { λ k. ⌜ k ≡ wrotePlace answer ⌝ }
 {
     match answer {
         Written::Next(_) => 0,
@@ -50,7 +50,7 @@ pub extern "C" fn cinorbis_write_record(
     out: &mut [u64; 2],
 ) -> u32
     ensures { λ returned. ⌜ told returned (now (out .exit)) (now (buffer .exit) ∷ [])
-        ≡ shownWritten (writing r m (now (readings .entry)) (now (buffer .entry)) at) ⌝ }
+        ≡ shownWrote (writing r m (now (readings .entry)) (now (buffer .entry)) at) ⌝ }
 {
     let answer = record::write(r, m, readings, buffer, at);
     put_written(out, next_of(answer), place_of(answer));
