@@ -4,3 +4,4 @@ pub mod SoundLaws
 pub mod EntriesLaws
 pub mod Admitted
 pub mod AdmittedLaws
+pub mod RefusalLaws

@@ -7,7 +7,7 @@ use Rattle.code.specs.declared.Code.{Code}
 use Rattle.code.specs.declared.Made.{Made}
 use Rattle.code.specs.declared.Made.the-variants.{Good, Bad}
 use Rattle.code.specs.declared.Refusal.{Refusal}
-use Rattle.code.specs.declared.Refusal.the-variants.{Parameters, InputLength, OutputLength, Entry, NotAWord, OutOfVisits, Tied, Torn, Pad}
+use Rattle.code.specs.declared.Refusal.the-variants.{Parameters, InputLength, OutputLength, Entry, NotAWord, OutOfVisits, Tied, Torn, Pad, Map}
 
 -- the limits; nothing else repeats them
 abbrev pub largestM : ℕ
@@ -39,6 +39,7 @@ numberOf (OutOfVisits allowed) = 6
 numberOf (Tied penalty visits) = 7
 numberOf Torn = 8
 numberOf Pad = 9
+numberOf Map = 11
 
 -- the place that 4 and 5 carry
 abbrev pub placeOf : Refusal → ℕ
@@ -51,6 +52,7 @@ placeOf (OutOfVisits allowed) = 0
 placeOf (Tied penalty visits) = 0
 placeOf Torn = 0
 placeOf Pad = 0
+placeOf Map = 0
 
 -- the least penalty, which 7 carries
 abbrev pub penaltyOf : Refusal → ℕ
@@ -63,6 +65,7 @@ penaltyOf (OutOfVisits allowed) = 0
 penaltyOf (Tied penalty visits) = penalty
 penaltyOf Torn = 0
 penaltyOf Pad = 0
+penaltyOf Map = 0
 
 -- the visits: the allowance under 6, the walk's under 7
 abbrev pub visitsOf : Refusal → ℕ
@@ -75,3 +78,4 @@ visitsOf (OutOfVisits allowed) = allowed
 visitsOf (Tied penalty visits) = visits
 visitsOf Torn = 0
 visitsOf Pad = 0
+visitsOf Map = 0

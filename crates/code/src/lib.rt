@@ -35,6 +35,8 @@ pub enum Refusal {
     Tied { penalty: u32, visits: u32 },
     Torn,
     Pad,
+    // a map of positions that is not of bits, or that nothing undoes
+    Map,
 }
 
 // What the tests on readings leave.
@@ -198,6 +200,7 @@ impl Refusal {
             } => 7,
             Refusal::Torn => 8,
             Refusal::Pad => 9,
+            Refusal::Map => 11,
         }
     }
 
@@ -218,6 +221,7 @@ impl Refusal {
             } => 0,
             Refusal::Torn => 0,
             Refusal::Pad => 0,
+            Refusal::Map => 0,
         }
     }
 
@@ -235,6 +239,7 @@ impl Refusal {
             Refusal::OutOfVisits(_) => 0,
             Refusal::Torn => 0,
             Refusal::Pad => 0,
+            Refusal::Map => 0,
         }
     }
 
@@ -252,6 +257,7 @@ impl Refusal {
             Refusal::NotAWord(_) => 0,
             Refusal::Torn => 0,
             Refusal::Pad => 0,
+            Refusal::Map => 0,
         }
     }
 }

@@ -1,44 +1,31 @@
 -- No second answer and no second buffer meet the promise of `encode`, or that of `inverse`.
 use mathlib.Core.Path.{_≡_, refl, ap, sym, _∙_}
 use mathlib.Core.List.{List}
-use Prim.Native.Nat.{ℕ, zero, suc, _^_, _<_}
+use Prim.Native.Nat.{ℕ, _^_, _<_}
 use native.Mathlib.Omega.{arith}
 use Rattle.words.specs.Kinds.{kinds, dimension, encoded}
 use Rattle.words.specs.Inverse.{TakenBack, taken, frozenOne, takenBack}
-use Rattle.code.specs.declared.Refusal.the-variants.{Parameters, InputLength, OutputLength, Entry, NotAWord, OutOfVisits, Tied, Torn, Pad}
+use Rattle.code.specs.RefusalLaws.{refusal-only, number-above, carries-none}
 use Rattle.encode.specs.declared.Encoded.{Encoded}
 use Rattle.encode.specs.declared.Encoded.the-variants.{Done, Refused}
 use Rattle.encode.specs.Outcome.{Outcome, numberIn, placeIn, told, done, encoding, inverting, takingBack}
 use Rattle.encode.specs.OutcomeLaws.{tested-small}
 
--- the answer of a number below 6 and a place
-abbrev answerOf : ℕ → ℕ → Encoded
-answerOf zero place = Done
-answerOf (suc zero) place = Refused Parameters
-answerOf (suc (suc zero)) place = Refused InputLength
-answerOf (suc (suc (suc zero))) place = Refused OutputLength
-answerOf (suc (suc (suc (suc zero)))) place = Refused (Entry place)
-answerOf (suc (suc (suc (suc (suc n))))) place = Refused (NotAWord place)
+-- what is told tells every answer apart whose number is below 6
+answer-only : (a b : Encoded) → numberIn a < 6 → numberIn a ≡ numberIn b → placeIn a ≡ placeIn b → a ≡ b
+answer-only Done Done h e f = refl
+answer-only Done (Refused why) h e f = absurd (omega (arith, number-above why))
+answer-only (Refused why) Done h e f = absurd (omega (arith, number-above why))
+answer-only (Refused why) (Refused why′) h e f =
+    let none = carries-none why (λ k. omega arith) (λ k. omega arith) in
+    let none′ = carries-none why′ (λ k. omega arith) (λ k. omega arith) in
+    ap Refused (refusal-only why why′ e f (none .0 ∙ sym (none′ .0)) (none .1 ∙ sym (none′ .1)))
 
-answer-is : (a : Encoded) → numberIn a < 6 → answerOf (numberIn a) (placeIn a) ≡ a
-answer-is Done h = refl
-answer-is (Refused Parameters) h = refl
-answer-is (Refused InputLength) h = refl
-answer-is (Refused OutputLength) h = refl
-answer-is (Refused (Entry place)) h = refl
-answer-is (Refused (NotAWord index)) h = refl
-answer-is (Refused (OutOfVisits allowed)) h = absurd (omega arith)
-answer-is (Refused (Tied penalty visits)) h = absurd (omega arith)
-answer-is (Refused Torn) h = absurd (omega arith)
-answer-is (Refused Pad) h = absurd (omega arith)
-
-module _ (o : Outcome) (small : o .number < 6) where
-  is-answer : (a : Encoded) (x : List ℕ) → told a x ≡ o → answerOf (o .number) (o .place) ≡ a
-  is-answer a x e =
-      ap (λ (p : Outcome). answerOf (p .number) (p .place)) (sym e) ∙ answer-is a (omega (arith, ap (λ (p : Outcome). p .number) e))
-
-  only : (a b : Encoded) (x y : List ℕ) → told a x ≡ o → told b y ≡ o → (a ≡ b) × (x ≡ y)
-  only a b x y e f = (sym (is-answer a x e) ∙ is-answer b y f, ap (λ (p : Outcome). p .buffer) (e ∙ sym f))
+only : (o : Outcome) → o .number < 6 → (a b : Encoded) (x y : List ℕ) → told a x ≡ o → told b y ≡ o → (a ≡ b) × (x ≡ y)
+only o small a b x y e f =
+    let same : told a x ≡ told b y = e ∙ sym f in
+    let less : numberIn a < 6 = omega (arith, ap (λ (p : Outcome). p .number) e) in
+    (answer-only a b less (ap (λ (p : Outcome). p .number) same) (ap (λ (p : Outcome). p .place) same), ap (λ (p : Outcome). p .buffer) same)
 
 -- every outcome has such a number
 taking-small : (t : TakenBack) (bits : List ℕ) → takingBack t bits .number < 6

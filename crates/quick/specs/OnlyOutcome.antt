@@ -1,39 +1,27 @@
 -- No second answer and no second pair of buffers meet the promise of `quick`.
 use mathlib.Core.Path.{_≡_, refl, ap, sym, _∙_}
 use mathlib.Core.List.{List}
-use Prim.Native.Nat.{ℕ, zero, suc, _<_}
+use Prim.Native.Nat.{ℕ, _<_}
 use native.Mathlib.Omega.{arith}
 use lib.IntN.{ℤ}
 use lib.ListN.{length}
-use Rattle.code.specs.declared.Refusal.the-variants.{Parameters, InputLength, OutputLength, Entry, NotAWord, OutOfVisits, Tied, Torn, Pad}
+use Rattle.code.specs.RefusalLaws.{refusal-only, number-above, carries-none}
 use Rattle.code.specs.AdmittedLaws.{allows, refuses, decided}
 use Rattle.quick.specs.declared.Read.{Read}
 use Rattle.quick.specs.declared.Read.the-variants.{Done, Refused}
 use Rattle.quick.specs.Outcome.{Outcome, told, readingBy, reading}
 use Rattle.quick.specs.OutcomeLaws.{reading-refused, reading-done}
 
--- the answer of a number below 5, a place and a penalty
-abbrev answerOf : ℕ → ℕ → ℕ → Read
-answerOf zero place penalty = Done penalty
-answerOf (suc zero) place penalty = Refused Parameters
-answerOf (suc (suc zero)) place penalty = Refused InputLength
-answerOf (suc (suc (suc zero))) place penalty = Refused OutputLength
-answerOf (suc (suc (suc (suc n)))) place penalty = Refused (Entry place)
-
-abbrev answerIn : Outcome → Read
-answerIn o = answerOf (o .number) (o .place) (o .penalty)
-
-answer-is : (a : Read) (x y : List ℕ) → told a x y .number < 5 → answerIn (told a x y) ≡ a
-answer-is (Done penalty) x y h = refl
-answer-is (Refused Parameters) x y h = refl
-answer-is (Refused InputLength) x y h = refl
-answer-is (Refused OutputLength) x y h = refl
-answer-is (Refused (Entry place)) x y h = refl
-answer-is (Refused (NotAWord index)) x y h = absurd (omega arith)
-answer-is (Refused (OutOfVisits allowed)) x y h = absurd (omega arith)
-answer-is (Refused (Tied penalty visits)) x y h = absurd (omega arith)
-answer-is (Refused Torn) x y h = absurd (omega arith)
-answer-is (Refused Pad) x y h = absurd (omega arith)
+-- what is told tells every answer apart whose number is below 5
+answer-only : (a b : Read) (x y v w : List ℕ) → told a x y .number < 5 → told a x y ≡ told b v w → a ≡ b
+answer-only (Done penalty) (Done penalty′) x y v w h e = ap Done (ap (λ (o : Outcome). o .penalty) e)
+answer-only (Done penalty) (Refused why) x y v w h e = absurd (omega (arith, number-above why, ap (λ (o : Outcome). o .number) e))
+answer-only (Refused why) (Done penalty) x y v w h e = absurd (omega (arith, number-above why, ap (λ (o : Outcome). o .number) e))
+answer-only (Refused why) (Refused why′) x y v w h e =
+    let same = ap (λ (o : Outcome). o .number) e in
+    let none = carries-none why (λ k. omega arith) (λ k. omega arith) in
+    let none′ = carries-none why′ (λ k. omega arith) (λ k. omega arith) in
+    ap Refused (refusal-only why why′ same (ap (λ (o : Outcome). o .place) e) (none .0 ∙ sym (none′ .0)) (none .1 ∙ sym (none′ .1)))
 
 bits-told : (a : Read) (x y : List ℕ) → told a x y .bits ≡ x
 bits-told (Done penalty) x y = refl
@@ -51,13 +39,10 @@ module _ (r m : ℕ) (l : List ℤ) (bits word : List ℕ) where
         | refuses why e h ↦ rw (← reading-refused r m l bits word why e) h
       ]
 
-  is-answer : (a : Read) (x y : List ℕ) → told a x y ≡ reading r m l bits word → answerIn (reading r m l bits word) ≡ a
-  is-answer a x y e = ap answerIn (sym e) ∙ answer-is a x y (rw e number-small)
-
   pub quick-only : (a b : Read) (x y v w : List ℕ) → told a x y ≡ reading r m l bits word → told b v w ≡ reading r m l bits word → (a ≡ b) × (x ≡ v) × (y ≡ w)
   quick-only a b x y v w e f =
-      let same = e ∙ sym f in (
-        sym (is-answer a x y e) ∙ is-answer b v w f,
+      let same : told a x y ≡ told b v w = e ∙ sym f in (
+        answer-only a b x y v w (rw e number-small) same,
         sym (bits-told a x y) ∙ ap (λ (o : Outcome). o .bits) same ∙ bits-told b v w,
         sym (word-told a x y) ∙ ap (λ (o : Outcome). o .word) same ∙ word-told b v w,
       )

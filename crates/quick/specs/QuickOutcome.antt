@@ -13,9 +13,7 @@ use Rattle.decoding.specs.Best.{leastPenalty}
 use Rattle.decoding.specs.Quick.{quickPenalty}
 use Rattle.decoding.specs.QuickLaws.{encoded-quick, quick-word, quick-least}
 use Rattle.code.specs.declared.Code.{Code}
-use Rattle.code.specs.declared.Refusal.{Refusal}
-use Rattle.code.specs.declared.Refusal.the-variants.{Parameters, InputLength, OutputLength, Entry, NotAWord, OutOfVisits, Tied, Torn, Pad}
-use Rattle.code.specs.Sound.{numberOf, penaltyOf}
+use Rattle.code.specs.RefusalLaws.{number-above, carries-none}
 use Rattle.code.specs.AdmittedLaws.{Allows, allows, refuses, decided, all-allowed}
 use Rattle.quick.specs.Outcome.{Outcome, readingBy, reading}
 use Rattle.quick.specs.OutcomeLaws.{reading-refused, reading-done}
@@ -43,28 +41,6 @@ done-by r m l =
       not-below = quick-least m ks l (length-kinds r m) (bits-kinds r m);
     }
 
-first-penalty : (why : Refusal) → numberOf why < 5 → penaltyOf why ≡ 0
-first-penalty Parameters h = refl
-first-penalty InputLength h = refl
-first-penalty OutputLength h = refl
-first-penalty (Entry place) h = refl
-first-penalty (NotAWord index) h = refl
-first-penalty (OutOfVisits allowed) h = refl
-first-penalty (Tied penalty visits) h = absurd (omega arith)
-first-penalty Torn h = refl
-first-penalty Pad h = refl
-
-above-zero : (why : Refusal) → 0 < numberOf why
-above-zero Parameters = omega arith
-above-zero InputLength = omega arith
-above-zero OutputLength = omega arith
-above-zero (Entry place) = omega arith
-above-zero (NotAWord index) = omega arith
-above-zero (OutOfVisits allowed) = omega arith
-above-zero (Tied penalty visits) = omega arith
-above-zero Torn = omega arith
-above-zero Pad = omega arith
-
 module _ (r m : ℕ) (l : List ℤ) (bits word : List ℕ) where
   -- done exactly if none of the tests applies
   pub quick-done : reading r m l bits word .number ≡ 0
@@ -72,7 +48,7 @@ module _ (r m : ℕ) (l : List ℤ) (bits word : List ℕ) where
   quick-done z =
       elim (decided r m l (length bits) (length word)) [
         | allows c e a ↦ (rw (a .code .same) at a, rw (← reading-done r m l bits word c (readingBy c l) e refl, a .code .same) (done-by r m l))
-        | refuses why e h ↦ absurd (omega (arith, above-zero why, ap (λ (o : Outcome). o .number) (reading-refused r m l bits word why e)))
+        | refuses why e h ↦ absurd (omega (arith, number-above why, ap (λ (o : Outcome). o .number) (reading-refused r m l bits word why e)))
       ]
 
   pub quick-answers : (c : Code) → Allows r m l (length bits) (length word) c → reading r m l bits word .number ≡ 0
@@ -85,5 +61,5 @@ module _ (r m : ℕ) (l : List ℤ) (bits word : List ℕ) where
       elim (decided r m l (length bits) (length word)) [
         | allows c e a ↦ absurd (omega (arith, ap (λ (o : Outcome). o .number) (reading-done r m l bits word c (readingBy c l) e refl)))
         | refuses why e h ↦ rw (← reading-refused r m l bits word why e)
-            (record { first-tests = h; no-penalty = first-penalty why h; kept-bits = refl; kept-word = refl })
+            (record { first-tests = h; no-penalty = carries-none why (λ k. omega arith) (λ k. omega arith) .0; kept-bits = refl; kept-word = refl })
       ]
