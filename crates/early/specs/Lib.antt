@@ -5,3 +5,6 @@ pub mod Work
 pub mod OutcomeLaws
 pub mod OnlyOutcome
 pub mod TestedLaws
+-- What C-15 asks, and that it is met
+pub mod Demands
+pub mod DemandsMet

@@ -3,8 +3,10 @@ use mathlib.Core.Path.{_≡_, refl, ap, sym, _∙_}
 use mathlib.Core.Bool.{true, false}
 use mathlib.Core.List.{List}
 use Prim.Native.Nat.{ℕ}
+use native.Mathlib.Omega.{arith}
 use lib.IntN.{ℤ}
 use lib.ListN.{length}
+use borrow.Author.Tests.{ne-eqb}
 use Rattle.words.specs.Kinds.{kinds}
 use Rattle.decoding.specs.Answer.{answer}
 use Rattle.decoding.specs.Quick.{quickWord}
@@ -12,8 +14,9 @@ use Rattle.sure.specs.Test.{tested}
 use Rattle.quick.specs.Outcome as Quick
 use Rattle.code.specs.declared.Code.{Code}
 use Rattle.code.specs.declared.Refusal.{Refusal}
-use Rattle.code.specs.declared.Refusal.the-variants.{Parameters, InputLength, OutputLength, Entry, NotAWord, OutOfVisits, Tied, Torn, Pad}
 use Rattle.code.specs.declared.Admitted.the-variants as admission
+use Rattle.code.specs.Sound.{numberOf}
+use Rattle.code.specs.RefusalLaws.{number-above}
 use Rattle.code.specs.Admitted.{admitted}
 use Rattle.search.specs.declared.Searched.{Searched}
 use Rattle.search.specs.declared.Searched.the-variants as search
@@ -34,15 +37,7 @@ shortened-again (Refused why) = refl
 
 -- a refusal is told whole
 refusal-whole : (why : Refusal) (bits word : List ℕ) → refused why bits word ≡ wordOnly (refused why bits word)
-refusal-whole Parameters bits word = refl
-refusal-whole InputLength bits word = refl
-refusal-whole OutputLength bits word = refl
-refusal-whole (Entry place) bits word = refl
-refusal-whole (NotAWord index) bits word = refl
-refusal-whole (OutOfVisits allowed) bits word = refl
-refusal-whole (Tied penalty visits) bits word = refl
-refusal-whole Torn bits word = refl
-refusal-whole Pad bits word = refl
+refusal-whole why bits word = rw (ne-eqb (numberOf why) 0 (λ e. omega (arith, number-above why, e)))
 
 pub shortened-told : (a : Searched) (bits word : List ℕ) → told (shortened a) bits word ≡ wordOnly (Search.told a bits word)
 shortened-told (search.Found penalty gap visits) bits word = refl
