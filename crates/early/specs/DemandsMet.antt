@@ -1,8 +1,8 @@
 -- What C-15 asks of the call is met.
 use mathlib.Core.Path.{_≡_, refl, ap, sym, _∙_}
-use mathlib.Core.Logic.{⊎-elim}
+use mathlib.Core.Logic.{_⊎_, ⊎-elim, inl, inr}
 use mathlib.Core.Bool.{Bool, true, false, cond}
-use mathlib.Core.List.{List}
+use mathlib.Core.List.{List, []}
 use Prim.Native.Nat.{ℕ, _^_, _≤_, _<_}
 use native.Mathlib.Omega.{arith}
 use native.Mathlib.Nat.{le-refl}
@@ -17,7 +17,7 @@ use Rattle.words.specs.KindLaws.{sum-kinds-pos}
 use Rattle.decoding.specs.Readings.{turns}
 use Rattle.decoding.specs.Quick.{quickWord, quickBits, quickPenalty}
 use Rattle.decoding.specs.Best.{leastPenalty, gap, bestBits, bestWord}
-use Rattle.decoding.specs.Walk.{needed, tree}
+use Rattle.decoding.specs.Walk.{start, needed, tree, NeverZero}
 use Rattle.decoding.specs.Answer.{Answer, found, tied, outOfVisits, answer}
 use Rattle.decoding.specs.AnswerLaws.{answer-out, answer-tied, answer-found}
 use Rattle.decoding.specs.Demands.{BestFound}
@@ -32,7 +32,7 @@ use Rattle.code.specs.AdmittedLaws.{allows, refuses, decided, all-allowed}
 use Rattle.code.specs.RefusalLaws.{number-above}
 use Rattle.search.specs.Outcome.{Outcome, foundWith, answered, searching}
 use Rattle.search.specs.OutcomeLaws.{searching-refused, searching-answered}
-use Rattle.search.specs.Demands.{Admitted, PlusWord}
+use Rattle.search.specs.Demands.{Admitted, PlusWord, OutcomeDemand3}
 use Rattle.search.specs.DemandsMet.{admitted-answered, outcome-demands}
 use Rattle.early.specs.Outcome.{wordOnly, answeredBy, answering}
 use Rattle.early.specs.OutcomeLaws.{answering-refused, answering-sound}
@@ -130,3 +130,122 @@ early-answer r m allowed l bits word =
             not-passed = λ j. absurd (omega (arith, k, j));
           })
     ]
+
+-- ---- demand 3
+only-plus : (b c : List ℕ) (o o′ : Outcome) → PlusWord b c o o′ → PlusWord b c (wordOnly o) (wordOnly o′)
+only-plus b c o o′ p =
+    elim (ℕ-discrete (o .number) 0) [
+      | yes e ↦ rw (eq-eqb (o .number) 0 e, eq-eqb (o′ .number) 0 (p .same-number ∙ e))
+          (record {
+            same-number = refl;
+            same-penalty = p .same-penalty;
+            same-gap = refl;
+            bits-added = λ z. p .bits-added e;
+            word-added = λ z. p .word-added e;
+          })
+      | no f ↦ rw (ne-eqb (o .number) 0 f, ne-eqb (o′ .number) 0 (λ e. f (sym (p .same-number) ∙ e))) p
+    ]
+
+only-visits : (o o′ : Outcome) → o′ .number ≡ o .number → o′ .visits ≡ o .visits → wordOnly o′ .visits ≡ wordOnly o .visits
+only-visits o o′ n v =
+    elim (ℕ-discrete (o .number) 0) [
+      | yes e ↦ rw (eq-eqb (o .number) 0 e, eq-eqb (o′ .number) 0 (n ∙ e))
+      | no f ↦ rw (ne-eqb (o .number) 0 f, ne-eqb (o′ .number) 0 (λ e. f (sym n ∙ e))) v
+    ]
+
+true-or-false : (b : Bool) → (b ≡ true) ⊎ (b ≡ false)
+true-or-false true = inl refl
+true-or-false false = inr refl
+
+-- the outcome where the test passes, and where it does not
+module _ {r m : ℕ} {l : List ℤ} {bits word : List ℕ} (x : Admitted r m l bits word) (allowed : ℕ) where
+  sound-is : answering r m allowed l bits word ≡ answeredBy (record { r = r; m = m }) allowed l bits word
+  sound-is =
+      let c : Code = record { r = r; m = m } in
+      let made : MadeOf r m c = record { same = refl; sound = record { r-small = x .r-small; m-small = x .m-small } } in
+      answering-sound r m allowed l bits word c
+      (all-allowed r m l (length bits) (length word) c (record { code = made; long = x .long; bits = x .long-bits; word = x .long-word; within = x .within }))
+
+  passed-is : passes r m (kinds r m) l ≡ true
+      → answering r m allowed l bits word ≡ foundWith (quickPenalty m (kinds r m) l) 0 0 (quickBits m (kinds r m) l) (quickWord m (kinds r m) l)
+  passed-is e = rw (sound-is, e)
+
+  failed-is : passes r m (kinds r m) l ≡ false → answering r m allowed l bits word ≡ wordOnly (searching r m allowed l bits word)
+  failed-is e = rw (sound-is, e, admitted-answered x allowed)
+
+module _ {r m : ℕ} {l : List ℤ} {bits word : List ℕ} (x : Admitted r m l bits word) (c : List ℕ) (w : Word m (kinds r m) c) (bits′ word′ : List ℕ)
+    (e : length bits′ ≡ dimension r m) (f : length word′ ≡ 2 ^ m) where
+  abbrev turned : List ℤ
+  turned = turns c l
+
+  abbrev of-code : List ℕ
+  of-code = kinds r m
+
+  searches : OutcomeDemand3 r m l (w .bits) c bits word bits′ word′
+  searches = outcome-demands x .demand-3 c w bits′ word′ e f
+
+  same-test : passes r m of-code turned ≡ passes r m of-code l
+  same-test = passes-turned r m of-code (x .r-small) (inside-code r m) l (x .long) c w
+
+  both-at-once : passes r m of-code l ≡ true → (allowed allowed′ : ℕ)
+      → PlusWord (w .bits) c (answering r m allowed l bits word) (answering r m allowed′ turned bits′ word′)
+  both-at-once p allowed allowed′ =
+      let q = same-test ∙ p in
+      let inside = inside-code r m in
+      rw (passed-is x allowed p, passed-is (searches .admitted) allowed′ q)
+      (record {
+        same-number = refl;
+        same-penalty = quickPenalty-turned r m of-code (x .r-small) inside l (x .long) c w p;
+        same-gap = refl;
+        bits-added = λ z. quickBits-turned r m of-code (x .r-small) inside l (x .long) c w p;
+        word-added = λ z. quickWord-turned r m of-code (x .r-small) inside l (x .long) c w p;
+      })
+
+  -- where the test does not pass: as the search, of which on success only the word is given
+  module _ (p : passes r m of-code l ≡ false) where
+    first-is : (allowed : ℕ) → answering r m allowed l bits word ≡ wordOnly (searching r m allowed l bits word)
+    first-is allowed = failed-is x allowed p
+
+    second-is : (allowed : ℕ) → answering r m allowed turned bits′ word′ ≡ wordOnly (searching r m allowed turned bits′ word′)
+    second-is allowed = failed-is (searches .admitted) allowed (same-test ∙ p)
+
+    not-six : (o s : Outcome) → o ≡ wordOnly s → (o .number ≡ 6 → ⊥) → s .number ≡ 6 → ⊥
+    not-six o s is n z = n (ap (λ (t : Outcome). t .number) is ∙ only-number s ∙ z)
+
+    both-searched : (allowed allowed′ : ℕ)
+        → (answering r m allowed l bits word .number ≡ 6 → ⊥) → (answering r m allowed′ turned bits′ word′ .number ≡ 6 → ⊥)
+        → PlusWord (w .bits) c (answering r m allowed l bits word) (answering r m allowed′ turned bits′ word′)
+    both-searched allowed allowed′ g k =
+        let s = searching r m allowed l bits word in
+        let s′ = searching r m allowed′ turned bits′ word′ in
+        let n = not-six (answering r m allowed l bits word) s (first-is allowed) g in
+        let n′ = not-six (answering r m allowed′ turned bits′ word′) s′ (second-is allowed′) k in
+        rw (first-is allowed, second-is allowed′) (only-plus (w .bits) c s s′ (searches .together allowed allowed′ n n′))
+
+    same-searched : NeverZero m l of-code [] 0 start → (allowed : ℕ)
+        → PlusWord (w .bits) c (answering r m allowed l bits word) (answering r m allowed turned bits′ word′)
+        × (answering r m allowed turned bits′ word′ .visits ≡ answering r m allowed l bits word .visits)
+    same-searched never allowed =
+        let s = searching r m allowed l bits word in
+        let s′ = searching r m allowed turned bits′ word′ in
+        let same = searches .same-search never allowed in
+        rw (first-is allowed, second-is allowed)
+        (only-plus (w .bits) c s s′ (same .0), only-visits s s′ (same .0 .same-number) (same .1))
+
+  pub early-demand-3 : EarlyDemand3 r m l (w .bits) c bits word bits′ word′
+  early-demand-3 =
+      record {
+        admitted = searches .admitted;
+        same-way = same-test;
+        at-once = both-at-once;
+        together = λ allowed allowed′ g k.
+            ⊎-elim (λ p. both-at-once p allowed allowed′) (λ p. both-searched p allowed allowed′ g k) (true-or-false (passes r m of-code l));
+        same-answer = λ never allowed.
+            ⊎-elim
+            (λ p.
+            let visits : answering r m allowed turned bits′ word′ .visits ≡ answering r m allowed l bits word .visits =
+            rw (passed-is x allowed p, passed-is (searches .admitted) allowed (same-test ∙ p)) in
+            (both-at-once p allowed allowed, visits))
+            (λ p. same-searched p never allowed)
+            (true-or-false (passes r m of-code l));
+      }
