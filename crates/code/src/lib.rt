@@ -6,7 +6,7 @@ ghost use lib.ListN.{length};
 ghost use lib.IntN.{natAbs};
 ghost use lib.Dec.{ltb};
 ghost use Rattle.words.specs.Kinds.{kind, kinds, dimension};
-ghost use Rattle.code.specs.Sound.{Sound, largestReading, made, numberOf, placeOf, penaltyOf, visitsOf};
+ghost use Rattle.code.specs.Sound.{Sound, largestReading, made, carried};
 ghost use Rattle.code.specs.Entries.{firstBadBit, firstBadReading};
 ghost use Rattle.code.specs.Admitted.{admitted};
 
@@ -185,7 +185,7 @@ pub fn admit(r: u32, m: u32, readings: &[i16], bits: usize, word: usize) -> Admi
 impl Refusal {
     // The rules' number.
     pub fn number(self) -> u32
-        ensures { λ r. ⌜ r ≡ numberOf self ⌝ }
+        ensures { λ r. ⌜ r ≡ carried self .number ⌝ }
     {
         match self {
             Refusal::Parameters => 1,
@@ -206,7 +206,7 @@ impl Refusal {
 
     // The place that 4 and 5 carry, else 0.
     pub fn place(self) -> usize
-        ensures { λ r. ⌜ r ≡ placeOf self ⌝ }
+        ensures { λ r. ⌜ r ≡ carried self .place ⌝ }
     {
         match self {
             Refusal::Entry(place) => place,
@@ -227,7 +227,7 @@ impl Refusal {
 
     // The least penalty under 7, else 0.
     pub fn penalty(self) -> u32
-        ensures { λ r. ⌜ r ≡ penaltyOf self ⌝ }
+        ensures { λ r. ⌜ r ≡ carried self .penalty ⌝ }
     {
         match self {
             Refusal::Tied { penalty, visits: _ } => penalty,
@@ -245,7 +245,7 @@ impl Refusal {
 
     // The allowance under 6, the walk's visits under 7, else 0.
     pub fn visits(self) -> u32
-        ensures { λ r. ⌜ r ≡ visitsOf self ⌝ }
+        ensures { λ r. ⌜ r ≡ carried self .visits ⌝ }
     {
         match self {
             Refusal::OutOfVisits(allowed) => allowed,

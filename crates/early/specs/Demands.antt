@@ -11,7 +11,7 @@ use Rattle.decoding.specs.Walk.{start, NeverZero}
 use Rattle.decoding.specs.Demands.{BestFound}
 use Rattle.sure.specs.Test.{passes}
 use Rattle.search.specs.Outcome.{Outcome}
-use Rattle.search.specs.Demands.{Admitted, PlusWord}
+use Rattle.search.specs.Demands.{SoundSearch, PlusWord}
 use Rattle.early.specs.Outcome.{wordOnly, answering}
 
 -- o is the outcome of the call, s that of the search for the same arguments, whatever they are
@@ -27,7 +27,7 @@ pub record EarlyAnswer (r m : ℕ) (l : List ℤ) (o s : Outcome) : Type 0 where
 
 -- Demand 3 of the call: readings negated where the word c, of the bits b, has 1; the second call may have other buffers
 pub record EarlyDemand3 (r m : ℕ) (l : List ℤ) (b c bits word bits′ word′ : List ℕ) : Type 0 where
-  pub admitted : Admitted r m (turns c l) bits′ word′
+  pub sound : SoundSearch r m (turns c l) bits′ word′
   -- both answer at once, or neither does
   pub same-way : passes r m (kinds r m) (turns c l) ≡ passes r m (kinds r m) l
   -- at once, under any two allowances

@@ -26,15 +26,14 @@ use Rattle.sure.specs.Sure.{largest, SurelyRight}
 use Rattle.sure.specs.Test.{passes}
 use Rattle.sure.specs.SureLaws.{inside-code}
 use Rattle.sure.specs.TestLaws.{passes-right, passes-turned, quickWord-turned, quickBits-turned, quickPenalty-turned}
-use Rattle.code.specs.declared.Code.{Code}
-use Rattle.code.specs.SoundLaws.{MadeOf}
-use Rattle.code.specs.AdmittedLaws.{allows, refuses, decided, all-allowed}
+use Rattle.code.specs.Sound.{rm}
+use Rattle.code.specs.AdmittedLaws.{allows, refuses, decided, sound-allowed}
 use Rattle.code.specs.RefusalLaws.{number-above}
-use Rattle.search.specs.Outcome.{Outcome, foundWith, answered, searching}
+use Rattle.search.specs.Outcome.{Outcome, foundWith, byAnswer, searching}
 use Rattle.search.specs.OutcomeLaws.{searching-refused, searching-answered}
-use Rattle.search.specs.Demands.{Admitted, PlusWord, OutcomeDemand3}
-use Rattle.search.specs.DemandsMet.{admitted-answered, outcome-demands}
-use Rattle.early.specs.Outcome.{wordOnly, answeredBy, answering}
+use Rattle.search.specs.Demands.{SoundSearch, PlusWord, OutcomeDemand3}
+use Rattle.search.specs.DemandsMet.{sound-answered, outcome-demands}
+use Rattle.early.specs.Outcome.{wordOnly, earlyBy, answering}
 use Rattle.early.specs.OutcomeLaws.{answering-refused, answering-sound}
 use Rattle.early.specs.Demands.{EarlyAnswer, EarlyDemand3}
 
@@ -70,7 +69,7 @@ module _ (r m allowed : ℕ) (l : List ℤ) (bits word : List ℕ) (h : r ≤ m)
   ks = kinds r m
 
   abbrev searched : Outcome
-  searched = answered allowed bits word (answer m ks l allowed)
+  searched = byAnswer allowed bits word (answer m ks l allowed)
 
   right : passes r m ks l ≡ true → SurelyRight (largest l) r m ks l (quickWord m ks l) (quickBits m ks l)
   right e = passes-right r m ks h (inside-code r m) l long e
@@ -87,8 +86,8 @@ module _ (r m allowed : ℕ) (l : List ℤ) (bits word : List ℕ) (h : r ≤ m)
   unfolding quickPenalty
   quick-as-search e =
       by-answer m ks l allowed
-      (λ (a : Answer). answered allowed bits word a .number ≡ 0
-      → foundWith (quickPenalty m ks l) 0 0 (quickBits m ks l) (quickWord m ks l) ≡ wordOnly (answered allowed bits word a))
+      (λ (a : Answer). byAnswer allowed bits word a .number ≡ 0
+      → foundWith (quickPenalty m ks l) 0 0 (quickBits m ks l) (quickWord m ks l) ≡ wordOnly (byAnswer allowed bits word a))
       (λ z. absurd (omega arith))
       (λ z. absurd (omega arith))
       (λ k g z. rw (right e .best-bits, right e .best-word, right e .least-penalty))
@@ -98,12 +97,12 @@ module _ (r m allowed : ℕ) (l : List ℤ) (bits word : List ℕ) (h : r ≤ m)
       → BestFound m ks l (wordOnly searched .bits) (wordOnly searched .word) (wordOnly searched .penalty) (gap m ks l)
   search-best =
       by-answer m ks l allowed
-      (λ (a : Answer). let o = wordOnly (answered allowed bits word a) in o .number ≡ 0 → BestFound m ks l (o .bits) (o .word) (o .penalty) (gap m ks l))
+      (λ (a : Answer). let o = wordOnly (byAnswer allowed bits word a) in o .number ≡ 0 → BestFound m ks l (o .bits) (o .word) (o .penalty) (gap m ks l))
       (λ z. absurd (omega arith))
       (λ z. absurd (omega arith))
       (λ k g z. demands-code r m l long .demand-2 allowed _ .0 (answer-found m ks l allowed k g) .1)
 
-  sound-answer : EarlyAnswer r m l (answeredBy (record { r = r; m = m }) allowed l bits word) searched
+  sound-answer : EarlyAnswer r m l (earlyBy (rm r m) allowed l bits word) searched
   sound-answer =
       cond-by (λ (o : Outcome). EarlyAnswer r m l o searched) (passes r m ks l) _ _
       (λ e.
@@ -120,8 +119,8 @@ pub early-answer : (r m allowed : ℕ) (l : List ℤ) (bits word : List ℕ)
     → EarlyAnswer r m l (answering r m allowed l bits word) (searching r m allowed l bits word)
 early-answer r m allowed l bits word =
     elim (decided r m l (length bits) (length word)) [
-      | allows c e a ↦ rw (answering-sound r m allowed l bits word c e, searching-answered r m allowed l bits word c e, a .code .same)
-          (sound-answer r m allowed l bits word (rw (a .code .same) at (a .code .sound .r-small)) (rw (a .code .same) at (a .long)))
+      | allows c e is a ↦ rw (answering-sound r m allowed l bits word c e, searching-answered r m allowed l bits word c e, is)
+          (sound-answer r m allowed l bits word (rw is at (a .sound .r-small)) (rw is at (a .entries .long)))
       | refuses why e k ↦ rw (answering-refused r m allowed l bits word why e, searching-refused r m allowed l bits word why e)
           (record {
             best = λ z. absurd (omega (arith, number-above why, z));
@@ -158,22 +157,18 @@ true-or-false true = inl refl
 true-or-false false = inr refl
 
 -- the outcome where the test passes, and where it does not
-module _ {r m : ℕ} {l : List ℤ} {bits word : List ℕ} (x : Admitted r m l bits word) (allowed : ℕ) where
-  sound-is : answering r m allowed l bits word ≡ answeredBy (record { r = r; m = m }) allowed l bits word
-  sound-is =
-      let c : Code = record { r = r; m = m } in
-      let made : MadeOf r m c = record { same = refl; sound = record { r-small = x .r-small; m-small = x .m-small } } in
-      answering-sound r m allowed l bits word c
-      (all-allowed r m l (length bits) (length word) c (record { code = made; long = x .long; bits = x .long-bits; word = x .long-word; within = x .within }))
+module _ {r m : ℕ} {l : List ℤ} (bits word : List ℕ) (x : SoundSearch r m l bits word) (allowed : ℕ) where
+  sound-is : answering r m allowed l bits word ≡ earlyBy (rm r m) allowed l bits word
+  sound-is = answering-sound r m allowed l bits word (rm r m) (sound-allowed r m l (length bits) (length word) x)
 
   passed-is : passes r m (kinds r m) l ≡ true
       → answering r m allowed l bits word ≡ foundWith (quickPenalty m (kinds r m) l) 0 0 (quickBits m (kinds r m) l) (quickWord m (kinds r m) l)
   passed-is e = rw (sound-is, e)
 
   failed-is : passes r m (kinds r m) l ≡ false → answering r m allowed l bits word ≡ wordOnly (searching r m allowed l bits word)
-  failed-is e = rw (sound-is, e, admitted-answered x allowed)
+  failed-is e = rw (sound-is, e, sound-answered bits word x allowed)
 
-module _ {r m : ℕ} {l : List ℤ} {bits word : List ℕ} (x : Admitted r m l bits word) (c : List ℕ) (w : Word m (kinds r m) c) (bits′ word′ : List ℕ)
+module _ {r m : ℕ} {l : List ℤ} (bits word : List ℕ) (x : SoundSearch r m l bits word) (c : List ℕ) (w : Word m (kinds r m) c) (bits′ word′ : List ℕ)
     (e : length bits′ ≡ dimension r m) (f : length word′ ≡ 2 ^ m) where
   abbrev turned : List ℤ
   turned = turns c l
@@ -182,32 +177,32 @@ module _ {r m : ℕ} {l : List ℤ} {bits word : List ℕ} (x : Admitted r m l b
   of-code = kinds r m
 
   searches : OutcomeDemand3 r m l (w .bits) c bits word bits′ word′
-  searches = outcome-demands x .demand-3 c w bits′ word′ e f
+  searches = outcome-demands bits word x .demand-3 c w bits′ word′ e f
 
   same-test : passes r m of-code turned ≡ passes r m of-code l
-  same-test = passes-turned r m of-code (x .r-small) (inside-code r m) l (x .long) c w
+  same-test = passes-turned r m of-code (x .sound .r-small) (inside-code r m) l (x .entries .long) c w
 
   both-at-once : passes r m of-code l ≡ true → (allowed allowed′ : ℕ)
       → PlusWord (w .bits) c (answering r m allowed l bits word) (answering r m allowed′ turned bits′ word′)
   both-at-once p allowed allowed′ =
       let q = same-test ∙ p in
       let inside = inside-code r m in
-      rw (passed-is x allowed p, passed-is (searches .admitted) allowed′ q)
+      rw (passed-is bits word x allowed p, passed-is bits′ word′ (searches .sound) allowed′ q)
       (record {
         same-number = refl;
-        same-penalty = quickPenalty-turned r m of-code (x .r-small) inside l (x .long) c w p;
+        same-penalty = quickPenalty-turned r m of-code (x .sound .r-small) inside l (x .entries .long) c w p;
         same-gap = refl;
-        bits-added = λ z. quickBits-turned r m of-code (x .r-small) inside l (x .long) c w p;
-        word-added = λ z. quickWord-turned r m of-code (x .r-small) inside l (x .long) c w p;
+        bits-added = λ z. quickBits-turned r m of-code (x .sound .r-small) inside l (x .entries .long) c w p;
+        word-added = λ z. quickWord-turned r m of-code (x .sound .r-small) inside l (x .entries .long) c w p;
       })
 
   -- where the test does not pass: as the search, of which on success only the word is given
   module _ (p : passes r m of-code l ≡ false) where
     first-is : (allowed : ℕ) → answering r m allowed l bits word ≡ wordOnly (searching r m allowed l bits word)
-    first-is allowed = failed-is x allowed p
+    first-is allowed = failed-is bits word x allowed p
 
     second-is : (allowed : ℕ) → answering r m allowed turned bits′ word′ ≡ wordOnly (searching r m allowed turned bits′ word′)
-    second-is allowed = failed-is (searches .admitted) allowed (same-test ∙ p)
+    second-is allowed = failed-is bits′ word′ (searches .sound) allowed (same-test ∙ p)
 
     not-six : (o s : Outcome) → o ≡ wordOnly s → (o .number ≡ 6 → ⊥) → s .number ≡ 6 → ⊥
     not-six o s is n z = n (ap (λ (t : Outcome). t .number) is ∙ only-number s ∙ z)
@@ -235,7 +230,7 @@ module _ {r m : ℕ} {l : List ℤ} {bits word : List ℕ} (x : Admitted r m l b
   pub early-demand-3 : EarlyDemand3 r m l (w .bits) c bits word bits′ word′
   early-demand-3 =
       record {
-        admitted = searches .admitted;
+        sound = searches .sound;
         same-way = same-test;
         at-once = both-at-once;
         together = λ allowed allowed′ g k.
@@ -244,7 +239,7 @@ module _ {r m : ℕ} {l : List ℤ} {bits word : List ℕ} (x : Admitted r m l b
             ⊎-elim
             (λ p.
             let visits : answering r m allowed turned bits′ word′ .visits ≡ answering r m allowed l bits word .visits =
-            rw (passed-is x allowed p, passed-is (searches .admitted) allowed (same-test ∙ p)) in
+            rw (passed-is bits word x allowed p, passed-is bits′ word′ (searches .sound) allowed (same-test ∙ p)) in
             (both-at-once p allowed allowed, visits))
             (λ p. same-searched p never allowed)
             (true-or-false (passes r m of-code l));

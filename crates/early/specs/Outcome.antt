@@ -15,7 +15,7 @@ use Rattle.code.specs.declared.Admitted.the-variants as admission
 use Rattle.code.specs.Admitted.{admitted}
 use Rattle.search.specs.declared.Searched.{Searched}
 use Rattle.search.specs.declared.Searched.the-variants as search
-use Rattle.search.specs.Outcome.{Outcome, foundWith, refused, answered}
+use Rattle.search.specs.Outcome.{Outcome, foundWith, refused, byAnswer}
 use Rattle.search.specs.Outcome as Search
 use Rattle.early.specs.declared.Answered.{Answered}
 use Rattle.early.specs.declared.Answered.the-variants.{Best, Refused}
@@ -34,15 +34,15 @@ abbrev pub wordOnly : Outcome → Outcome
 wordOnly o = cond (eqb (o .number) 0) (foundWith (o .penalty) 0 0 (o .bits) (o .word)) o
 
 -- where tests 1 to 4 refuse nothing: the quick reading if C-14's test passes, else by the search
-abbrev pub answeredBy : Code → ℕ → List ℤ → List ℕ → List ℕ → Outcome
-answeredBy c allowed l bits word =
+abbrev pub earlyBy : Code → ℕ → List ℤ → List ℕ → List ℕ → Outcome
+earlyBy c allowed l bits word =
     let ks = kinds (c .r) (c .m) in
     cond (passes (c .r) (c .m) ks l)
     (foundWith (quickPenalty (c .m) ks l) 0 0 (quickBits (c .m) ks l) (quickWord (c .m) ks l))
-    (wordOnly (answered allowed bits word (answer (c .m) ks l allowed)))
+    (wordOnly (byAnswer allowed bits word (answer (c .m) ks l allowed)))
 
 abbrev pub afterTests : Admitted → ℕ → List ℤ → List ℕ → List ℕ → Outcome
-afterTests (admission.Allowed c) allowed l bits word = answeredBy c allowed l bits word
+afterTests (admission.Allowed c) allowed l bits word = earlyBy c allowed l bits word
 afterTests (admission.Refused why) allowed l bits word = refused why bits word
 
 -- of r, m, the allowance, the readings, and the buffers for the information bits and the word

@@ -20,11 +20,11 @@ use Rattle.code.specs.RefusalLaws.{number-above}
 use Rattle.code.specs.Admitted.{admitted}
 use Rattle.search.specs.declared.Searched.{Searched}
 use Rattle.search.specs.declared.Searched.the-variants as search
-use Rattle.search.specs.Outcome.{foundWith, refused, answered}
+use Rattle.search.specs.Outcome.{foundWith, refused, byAnswer}
 use Rattle.search.specs.Outcome as Search
 use Rattle.early.specs.declared.Answered.{Answered}
 use Rattle.early.specs.declared.Answered.the-variants.{Best, Refused}
-use Rattle.early.specs.Outcome.{asSearched, told, wordOnly, answeredBy, answering}
+use Rattle.early.specs.Outcome.{asSearched, told, wordOnly, earlyBy, answering}
 
 -- what is given of a search's answer
 abbrev pub shortened : Searched → Answered
@@ -50,7 +50,7 @@ module _ (r m allowed : ℕ) (l : List ℤ) (bits word : List ℕ) where
   answering-refused why e = rw (← e)
 
   pub answering-sound : (c : Code) → admission.Allowed c ≡ admitted r m l (length bits) (length word)
-      → answering r m allowed l bits word ≡ answeredBy c allowed l bits word
+      → answering r m allowed l bits word ≡ earlyBy c allowed l bits word
   unfolding answering
   answering-sound c e = rw (← e)
 
@@ -60,11 +60,11 @@ module _ (c : Code) (allowed : ℕ) (l : List ℤ) (bits word : List ℕ) (p : �
   word-read = ap (λ (o : Quick.Outcome). o .word) read
 
   -- its test passes, or does not
-  pub at-once : tested (c .r) (c .m) l x ≡ true → (b′ x′ : List ℕ) → b′ ≡ b → x′ ≡ x → foundWith p 0 0 b′ x′ ≡ answeredBy c allowed l bits word
+  pub at-once : tested (c .r) (c .m) l x ≡ true → (b′ x′ : List ℕ) → b′ ≡ b → x′ ≡ x → foundWith p 0 0 b′ x′ ≡ earlyBy c allowed l bits word
   at-once e b′ x′ f g =
       rw (rw word-read at e, f ∙ ap (λ (o : Quick.Outcome). o .bits) read, g ∙ word-read, ap (λ (o : Quick.Outcome). o .penalty) read)
 
   pub by-search : tested (c .r) (c .m) l x ≡ false → (a : Searched) (bits′ word′ : List ℕ)
-      → Search.told a bits′ word′ ≡ answered allowed bits word (answer (c .m) (kinds (c .r) (c .m)) l allowed)
-      → told (shortened a) bits′ word′ ≡ answeredBy c allowed l bits word
+      → Search.told a bits′ word′ ≡ byAnswer allowed bits word (answer (c .m) (kinds (c .r) (c .m)) l allowed)
+      → told (shortened a) bits′ word′ ≡ earlyBy c allowed l bits word
   by-search e a bits′ word′ f = rw (rw word-read at e) (shortened-told a bits′ word′ ∙ ap wordOnly f)

@@ -60,18 +60,18 @@ doubt-most M (r ∷ l) (b ∷ x) h = omega (arith, doubtAt-most M r b (h 0), dou
 -- ---- the test in 32 bits: no size is above the largest reading, and there are at most 256
 module _ {c : Code} {l : List ℤ} {x : List ℕ} (t : Testable c l x) where
   small-largest : largest l ≤ largestReading
-  small-largest = largest-least largestReading l (t .within)
+  small-largest = largest-least largestReading l (t .readings .within)
 
   pub summable : {M : ℕ} → M ≡ largest l → Summable M l x
   summable {M} is =
       rw is
       (record {
         within = within-largest l;
-        long = t .long-word ∙ sym (t .long);
+        long = t .long-word ∙ sym (t .readings .long);
         small = omega (arith, small-largest);
         sum-small =
             let twice : 2 * largest l ≤ 2 * largestReading = omega (arith, small-largest) in
-            omega (arith, doubt-most (largest l) l x (within-largest l), mul-le-mul-left (length l) twice, t .long, length-most (t .sound));
+            omega (arith, doubt-most (largest l) l x (within-largest l), mul-le-mul-left (length l) twice, t .readings .long, length-most (t .sound));
       })
 
   distance-small : 2 ^ (c .m - c .r) ≤ 256

@@ -7,13 +7,13 @@ use lib.ListN.{length}
 use Rattle.decoding.specs.Readings.{Within}
 use Rattle.sure.specs.Sure.{doubt}
 use Rattle.code.specs.declared.Code.{Code}
-use Rattle.code.specs.Sound.{Sound, largestReading}
+use Rattle.code.specs.Sound.{Sound}
+use Rattle.code.specs.SoundInput.{GoodReadings}
 
 -- a word can be tested: n readings, none beyond the largest, and n bits
 pub record Testable (c : Code) (l : List ℤ) (x : List ℕ) : Type 0 where
   pub sound : Sound c
-  pub long : length l ≡ 2 ^ c .m
-  pub within : Within largestReading l
+  pub readings : GoodReadings c l
   pub long-word : length x ≡ 2 ^ c .m
 
 -- the sum can be made in 32 bits

@@ -11,8 +11,8 @@ ghost use Rattle.decoding.specs.Readings.{loss};
 ghost use Rattle.sure.specs.Sure.{largest, doubtAt, doubt};
 ghost use Rattle.sure.specs.Test.{tested};
 ghost use Rattle.code.specs.Sound.{defaultAllowance};
-ghost use Rattle.search.specs.Work.{AllowsCode};
-ghost use Rattle.early.specs.Outcome.{told, answeredBy, answering};
+ghost use Rattle.code.specs.SoundInput.{SoundReadings};
+ghost use Rattle.early.specs.Outcome.{told, earlyBy, answering};
 ghost use Rattle.early.specs.OutcomeLaws.{shortened};
 ghost use Rattle.early.specs.Work.{Testable, Summable};
 
@@ -60,9 +60,9 @@ fn answer_sound(
     bits: &mut [u8],
     word: &mut [u8],
 ) -> Answered
-    requires { ⌜ AllowsCode code (now readings) (now bits) (now word) ⌝ }
+    requires { ⌜ SoundReadings code (now readings) (length (now bits)) (length (now word)) ⌝ }
     ensures { λ answer. ⌜ told answer (now (bits .exit)) (now (word .exit))
-        ≡ answeredBy code allowed (now (readings .entry))
+        ≡ earlyBy code allowed (now (readings .entry))
         (now (bits .entry)) (now (word .entry)) ⌝ }
 {
     let mut own_bits = [0u8; 256];
@@ -84,11 +84,11 @@ fn test_first(
     bits: &mut [u8],
     word: &mut [u8],
 ) -> Answered
-    requires { ⌜ AllowsCode code (now readings) (now bits) (now word)
+    requires { ⌜ SoundReadings code (now readings) (length (now bits)) (length (now word))
         × (length (now «read_bits») ≡ length (now bits))
         × (length (now «read_word») ≡ length (now word)) ⌝ }
     ensures { λ answer. ⌜ told answer (now (bits .exit)) (now (word .exit))
-        ≡ answeredBy code allowed (now (readings .entry))
+        ≡ earlyBy code allowed (now (readings .entry))
         (now (bits .entry)) (now (word .entry)) ⌝ }
 {
     let penalty = quick::take_reading(code, readings, read_bits, read_word);

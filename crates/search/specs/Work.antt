@@ -7,22 +7,13 @@ use lib.ListN.{length}
 use Rattle.numbers.specs.Sums.{sum}
 use Rattle.words.specs.Bits.{Bits}
 use Rattle.words.specs.Word.{transform}
-use Rattle.words.specs.Kinds.{pick, dimension}
-use Rattle.decoding.specs.Readings.{sizes, Within}
-use Rattle.code.specs.declared.Code.{Code}
-use Rattle.code.specs.Sound.{Sound, largestReading}
-
--- tests 1 to 4 refuse nothing
-pub record AllowsCode (c : Code) (l : List ℤ) (bits word : List ℕ) : Type 0 where
-  pub sound : Sound c
-  pub long : length l ≡ 2 ^ c .m
-  pub within : Within largestReading l
-  pub long-bits : length bits ≡ dimension (c .r) (c .m)
-  pub long-word : length word ≡ 2 ^ c .m
+use Rattle.words.specs.Kinds.{pick}
+use Rattle.decoding.specs.Readings.{sizes}
+use Rattle.code.specs.Sound.{largestM}
 
 -- the best word x can be written, and the bits of its row
 pub record Writable (m : ℕ) (ks x bits word : List ℕ) : Type 0 where
-  pub most : m ≤ 8
+  pub most : m ≤ largestM
   pub long-kinds : length ks ≡ 2 ^ m
   pub are-kinds : Bits ks
   pub long-bits : length bits ≡ sum ks
@@ -35,7 +26,7 @@ pub record Written (m : ℕ) (ks x bits word : List ℕ) : Type 0 where
 
 -- the words of a row of kinds with an information index can be searched
 pub record Searchable (m : ℕ) (l : List ℤ) (ks bits word : List ℕ) : Type 0 where
-  pub most : m ≤ 8
+  pub most : m ≤ largestM
   pub long : length l ≡ 2 ^ m
   pub small : sizes l < 2 ^ 31
   pub long-kinds : length ks ≡ 2 ^ m

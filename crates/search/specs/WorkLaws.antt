@@ -20,10 +20,11 @@ use Rattle.decoding.specs.WalkLaws.{walked-end}
 use Rattle.decoding.specs.SearchLaws.{ends-as, answer-of-out, ended-two, answer-of-walk}
 use Rattle.code.specs.declared.Code.{Code}
 use Rattle.code.specs.Sound.{largestReading}
+use Rattle.code.specs.SoundInput.{SoundReadings}
 use Rattle.code.specs.SoundLaws.{length-most}
 use Rattle.walk.specs.declared.Progress.{Progress}
 use Rattle.walk.specs.Progress.{fullOf, heldBy, stateOf, Walkable, Walked}
-use Rattle.search.specs.Work.{AllowsCode, Searchable}
+use Rattle.search.specs.Work.{Searchable}
 
 -- ---- the walk's end
 both-held : (k : ℕ) (a b x y : Full) → heldBy k a b ≡ two x y → heldBy k a b ≡ two a b
@@ -76,13 +77,13 @@ walkable {m} s =
     record { most = s .most; long = s .long; long-kinds = s .long-kinds; small = s .small; words = record { best-bits = zeros; second-bits = zeros } }
 
 -- where tests 1 to 4 refuse nothing, the kinds of the code can be searched
-pub searchable : {l : List ℤ} {c : Code} (ks : List ℕ) {bits word : List ℕ} → ks ≡ kinds (c .r) (c .m) → AllowsCode c l bits word → Searchable (c .m) l ks bits word
+pub searchable : {l : List ℤ} {c : Code} (ks : List ℕ) {bits word : List ℕ} → ks ≡ kinds (c .r) (c .m) → SoundReadings c l (length bits) (length word) → Searchable (c .m) l ks bits word
 searchable {l} {c} ks is a =
     rw is
     record {
       most = a .sound .m-small;
-      long = a .long;
-      small = omega (arith, sizes-within largestReading l (a .within), length-most (a .sound), a .long);
+      long = a .entries .long;
+      small = omega (arith, sizes-within largestReading l (a .entries .within), length-most (a .sound), a .entries .long);
       long-kinds = length-kinds (c .r) (c .m);
       are-kinds = bits-kinds (c .r) (c .m);
       information = sum-kinds-pos (c .r) (c .m);

@@ -8,8 +8,9 @@ ghost use lib.ListN.{length, take};
 ghost use Rattle.words.specs.Kinds.{kinds};
 ghost use Rattle.decoding.specs.Answer.{answer};
 ghost use Rattle.code.specs.Sound.{defaultAllowance};
-ghost use Rattle.search.specs.Outcome.{told, answered, searching};
-ghost use Rattle.search.specs.Work.{AllowsCode, Searchable, Writable, Written};
+ghost use Rattle.code.specs.SoundInput.{SoundReadings};
+ghost use Rattle.search.specs.Outcome.{told, byAnswer, searching};
+ghost use Rattle.search.specs.Work.{Searchable, Writable, Written};
 
 pub enum Searched {
     Found { penalty: u32, gap: u32, visits: u32 },
@@ -52,9 +53,9 @@ pub fn search_sound(
     bits: &mut [u8],
     word: &mut [u8],
 ) -> Searched
-    requires { ⌜ AllowsCode code (now readings) (now bits) (now word) ⌝ }
+    requires { ⌜ SoundReadings code (now readings) (length (now bits)) (length (now word)) ⌝ }
     ensures { λ r. ⌜ told r (now (bits .exit)) (now (word .exit))
-        ≡ answered allowed (now (bits .entry)) (now (word .entry))
+        ≡ byAnswer allowed (now (bits .entry)) (now (word .entry))
         (answer (code .m) (kinds (code .r) (code .m)) (now (readings .entry)) allowed) ⌝ }
 {
     let mut kinds = [0u8; 256];
@@ -75,7 +76,7 @@ fn search_kinds(
 ) -> Searched
     requires { ⌜ Searchable m (now readings) (now kinds) (now bits) (now word) ⌝ }
     ensures { λ r. ⌜ told r (now (bits .exit)) (now (word .exit))
-        ≡ answered allowed (now (bits .entry)) (now (word .entry))
+        ≡ byAnswer allowed (now (bits .entry)) (now (word .entry))
         (answer m (now (kinds .entry)) (now (readings .entry)) allowed) ⌝ }
 {
     let mut best = [0u8; 256];

@@ -4,7 +4,7 @@ use mathlib.Core.Path.{_≡_, sym, _∙_}
 use lib.ListN.{length}
 use Rattle.code.specs.declared.Admitted.the-variants.{Allowed}
 use Rattle.code.specs.Admitted.{admitted}
-use Rattle.code.specs.AdmittedLaws.{allows-all}
+use Rattle.code.specs.AdmittedLaws.{allowed-sound}
 use Rattle.early.specs.OutcomeLaws.{answering-refused, answering-sound}
 use Rattle.early.proofs.early_within.Statement.{statement}
 use Rattle.early.proofs.early_within.Tie as tie
@@ -27,9 +27,7 @@ answer-sound-requires : tie.Need-answer-sound-requires
 answer-sound-requires c κs =
     let allowed = c .before .before .before in
     let s = allowed .before .before .before .before .before .args in
-    let a =
-    allows-all (s .r) (s .m) (s .readings .now) (length (s .bits .now)) (length (s .word .now)) (allowed .code .given .0 .0) (is-allowed allowed) in
-    record { sound = a .code .sound; long = a .long; within = a .within; long-bits = a .bits; long-word = a .word }
+    allowed-sound (s .r) (s .m) (s .readings .now) (length (s .bits .now)) (length (s .word .now)) (allowed .code .given .0 .0) (is-allowed allowed)
 
 returns : tie.Need-returns
 returns c =

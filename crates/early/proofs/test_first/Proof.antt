@@ -1,10 +1,6 @@
 -- The quick reading stands in the two lent rows; by its test it is copied, or the search answers.
 use borrow.Author.Needs.{needs}
 use mathlib.Core.Path.{_≡_, ap, sym, _∙_}
-use native.Mathlib.Omega.{arith}
-use Rattle.decoding.specs.StepLaws.{sizes-within}
-use Rattle.code.specs.Sound.{largestReading}
-use Rattle.code.specs.SoundLaws.{length-most}
 use Rattle.early.specs.declared.Answered.{Answered}
 use Rattle.early.specs.Outcome.{told}
 use Rattle.early.specs.OutcomeLaws.{at-once, by-search}
@@ -14,15 +10,8 @@ use Rattle.early.proofs.test_first.Tie as tie
 take-reading-requires : tie.Need-take-reading-requires
 take-reading-requires c κs =
     let s = c .before .before .before .before .before .before in
-    let l = s .args .readings .now in
     let a = s .pre .0 in
-    record {
-      sound = a .sound;
-      long-bits = s .pre .1 ∙ a .long-bits;
-      long-word = s .pre .2 ∙ a .long-word;
-      long-row = a .long;
-      small = omega (arith, sizes-within largestReading l (a .within), length-most (a .sound), a .long);
-    }
+    record { sound = a .sound; long-bits = s .pre .1 ∙ a .long-bits; long-word = s .pre .2 ∙ a .long-word; entries = a .entries }
 
 surely-right-requires : tie.Need-surely-right-requires
 surely-right-requires c κs = search needs

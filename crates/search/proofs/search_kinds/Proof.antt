@@ -2,7 +2,7 @@
 use mathlib.Core.Path.{ap, ap₂, sym, _∙_}
 use Prim.Native.Nat.{_-_}
 use lib.ListN.{length}
-use Rattle.search.specs.Outcome.{foundWith, answered}
+use Rattle.search.specs.Outcome.{foundWith, byAnswer}
 use Rattle.search.specs.WorkLaws.{out-answer, ordered, tied-answer, found-answer, walkable}
 use borrow.Author.Needs.{needs}
 use Rattle.search.proofs.search_kinds.Statement.{statement}
@@ -16,7 +16,7 @@ returns c =
     let walked = c .before in
     let start = walked .before .before .before .before .before .before in
     let s = start .args in
-    sym (ap (answered (s .allowed) (s .bits .now) (s .word .now)) (out-answer (start .pre) (walked .walk .ensures) (c .if1 .taken)))
+    sym (ap (byAnswer (s .allowed) (s .bits .now) (s .word .now)) (out-answer (start .pre) (walked .walk .ensures) (c .if1 .taken)))
 
 sub-gap : tie.Need-sub-gap
 sub-gap c = ordered (c .before .before .before .before .before .before .before .before .pre) (c .before .before .walk .ensures) (c .before .if1 .left)
@@ -27,7 +27,7 @@ returns-2 c =
     let walked = if1 .before in
     let start = walked .before .before .before .before .before .before in
     let s = start .args in
-    sym (ap (answered (s .allowed) (s .bits .now) (s .word .now)) (tied-answer (start .pre) (walked .walk .ensures) (if1 .if1 .left) (c .if2 .taken)))
+    sym (ap (byAnswer (s .allowed) (s .bits .now) (s .word .now)) (tied-answer (start .pre) (walked .walk .ensures) (if1 .if1 .left) (c .if2 .taken)))
 
 put-best-requires : tie.Need-put-best-requires
 put-best-requires c κs = search needs
@@ -50,7 +50,7 @@ returns-3 c =
     let written = put .put-best .ensures in
     let long = ap length (sym (written .word-is)) ∙ put .put-best .kept .1 .1 .1 .1 .0 ∙ start .pre .long-word in
     ap₂ (foundWith (end .best) (end .second - end .best) (end .visits)) (written .bits-are) (written .word-is)
-    ∙ sym (ap (answered (s .allowed) (s .bits .now) (s .word .now)) (found-answer (start .pre) (walked .walk .ensures) (if1 .if1 .left) (if2 .if2 .left) long))
+    ∙ sym (ap (byAnswer (s .allowed) (s .bits .now) (s .word .now)) (found-answer (start .pre) (walked .walk .ensures) (if1 .if1 .left) (if2 .if2 .left) long))
 
 pub search-kinds-spec : {M : Type 1} → statement M
 search-kinds-spec =

@@ -10,7 +10,7 @@ use Rattle.words.specs.Kinds.{kinds}
 use Rattle.words.specs.KindLaws.{length-kinds}
 use Rattle.decoding.specs.Answer.{answer}
 use Rattle.code.specs.SoundLaws.{length-most}
-use Rattle.search.specs.Outcome.{answered}
+use Rattle.search.specs.Outcome.{byAnswer}
 use Rattle.search.specs.WorkLaws.{searchable}
 use borrow.Author.Needs.{needs}
 use Rattle.search.proofs.search_sound.Statement.{statement}
@@ -78,7 +78,7 @@ returns c =
     let m = s .code .m in
     let is = kinds-read (s .code .r) m (sized .length .result) (filled .put-kinds .last .1 .0) (filled .put-kinds .ensures) (sized .length .ensures) in
     done .search-kinds .ensures
-    ∙ ap (λ (ks : List ℕ). answered (s .allowed) (s .bits .now) (s .word .now) (answer m ks (s .readings .now) (s .allowed))) is
+    ∙ ap (λ (ks : List ℕ). byAnswer (s .allowed) (s .bits .now) (s .word .now) (answer m ks (s .readings .now) (s .allowed))) is
 
 pub search-sound-spec : {M : Type 1} → statement M
 search-sound-spec =
