@@ -1,7 +1,7 @@
--- What C-15 asks of the call is met.
+-- What C-15 asks of the call is met, and demand 3 of it.
 use mathlib.Core.Path.{_≡_, refl, ap, sym, _∙_}
-use mathlib.Core.Logic.{_⊎_, ⊎-elim, inl, inr}
-use mathlib.Core.Bool.{Bool, true, false, cond}
+use mathlib.Core.Logic.{⊎-elim}
+use mathlib.Core.Bool.{true, false, cond}
 use mathlib.Core.List.{List, []}
 use Prim.Native.Nat.{ℕ, _^_, _≤_, _<_}
 use native.Mathlib.Omega.{arith}
@@ -27,14 +27,15 @@ use Rattle.sure.specs.Test.{passes}
 use Rattle.sure.specs.SureLaws.{inside-code}
 use Rattle.sure.specs.TestLaws.{passes-right, passes-turned, quickWord-turned, quickBits-turned, quickPenalty-turned}
 use Rattle.code.specs.Sound.{rm}
-use Rattle.code.specs.AdmittedLaws.{allows, refuses, decided, sound-allowed}
+use Rattle.code.specs.AdmittedLaws.{allows, refuses, decided}
 use Rattle.code.specs.RefusalLaws.{number-above}
 use Rattle.search.specs.Outcome.{Outcome, foundWith, byAnswer, searching}
 use Rattle.search.specs.OutcomeLaws.{searching-refused, searching-answered}
 use Rattle.search.specs.Demands.{SoundSearch, PlusWord, OutcomeDemand3}
-use Rattle.search.specs.DemandsMet.{sound-answered, outcome-demands}
+use Rattle.search.specs.DemandsMet.{outcome-demands}
 use Rattle.early.specs.Outcome.{wordOnly, earlyBy, answering}
 use Rattle.early.specs.OutcomeLaws.{answering-refused, answering-sound}
+use Rattle.early.specs.WayLaws.{true-or-false, passed-is, failed-is}
 use Rattle.early.specs.Demands.{EarlyAnswer, EarlyDemand3}
 
 -- ---- outcomes of which on success only the word is given
@@ -151,22 +152,6 @@ only-visits o o′ n v =
       | yes e ↦ rw (eq-eqb (o .number) 0 e, eq-eqb (o′ .number) 0 (n ∙ e))
       | no f ↦ rw (ne-eqb (o .number) 0 f, ne-eqb (o′ .number) 0 (λ e. f (sym n ∙ e))) v
     ]
-
-true-or-false : (b : Bool) → (b ≡ true) ⊎ (b ≡ false)
-true-or-false true = inl refl
-true-or-false false = inr refl
-
--- the outcome where the test passes, and where it does not
-module _ {r m : ℕ} {l : List ℤ} (bits word : List ℕ) (x : SoundSearch r m l bits word) (allowed : ℕ) where
-  sound-is : answering r m allowed l bits word ≡ earlyBy (rm r m) allowed l bits word
-  sound-is = answering-sound r m allowed l bits word (rm r m) (sound-allowed r m l (length bits) (length word) x)
-
-  passed-is : passes r m (kinds r m) l ≡ true
-      → answering r m allowed l bits word ≡ foundWith (quickPenalty m (kinds r m) l) 0 0 (quickBits m (kinds r m) l) (quickWord m (kinds r m) l)
-  passed-is e = rw (sound-is, e)
-
-  failed-is : passes r m (kinds r m) l ≡ false → answering r m allowed l bits word ≡ wordOnly (searching r m allowed l bits word)
-  failed-is e = rw (sound-is, e, sound-answered bits word x allowed)
 
 module _ {r m : ℕ} {l : List ℤ} (bits word : List ℕ) (x : SoundSearch r m l bits word) (c : List ℕ) (w : Word m (kinds r m) c) (bits′ word′ : List ℕ)
     (e : length bits′ ≡ dimension r m) (f : length word′ ≡ 2 ^ m) where

@@ -5,6 +5,8 @@ pub mod Work
 pub mod OutcomeLaws
 pub mod OnlyOutcome
 pub mod TestedLaws
+pub mod WayLaws
 -- What C-15 asks, and that it is met
 pub mod Demands
+pub mod Demand1Met
 pub mod DemandsMet
