@@ -5,3 +5,5 @@ pub mod Answers
 pub mod ToldLaws
 pub mod AtOnce
 pub mod AtOnceLaws
+pub mod Lengths
+pub mod Unpacked
