@@ -97,9 +97,10 @@ fn count(s: State, step: Step) -> State
     requires { ⌜ (s .at + step .taken < 2 ^ 64) × (s .read + 1 < 2 ^ 64) × (s .refused + 1 < 2 ^ 64) ⌝ }
     ensures { λ t. ⌜ t ≡ countedBy s step ⌝ }
 {
+    let next = s.at + step.taken;
     if step.answered {
         return State {
-            at: s.at + step.taken,
+            at: next,
             text: step.end,
             read: s.read + 1,
             ..s
@@ -115,7 +116,7 @@ fn count(s: State, step: Step) -> State
         };
     }
     State {
-        at: s.at + step.taken,
+        at: next,
         text: step.end,
         refused: s.refused + 1,
         ..s
