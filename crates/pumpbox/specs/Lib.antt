@@ -7,3 +7,5 @@ pub mod AtOnce
 pub mod AtOnceLaws
 pub mod Lengths
 pub mod Unpacked
+pub mod Telegrams
+pub mod TelegramsLaws
