@@ -7,5 +7,7 @@ pub mod AtOnce
 pub mod AtOnceLaws
 pub mod Lengths
 pub mod Unpacked
+pub mod Written
+pub mod WrittenLaws
 pub mod Telegrams
 pub mod TelegramsLaws

@@ -4,6 +4,7 @@ mod at_once;
 mod lengths;
 mod telegrams;
 mod unpacking;
+mod writing;
 
 use encode::Encoded;
 use quick::Read;
