@@ -17,8 +17,8 @@ use Rattle.code.specs.declared.Code.{Code}
 use Rattle.code.specs.declared.Made.the-variants.{Good}
 use Rattle.record.specs.declared.Header.{Header}
 use Rattle.record.specs.declared.Header.the-variants.{Record}
-use Rattle.record.specs.Layout.{bytes, spread, recordOf, packed, unpacked, partLength, padOf}
-use Rattle.record.specs.LayoutLaws.{Below, AllHeld, within-held, unpacked-packed, packed-unpacked, length-packed}
+use Rattle.record.specs.Layout.{AllHeld, bytes, spread, recordOf, packed, unpacked, partLength, padOf}
+use Rattle.record.specs.LayoutLaws.{Below, within-held, unpacked-packed, packed-unpacked, length-packed}
 use Rattle.record.specs.Reader.{codeOf, partOf, readingsOf, frameOf, railedBy, headerOf, partBy}
 use Rattle.record.specs.ReaderLaws.{Framed, framed-record, header-framed, frame-by, frame-whole, length-readings-of, length-part, rail-found, rail-none}
 

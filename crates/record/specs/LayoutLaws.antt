@@ -11,16 +11,11 @@ use native.Mathlib.Decide.{ℕ-discrete}
 use borrow.Author.Tests.{lt-ltb, le-ltb, eq-eqb, ne-eqb}
 use Rattle.numbers.specs.Choice.{lt-or-le}
 use Rattle.numbers.specs.PartsLaws.{parts, by-parts, sum-parts}
-use Rattle.record.specs.Layout.{bytes, nibbles, field, reading, spread, gathered, recordOf, packed, unpacked, partLength, padOf, readingsIn}
+use Rattle.record.specs.Layout.{bytes, nibbles, Held, AllHeld, field, reading, spread, gathered, recordOf, packed, unpacked, partLength, padOf, readingsIn}
 
 -- every entry is below b
 abbrev pub Below : ℕ → List ℕ → Type 0
 Below b l = (i : ℕ) → getD l i 0 < b
-
--- a 12-bit field holds -2,048 to 2,047
-abbrev pub Held : ℤ → Type 0
-Held (pos n) = n < 2048
-Held (negsuc n) = n < 2048
 
 pub field-below : (x : ℤ) → Held x → field x < 4096
 field-below (pos n) h = omega arith
@@ -70,10 +65,6 @@ nibbles-below (x ∷ p) h (suc (suc i)) = nibbles-below p (λ j. h (suc j)) i
 length-nibbles : (p : List ℕ) → length (nibbles p) ≡ 2 * length p
 length-nibbles [] = refl
 length-nibbles (x ∷ p) = omega (arith, length-nibbles p)
-
--- every reading fits its field
-abbrev pub AllHeld : List ℤ → Type 0
-AllHeld l = (i : ℕ) → Held (getD l i (pos 0))
 
 spread-below : (l : List ℤ) → AllHeld l → Below 16 (spread l)
 spread-below [] h i = below-nil 15 i

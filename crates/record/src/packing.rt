@@ -3,8 +3,7 @@ ghost use mathlib.Core.Path.{_≡_};
 ghost use Prim.Native.Nat.{_*_, _/_, _<_};
 ghost use lib.ListN.{length};
 ghost use Rattle.numbers.specs.Front.{front};
-ghost use Rattle.record.specs.Layout.{field, reading, packed, unpacked};
-ghost use Rattle.record.specs.LayoutLaws.{Held, AllHeld};
+ghost use Rattle.record.specs.Layout.{Held, AllHeld, field, reading, packed, unpacked};
 
 fn wide(x: u8) -> u16
     ensures { λ w. ⌜ (w ≡ x) × (w < 256) ⌝ }
