@@ -1,6 +1,7 @@
 -- The quick reading stands in the two lent rows; by its test it is copied, or the search answers.
 use borrow.Author.Needs.{needs}
 use mathlib.Core.Path.{_≡_, ap, sym, _∙_}
+use native.Mathlib.Omega.{arith}
 use Rattle.early.specs.declared.Answered.{Answered}
 use Rattle.early.specs.Outcome.{told}
 use Rattle.early.specs.OutcomeLaws.{at-once, by-search}
@@ -11,7 +12,7 @@ take-reading-requires : tie.Need-take-reading-requires
 take-reading-requires c κs =
     let s = c .before .before .before .before .before .before in
     let a = s .pre .0 in
-    record { sound = a .sound; long-bits = s .pre .1 ∙ a .long-bits; long-word = s .pre .2 ∙ a .long-word; entries = a .entries }
+    record { sound = a .sound; long-bits = omega (arith, s .pre .1, a .long-bits); long-word = omega (arith, s .pre .2, a .long-word); entries = a .entries }
 
 surely-right-requires : tie.Need-surely-right-requires
 surely-right-requires c κs = search needs
