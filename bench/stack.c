@@ -21,6 +21,11 @@ static void *search(void *a) {
     return a;
 }
 
+static void *early(void *a) {
+    refusal = cinorbis_early(4, 8, readings, 256, bits, 163, word, 256, &numbers);
+    return a;
+}
+
 static void *quick(void *a) {
     refusal = cinorbis_quick(4, 8, readings, 256, bits, 163, word, 256, &numbers);
     return a;
@@ -73,6 +78,7 @@ int main(void) {
     bounded("quick reading", quick, 0, 2600);
     /* the readings are of no word: the walk goes to its end and runs out of visits */
     bounded("search", search, 6, 106000);
+    bounded("early answer", early, 6, 107000);
     printf("%d passed, %d failed\n", passed, failed);
     return failed != 0;
 }
