@@ -29,7 +29,7 @@ extern "C" {
 #endif
 
 /* Raised when a call is added or changed. */
-#define CINORBIS_VERSION 5
+#define CINORBIS_VERSION 6
 
 #define CINORBIS_LARGEST_M 8u
 #define CINORBIS_LARGEST_READING 2047
@@ -153,6 +153,18 @@ CINORBIS_CALL uint32_t cinorbis_search(uint32_t r, uint32_t m, const int16_t *re
 CINORBIS_CALL uint32_t cinorbis_search_within(uint32_t r, uint32_t m, uint32_t allowed, const int16_t *readings,
                                               size_t readings_length, uint8_t *bits, size_t bits_length, uint8_t *word,
                                               size_t word_length, cinorbis_numbers *numbers);
+
+/* The early answer: the quick reading's word at once where it is surely the best one (§4, "Surely right", with the largest size as M), else by the
+ * search with the default allowance. In: n readings. Out: the k bits and the word of least penalty, and that penalty; gap and visits are 0.
+ * Refuses 1, 2, 3, 4, then 6 or 7 where the search was needed, each as cinorbis_search gives it. It pays where most words arrive clean and the readings
+ * are clipped near the word's own size (README.md, "Speed"). Promise: early. */
+CINORBIS_CALL uint32_t cinorbis_early(uint32_t r, uint32_t m, const int16_t *readings, size_t readings_length, uint8_t *bits,
+                                      size_t bits_length, uint8_t *word, size_t word_length, cinorbis_numbers *numbers);
+
+/* The same with an allowance of visits, any number: with 0 it never walks. Promise: early_within. */
+CINORBIS_CALL uint32_t cinorbis_early_within(uint32_t r, uint32_t m, uint32_t allowed, const int16_t *readings, size_t readings_length,
+                                             uint8_t *bits, size_t bits_length, uint8_t *word, size_t word_length,
+                                             cinorbis_numbers *numbers);
 
 /* ---- Packed records (§7) */
 

@@ -80,11 +80,13 @@ def words(text):
 
 
 def contracts(path):
-    """The definitions that the contracts of a file's public functions cite."""
+    """The definitions that the contracts of a file's public calls cite. A function that asks something of its caller is an inner one."""
     text = read(path)
     names, modules = imports(text, "ghost ")
     roots = []
     for contract in re.findall(r"^pub (?:extern \"C\" )?fn \w+(.*?)^\{", text, re.M | re.S):
+        if "requires" in contract:
+            continue
         roots += [meant(name, modules.get(short) if short else names.get(name)) for short, name in words(contract)]
     return [root for root in roots if root]
 

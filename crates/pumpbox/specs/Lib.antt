@@ -3,6 +3,8 @@ pub mod Told
 -- The parts of the answers, and laws
 pub mod Answers
 pub mod ToldLaws
+pub mod AtOnce
+pub mod AtOnceLaws
 pub mod Lengths
 pub mod Unpacked
 pub mod Written

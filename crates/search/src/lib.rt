@@ -46,7 +46,7 @@ pub fn search(r: u32, m: u32, readings: &[i16], bits: &mut [u8], word: &mut [u8]
     search_within(r, m, Code::DEFAULT_ALLOWANCE, readings, bits, word)
 }
 
-fn search_sound(
+pub fn search_sound(
     code: Code,
     allowed: u32,
     readings: &[i16],
