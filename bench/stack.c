@@ -73,7 +73,7 @@ int main(void) {
     if (posix_memalign((void **)&stack, 4096, ROOM)) return 1;
     for (int j = 0; j < 256; j++) readings[j] = (int16_t)((j * 7919) % 4095 - 2047);
     ground = used(nothing);
-    bounded("encode", encode, 0, 512);
+    bounded("encode", encode, 0, 640);
     bounded("inverse", inverse, 0, 800);
     bounded("quick reading", quick, 0, 2600);
     /* the readings are of no word: the walk goes to its end and runs out of visits */
