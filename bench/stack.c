@@ -10,22 +10,23 @@ static unsigned char *stack;
 static int16_t readings[256];
 static uint8_t bits[256], word[256];
 static cinorbis_numbers numbers;
+static volatile uint32_t refusal;
 
 static void *nothing(void *a) { return a; }
 
 static void *search(void *a) {
-    cinorbis_search(4, 8, readings, 256, bits, 163, word, 256, &numbers);
+    refusal = cinorbis_search(4, 8, readings, 256, bits, 163, word, 256, &numbers);
     return a;
 }
 
 static void *quick(void *a) {
-    cinorbis_quick(4, 8, readings, 256, bits, 163, word, 256, &numbers);
+    refusal = cinorbis_quick(4, 8, readings, 256, bits, 163, word, 256, &numbers);
     return a;
 }
 
 static void *encode(void *a) {
     memset(bits, 1, sizeof bits);
-    cinorbis_encode(4, 8, bits, 163, word, 256, &numbers);
+    refusal = cinorbis_encode(4, 8, bits, 163, word, 256, &numbers);
     return a;
 }
 

@@ -1,7 +1,9 @@
-/* Words and nearest words made by GAP's package GUAVA (tests/golden/guava.txt): encode, inverse, and the search of hard readings. */
+/* Words and nearest words made by GAP's package GUAVA (tests/golden/guava.txt): encode, inverse, and the search of hard readings.
+ * golden FILE LINES: the file must have just so many lines. */
 #include "call.h"
 #include "check.h"
 #include "reference.h"
+#include <stdlib.h>
 
 static void row(const char *text, uint8_t *out) {
     for (size_t i = 0; text[i]; i++) out[i] = (uint8_t)(text[i] - '0');
@@ -10,7 +12,7 @@ static void row(const char *text, uint8_t *out) {
 int main(int argc, char **argv) {
     char a[300], b[300], kind[8];
     unsigned r, m;
-    FILE *f = argc == 2 ? fopen(argv[1], "r") : NULL;
+    FILE *f = argc == 3 ? fopen(argv[1], "r") : NULL;
     if (!f) {
         puts("golden: no file");
         return 1;
@@ -38,6 +40,9 @@ int main(int argc, char **argv) {
         }
         end();
     }
+    begin("every line is read");
+    CHECK(feof(f) && cases_passed + cases_failed == strtoul(argv[2], NULL, 10), "%lu lines", cases_passed + cases_failed);
+    end();
     fclose(f);
     return finish();
 }

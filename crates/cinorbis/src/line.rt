@@ -4,7 +4,7 @@ ghost use mathlib.Core.List.{map, _++_};
 ghost use Prim.Native.Nat.{_+_, _≤_};
 ghost use lib.ListN.{length};
 ghost use Rattle.words.specs.Bits.{Bits};
-ghost use Rattle.cinorbis.specs.Line.{digit, decimal, Put};
+ghost use Rattle.cinorbis.specs.Line.{digitByte, decimal, Put};
 ghost use Rattle.cinorbis.specs.Line.{infoText, figuresText};
 ghost use Rattle.cinorbis.specs.Line.{answerLine, refusedLine, totalLine};
 
@@ -22,7 +22,7 @@ fn put_text(text: &[u8], out: &mut [u8], at: usize) -> usize
 
 fn put_bits(bits: &[u8], out: &mut [u8], at: usize) -> usize
     requires { ⌜ Bits (now bits) × (at + length (now bits) ≤ length (now out)) ⌝ }
-    ensures { λ end. ⌜ Put (now (out .entry)) at (map digit (now (bits .entry))) end
+    ensures { λ end. ⌜ Put (now (out .entry)) at (map digitByte (now (bits .entry))) end
         (now (out .exit)) ⌝ }
 {
     let mut i = 0;

@@ -1,6 +1,10 @@
+-- Definitions: limits, sound parameters and the refusals' table; bad entries; the tests 1 to 4; sound input
 pub mod Sound
 pub mod Entries
+pub mod Admitted
+pub mod SoundInput
+-- Their laws
 pub mod SoundLaws
 pub mod EntriesLaws
-pub mod Admitted
 pub mod AdmittedLaws
+pub mod RefusalLaws

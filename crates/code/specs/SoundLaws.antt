@@ -16,7 +16,7 @@ use Rattle.words.specs.Kinds.{kind, dimension}
 use Rattle.words.specs.KindLaws.{dimension-most}
 use Rattle.code.specs.declared.Code.{Code}
 use Rattle.code.specs.declared.Made.the-variants.{Good, Bad}
-use Rattle.code.specs.Sound.{Sound, made, largestM}
+use Rattle.code.specs.Sound.{Sound, made, largestM, rm}
 
 module _ (r m : ℕ) where
   pub made-large : largestM < m → made r m ≡ Bad
@@ -27,7 +27,7 @@ module _ (r m : ℕ) where
   unfolding made
   made-crossed h k = rw (le-leb m largestM h, lt-leb r m k)
 
-  pub made-good : m ≤ largestM → r ≤ m → made r m ≡ Good (record { r = r; m = m })
+  pub made-good : m ≤ largestM → r ≤ m → made r m ≡ Good (rm r m)
   unfolding made
   made-good h k = rw (le-leb m largestM h, le-leb r m k)
 
@@ -51,7 +51,7 @@ dimensions-at table e r m h k =
 
 -- what a code that is made shows: it is the code of r and m, and sound
 pub record MadeOf (r m : ℕ) (c : Code) : Type 0 where
-  pub same : c ≡ record { r = r; m = m }
+  pub same : c ≡ rm r m
   pub sound : Sound c
 
 pub made-of : (r m : ℕ) (c : Code) → made r m ≡ Good c → MadeOf r m c
@@ -62,7 +62,7 @@ made-of r m c e =
     ⊎-elim
     (λ crossed. let z : _≡_ {A = ℕ} 0 1 = cc (made-crossed r m small crossed) in absurd (omega arith))
     (λ within.
-    let same : c ≡ record { r = r; m = m } = cc (made-good r m small within) in
+    let same : c ≡ rm r m = cc (made-good r m small within) in
     record { same = same; sound = rw same (record { r-small = within; m-small = small }) })
     (lt-or-le m r))
     (lt-or-le largestM m)

@@ -6,7 +6,7 @@ ghost use lib.ListN.{length};
 ghost use lib.IntN.{natAbs};
 ghost use lib.Dec.{ltb};
 ghost use Rattle.words.specs.Kinds.{kind, kinds, dimension};
-ghost use Rattle.code.specs.Sound.{Sound, largestReading, made, numberOf, placeOf, penaltyOf, visitsOf};
+ghost use Rattle.code.specs.Sound.{Sound, largestReading, made, carried};
 ghost use Rattle.code.specs.Entries.{firstBadBit, firstBadReading};
 ghost use Rattle.code.specs.Admitted.{admitted};
 
@@ -35,6 +35,8 @@ pub enum Refusal {
     Tied { penalty: u32, visits: u32 },
     Torn,
     Pad,
+    // a map of positions that is not of bits, or that nothing undoes
+    Map,
 }
 
 // What the tests on readings leave.
@@ -183,7 +185,7 @@ pub fn admit(r: u32, m: u32, readings: &[i16], bits: usize, word: usize) -> Admi
 impl Refusal {
     // The rules' number.
     pub fn number(self) -> u32
-        ensures { λ r. ⌜ r ≡ numberOf self ⌝ }
+        ensures { λ r. ⌜ r ≡ carried self .number ⌝ }
     {
         match self {
             Refusal::Parameters => 1,
@@ -198,12 +200,13 @@ impl Refusal {
             } => 7,
             Refusal::Torn => 8,
             Refusal::Pad => 9,
+            Refusal::Map => 11,
         }
     }
 
     // The place that 4 and 5 carry, else 0.
     pub fn place(self) -> usize
-        ensures { λ r. ⌜ r ≡ placeOf self ⌝ }
+        ensures { λ r. ⌜ r ≡ carried self .place ⌝ }
     {
         match self {
             Refusal::Entry(place) => place,
@@ -218,12 +221,13 @@ impl Refusal {
             } => 0,
             Refusal::Torn => 0,
             Refusal::Pad => 0,
+            Refusal::Map => 0,
         }
     }
 
     // The least penalty under 7, else 0.
     pub fn penalty(self) -> u32
-        ensures { λ r. ⌜ r ≡ penaltyOf self ⌝ }
+        ensures { λ r. ⌜ r ≡ carried self .penalty ⌝ }
     {
         match self {
             Refusal::Tied { penalty, visits: _ } => penalty,
@@ -235,12 +239,13 @@ impl Refusal {
             Refusal::OutOfVisits(_) => 0,
             Refusal::Torn => 0,
             Refusal::Pad => 0,
+            Refusal::Map => 0,
         }
     }
 
     // The allowance under 6, the walk's visits under 7, else 0.
     pub fn visits(self) -> u32
-        ensures { λ r. ⌜ r ≡ visitsOf self ⌝ }
+        ensures { λ r. ⌜ r ≡ carried self .visits ⌝ }
     {
         match self {
             Refusal::OutOfVisits(allowed) => allowed,
@@ -252,6 +257,7 @@ impl Refusal {
             Refusal::NotAWord(_) => 0,
             Refusal::Torn => 0,
             Refusal::Pad => 0,
+            Refusal::Map => 0,
         }
     }
 }

@@ -1,44 +1,35 @@
 -- No second answer and no second buffer meet the promise of `encode`, or that of `inverse`.
 use mathlib.Core.Path.{_≡_, refl, ap, sym, _∙_}
 use mathlib.Core.List.{List}
-use Prim.Native.Nat.{ℕ, zero, suc, _^_, _<_}
+use Prim.Native.Nat.{ℕ, _^_, _<_}
 use native.Mathlib.Omega.{arith}
 use Rattle.words.specs.Kinds.{kinds, dimension, encoded}
 use Rattle.words.specs.Inverse.{TakenBack, taken, frozenOne, takenBack}
-use Rattle.code.specs.declared.Refusal.the-variants.{Parameters, InputLength, OutputLength, Entry, NotAWord, OutOfVisits, Tied, Torn, Pad}
+use Rattle.code.specs.Sound.{carrying}
+use Rattle.code.specs.RefusalLaws.{refusal-only, carries-none, number-above}
 use Rattle.encode.specs.declared.Encoded.{Encoded}
 use Rattle.encode.specs.declared.Encoded.the-variants.{Done, Refused}
-use Rattle.encode.specs.Outcome.{Outcome, numberIn, placeIn, told, done, encoding, inverting, takingBack}
+use Rattle.encode.specs.Outcome.{Outcome, told, done, encoding, inverting, takingBack}
 use Rattle.encode.specs.OutcomeLaws.{tested-small}
 
--- the answer of a number below 6 and a place
-abbrev answerOf : ℕ → ℕ → Encoded
-answerOf zero place = Done
-answerOf (suc zero) place = Refused Parameters
-answerOf (suc (suc zero)) place = Refused InputLength
-answerOf (suc (suc (suc zero))) place = Refused OutputLength
-answerOf (suc (suc (suc (suc zero)))) place = Refused (Entry place)
-answerOf (suc (suc (suc (suc (suc n))))) place = Refused (NotAWord place)
+-- two answers that tell the same, below number 6
+same-answer : (a b : Encoded) (x y : List ℕ) → told a x ≡ told b y → told a x .number < 6 → a ≡ b
+same-answer Done Done x y e h = refl
+same-answer Done (Refused why) x y e h = absurd (omega (arith, number-above why, ap (λ (o : Outcome). o .number) e))
+same-answer (Refused why) Done x y e h = absurd (omega (arith, number-above why, ap (λ (o : Outcome). o .number) e))
+same-answer (Refused why) (Refused why′) x y e h =
+    let number = ap (λ (o : Outcome). o .number) e in
+    let carry = ap (λ (o : Outcome). carrying (o .number) (o .place) 0 0) e in
+    ap Refused (refusal-only why why′ (carries-none why (λ k. omega arith) (λ k. omega arith) ∙ carry ∙ sym (carries-none why′ (λ k. omega arith) (λ k. omega arith))))
 
-answer-is : (a : Encoded) → numberIn a < 6 → answerOf (numberIn a) (placeIn a) ≡ a
-answer-is Done h = refl
-answer-is (Refused Parameters) h = refl
-answer-is (Refused InputLength) h = refl
-answer-is (Refused OutputLength) h = refl
-answer-is (Refused (Entry place)) h = refl
-answer-is (Refused (NotAWord index)) h = refl
-answer-is (Refused (OutOfVisits allowed)) h = absurd (omega arith)
-answer-is (Refused (Tied penalty visits)) h = absurd (omega arith)
-answer-is (Refused Torn) h = absurd (omega arith)
-answer-is (Refused Pad) h = absurd (omega arith)
+buffer-told : (a : Encoded) (x : List ℕ) → told a x .buffer ≡ x
+buffer-told Done x = refl
+buffer-told (Refused why) x = refl
 
-module _ (o : Outcome) (small : o .number < 6) where
-  is-answer : (a : Encoded) (x : List ℕ) → told a x ≡ o → answerOf (o .number) (o .place) ≡ a
-  is-answer a x e =
-      ap (λ (p : Outcome). answerOf (p .number) (p .place)) (sym e) ∙ answer-is a (omega (arith, ap (λ (p : Outcome). p .number) e))
-
-  only : (a b : Encoded) (x y : List ℕ) → told a x ≡ o → told b y ≡ o → (a ≡ b) × (x ≡ y)
-  only a b x y e f = (sym (is-answer a x e) ∙ is-answer b y f, ap (λ (p : Outcome). p .buffer) (e ∙ sym f))
+only : (o : Outcome) → o .number < 6 → (a b : Encoded) (x y : List ℕ) → told a x ≡ o → told b y ≡ o → (a ≡ b) × (x ≡ y)
+only o small a b x y e f =
+    let same = e ∙ sym f in
+    (same-answer a b x y same (rw e small), sym (buffer-told a x) ∙ ap (λ (p : Outcome). p .buffer) same ∙ buffer-told b y)
 
 -- every outcome has such a number
 taking-small : (t : TakenBack) (bits : List ℕ) → takingBack t bits .number < 6

@@ -8,6 +8,7 @@ ghost use Rattle.words.specs.Bits.{Bits};
 ghost use Rattle.words.specs.Word.{transform};
 ghost use Rattle.words.specs.Kinds.{fill, pick};
 ghost use Rattle.words.specs.Inverse.{firstFrozenOne};
+ghost use Rattle.code.specs.Sound.{largestM};
 ghost use Rattle.half.specs.Fold.{folded};
 ghost use Rattle.half.specs.Takeable.{Takeable};
 
@@ -110,7 +111,7 @@ pub fn put_row(word: &[u8], row: &mut [u8], m: usize)
 
 // The information bits of a word of at most 256 bits.
 pub fn take_bits(kinds: &[u8], word: &[u8], bits: &mut [u8], m: usize)
-    requires { ⌜ (m ≤ 8) × Takeable m (now kinds) (now word) (now bits) ⌝ }
+    requires { ⌜ (m ≤ largestM) × Takeable m (now kinds) (now word) (now bits) ⌝ }
     ensures { λ _. ⌜ now (bits .exit)
         ≡ pick (now (kinds .entry)) (transform m (now (word .entry))) ⌝ }
 {

@@ -6,13 +6,13 @@ use native.Mathlib.Omega.{arith}
 use native.Mathlib.Numerals.{add-one}
 use lib.ListN.{length, length-set, length-map, List·getD-map}
 use lib.Seq.{paste, paste-zero, paste-suc}
-use Rattle.cinorbis.specs.Line.{digit}
+use Rattle.cinorbis.specs.Line.{digitByte}
 use Rattle.cinorbis.specs.LineLaws.{pasted}
 use Rattle.cinorbis.proofs.line.put_bits.Statement.{statement}
 use Rattle.cinorbis.proofs.line.put_bits.Tie as tie
 
 abbrev Inv-loop : tie.InvT-loop
-Inv-loop bits out₀ at i₀ out i = (i ≤ length bits) × (out ≡ paste out₀ at (map digit bits) i) × (length out ≡ length out₀)
+Inv-loop bits out₀ at i₀ out i = (i ≤ length bits) × (out ≡ paste out₀ at (map digitByte bits) i) × (length out ≡ length out₀)
 
 abbrev μ-loop : tie.MeasureT-loop
 μ-loop bits out₀ at i₀ out i = length bits - i
@@ -20,7 +20,7 @@ abbrev μ-loop : tie.MeasureT-loop
 loop-holds : tie.Need-loop-holds Inv-loop μ-loop
 loop-holds c =
     let g = c .args in
-    (zero-le, paste-zero (g .out .now) (g .at) (map digit (g .bits .now)), refl)
+    (zero-le, paste-zero (g .out .now) (g .at) (map digitByte (g .bits .now)), refl)
 
 shared-slice-read-out : tie.Need-shared-slice-read-out Inv-loop μ-loop
 shared-slice-read-out c = omega arith
@@ -44,10 +44,10 @@ loop-again : tie.Need-loop-again Inv-loop μ-loop
 loop-again c =
     let g = c .before .before .before .args in
     let o = c .before .before .loop in
-    let t = map digit (g .bits .now) in
-    let long = length-map (g .bits .now) digit in (
+    let t = map digitByte (g .bits .now) in
+    let long = length-map (g .bits .now) digitByte in (
       omega arith,
-      rw (o .inv .1, add-one, ← List·getD-map digit (g .bits .now) (o .i) 0) (paste-suc (g .out .now) (g .at) t (o .i) 48 (omega arith) (omega arith)),
+      rw (o .inv .1, add-one, ← List·getD-map digitByte (g .bits .now) (o .i) 0) (paste-suc (g .out .now) (g .at) t (o .i) 48 (omega arith) (omega arith)),
       length-set (o .out) _ _ ∙ o .inv .2,
     )
 
@@ -61,7 +61,7 @@ returns : tie.Need-returns Inv-loop μ-loop
 returns c =
     let g = c .before .before .args in
     let o = c .before .loop in
-    pasted (g .out .now) (g .at) (map digit (g .bits .now)) (o .i) (o .out) (omega (arith, length-map (g .bits .now) digit)) (o .inv .1)
+    pasted (g .out .now) (g .at) (map digitByte (g .bits .now)) (o .i) (o .out) (omega (arith, length-map (g .bits .now) digitByte)) (o .inv .1)
 
 pub put-bits-spec : {M : Type 1} → statement M
 put-bits-spec =

@@ -1,0 +1,102 @@
+/* Every macro and every refusal's name in the header against what the library does: each limit reached and passed, each refusal provoked. */
+#include "call.h"
+#include "check.h"
+
+static uint8_t bits[CINORBIS_LARGEST_N + 1], word[CINORBIS_LARGEST_N + 1], bytes[2 * CINORBIS_LARGEST_RECORD];
+static int16_t readings[2 * CINORBIS_LARGEST_N];
+
+static void limits_of_the_code(void) {
+    begin("largest m, largest n");
+    CHECK(encode(0, CINORBIS_LARGEST_M, bits, 1, word, CINORBIS_LARGEST_N).refusal == CINORBIS_DONE, "the largest m is refused");
+    CHECK(encode(0, CINORBIS_LARGEST_M, bits, 1, word, CINORBIS_LARGEST_N - 1).refusal == CINORBIS_OUTPUT_LENGTH, "a word shorter than the largest n");
+    CHECK(encode(0, CINORBIS_LARGEST_M + 1, bits, 1, word, CINORBIS_LARGEST_N).refusal == CINORBIS_PARAMETERS, "a larger m is taken");
+    CHECK(encode(CINORBIS_LARGEST_M, CINORBIS_LARGEST_M, bits, CINORBIS_LARGEST_N, word, CINORBIS_LARGEST_N).refusal == CINORBIS_DONE,
+          "as many information bits as the largest n");
+    end();
+}
+
+static void largest_reading(void) {
+    static const int sign[2] = {1, -1};
+    begin("largest reading");
+    for (int s = 0; s < 2; s++) {
+        int16_t at = (int16_t)(sign[s] * CINORBIS_LARGEST_READING), past = (int16_t)(at + sign[s]);
+        answer a = search(0, 0, &at, 1, bits, 1, word, 1);
+        CHECK(a.refusal == CINORBIS_DONE && a.gap == CINORBIS_LARGEST_READING, "%d: %u, gap %u", at, a.refusal, a.gap);
+        a = search(0, 0, &past, 1, bits, 1, word, 1);
+        CHECK(a.refusal == CINORBIS_ENTRY, "%d: %u", past, a.refusal);
+    }
+    end();
+}
+
+/* Readings of equal size and no pattern make the walk long; the first such row that runs out under the default is used. */
+static void default_allowance(void) {
+    answer a = {0, 0, 0, 0, 0};
+    begin("default allowance");
+    for (int t = 0; t < 20 && a.refusal != CINORBIS_OUT_OF_VISITS; t++) {
+        for (int j = 0; j < 256; j++) readings[j] = random_below(2) ? 1 : -1;
+        a = search(3, 8, readings, 256, bits, 93, word, 256);
+    }
+    CHECK(a.refusal == CINORBIS_OUT_OF_VISITS && a.visits == CINORBIS_DEFAULT_ALLOWANCE, "%u, visits %u", a.refusal, a.visits);
+    a = search_within(3, 8, CINORBIS_DEFAULT_ALLOWANCE + 1, readings, 256, bits, 93, word, 256);
+    CHECK(a.refusal != CINORBIS_OUT_OF_VISITS || a.visits == CINORBIS_DEFAULT_ALLOWANCE + 1, "the allowance is not the one given");
+    end();
+}
+
+static void largest_record(void) {
+    cinorbis_part part;
+    begin("largest record");
+    memset(bytes, 0, sizeof bytes);
+    bytes[0] = CINORBIS_LARGEST_M << 4;
+    CHECK(cinorbis_record(bytes, sizeof bytes, &part) == CINORBIS_DONE && part.length + 1 == CINORBIS_LARGEST_RECORD,
+          "the longest record has %" PRIu64 " bytes", part.length + 1);
+    CHECK(cinorbis_record(bytes, CINORBIS_LARGEST_RECORD, &part) == CINORBIS_DONE, "a record of just so many bytes");
+    CHECK(cinorbis_record(bytes, CINORBIS_LARGEST_RECORD - 1, &part) == CINORBIS_TORN, "one byte less");
+    end();
+}
+
+/* the number that a call gives, and the name that the header has for it */
+static void named(const char *what, uint32_t given, uint32_t number, enum cinorbis_refusal name) {
+    begin("refusal %u: %s", number, what);
+    CHECK(given == number && (uint32_t)name == number, "given %u, named %u", given, (unsigned)name);
+    end();
+}
+
+static void refusals_by_name(void) {
+    static const int16_t plain[4] = {5, -2, 3, 1};
+    static const uint8_t no_word[4] = {1, 0, 0, 0};
+    static const uint8_t torn[1] = {0x21}, pad[3] = {0x00, 0x00, 0x01};
+    int16_t bad[4] = {0, 0, 0, INT16_MIN}, tied[1] = {0};
+    cinorbis_part part;
+    named("done", search(1, 2, plain, 4, bits, 3, word, 4).refusal, 0, CINORBIS_DONE);
+    named("r above m", search(3, 2, plain, 4, bits, 3, word, 4).refusal, 1, CINORBIS_PARAMETERS);
+    named("readings too short", search(1, 2, plain, 3, bits, 3, word, 4).refusal, 2, CINORBIS_INPUT_LENGTH);
+    named("bits too long", search(1, 2, plain, 4, bits, 4, word, 4).refusal, 3, CINORBIS_OUTPUT_LENGTH);
+    named("a reading beyond every limit", search(1, 2, bad, 4, bits, 3, word, 4).refusal, 4, CINORBIS_ENTRY);
+    named("no word", inverse(1, 2, no_word, 4, bits, 3).refusal, 5, CINORBIS_NOT_A_WORD);
+    named("nothing allowed", search_within(1, 2, 0, plain, 4, bits, 3, word, 4).refusal, 6, CINORBIS_OUT_OF_VISITS);
+    named("a tie", search(0, 0, tied, 1, bits, 1, word, 1).refusal, 7, CINORBIS_TIED);
+    named("a torn record", cinorbis_record(torn, 1, &part), 8, CINORBIS_TORN);
+    named("a pad bit", cinorbis_record(pad, 3, &part), 9, CINORBIS_PAD);
+}
+
+/* every refusal has a text of its own, and no other number has */
+static void texts(void) {
+    begin("texts");
+    for (uint32_t a = 0; a < 40; a++)
+        for (uint32_t b = 0; b < a; b++) {
+            int same = strcmp(cinorbis_refusal_text(a), cinorbis_refusal_text(b)) == 0;
+            CHECK(!same || strcmp(cinorbis_refusal_text(b), cinorbis_refusal_text(UINT32_MAX)) == 0, "%u and %u: %s", a, b, cinorbis_refusal_text(a));
+        }
+    CHECK(strcmp(cinorbis_refusal_text(CINORBIS_PAD), cinorbis_refusal_text(UINT32_MAX)) != 0, "a refusal without a text");
+    end();
+}
+
+int main(void) {
+    texts();
+    limits_of_the_code();
+    largest_reading();
+    default_allowance();
+    largest_record();
+    refusals_by_name();
+    return finish();
+}
