@@ -96,6 +96,13 @@ module _ (r m : ℕ) (l : List ℤ) (k n : ℕ) where
         | refuses why f h ↦ let z : _≡_ {A = ℕ} 0 1 = cc in absurd (omega arith)
       ]
 
+  pub refused-small : (why : Refusal) → Refused why ≡ admitted r m l k n → numberOf why < 5
+  refused-small why e =
+      elim decided [
+        | allows c f is a ↦ let z : _≡_ {A = ℕ} 0 1 = cc in absurd (omega arith)
+        | refuses given f h ↦ let same : why ≡ given = cc in rw same h
+      ]
+
   pub sound-allowed : SoundReadings (rm r m) l k n → Allowed (rm r m) ≡ admitted r m l k n
   sound-allowed a =
       let good = made-good r m (a .sound .m-small) (a .sound .r-small) in

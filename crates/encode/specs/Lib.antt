@@ -1,8 +1,11 @@
--- What the calls tell and leave
+-- What the calls tell and leave, and demand 1 over it
 pub mod Outcome
--- A step of the work; laws; that no second outcome meets the contracts; encoding and taking back again
-pub mod Work
+pub mod Demands
+-- Laws of the outcomes: each return; no second outcome; encoding and taking back again; demand 1 is met
 pub mod OutcomeLaws
 pub mod OnlyOutcome
-pub mod WorkLaws
 pub mod RoundTrip
+pub mod DemandsMet
+-- A step of the work
+pub mod Work
+pub mod WorkLaws
