@@ -26,8 +26,8 @@ word-2 (a ∷ []) h = absurd (omega arith)
 word-2 (a ∷ b ∷ x) h = refl
 
 word-4 : (x : List ℕ) → 4 ≤ length x
-    → transform 2 (take 4 x) ≡ ((getD x 0 0 + getD x 1 0) % 2 + (getD x 2 0 + getD x 3 0) % 2) % 2 ∷ (getD x 1 0 + getD x 3 0) % 2 ∷ (getD x 2 0 + getD x 3 0) % 2
-    ∷ getD x 3 0 ∷ []
+    → transform 2 (take 4 x) ≡ ((getD x 0 0 + getD x 1 0) % 2 + (getD x 2 0 + getD x 3 0) % 2) % 2 ∷ (getD x 1 0 + getD x 3 0) % 2
+    ∷ (getD x 2 0 + getD x 3 0) % 2 ∷ getD x 3 0 ∷ []
 unfolding transform
 word-4 [] h = absurd (omega arith)
 word-4 (a ∷ []) h = absurd (omega arith)
@@ -85,7 +85,8 @@ module _ {t i : ℕ} {y : List ℕ} {s : List ℤ} (r : LowReady (suc t) i y s) 
 
   long-new : length (below t i y (rowOf (2 ^ t + 2 ^ t) s)) ≡ 2 ^ t
   long-new =
-      length-below t i y (rowOf (2 ^ t + 2 ^ t) s) (length-rowOf (2 ^ t + 2 ^ t) s low-room ∙ sym (two-pow-succ t)) (omega (arith, r .short, r .arrays .long-path))
+      length-below t i y (rowOf (2 ^ t + 2 ^ t) s) (length-rowOf (2 ^ t + 2 ^ t) s low-room ∙ sym (two-pow-succ t))
+      (omega (arith, r .short, r .arrays .long-path))
 
   -- the row is made, and the next one may be
   pub low-next : {s′ : List ℤ} → s′ ≡ newRow t i y s → LowReady t i y s′

@@ -1,5 +1,5 @@
 -- Laws of rows made one from the other, from the highest that changes down to the value in the last one.
-use mathlib.Core.Path.{_≡_, refl, ap, sym, _∙_, subst}
+use mathlib.Core.Path.{_≡_, ap, sym, _∙_, subst}
 use mathlib.Core.List.{List}
 use mathlib.Core.Logic.{⊎-elim}
 use Prim.Native.Nat.{ℕ, zero, suc, _+_, _-_, _^_, _/_, _%_, _≤_, _<_}
@@ -83,7 +83,8 @@ pub made-remade : {m i : ℕ} (k : ℕ) {y : List ℕ} {l s : List ℤ} → k < 
 unfolding remade
 made-remade zero h long path room f = f
 made-remade (suc t) {y = y} {l = l} {s = s} h long path room f =
-    made-remade t {y = y} {l = l} (omega arith) long path (omega (arith, length-new (omega arith) long path room f h)) (made-row (omega arith) long path room f h)
+    made-remade t {y = y} {l = l} (omega arith) long path (omega (arith, length-new (omega arith) long path room f h))
+    (made-row (omega arith) long path room f h)
 
 -- ---- all rows made
 pub made-all : {m i : ℕ} {y : List ℕ} {l s : List ℤ} → Made m l y i 0 s → Stands m l y i i s

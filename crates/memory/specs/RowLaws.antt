@@ -1,5 +1,5 @@
 -- Laws of the rows for an index: what they depend on, how they lie in the array, and the value in the last one.
-use mathlib.Core.Path.{_≡_, refl, ap, ap₂, sym, _∙_, subst}
+use mathlib.Core.Path.{_≡_, refl, ap, sym, _∙_}
 use mathlib.Core.List.{List}
 use mathlib.Core.Logic.{_⊎_, inl, inr, ⊎-elim}
 use Prim.Native.Nat.{ℕ, zero, suc, _+_, _-_, _*_, _^_, _/_, _%_, _≤_, _<_}
@@ -8,8 +8,8 @@ use native.Mathlib.Nat.{two-pow-succ, add-mul, mul-add, div-eq-of-lt, div-eq-of-
 use native.Mathlib.Numerals.{add-one}
 use lib.IntN.{ℤ, pos}
 use lib.ListN.{length, getD, take, drop, length-drop}
-use lib.Seq.{take-take, drop-drop, length-take-le, getD-take, getD-drop}
-use lib.Pow.{pow-pos, pow-mono, pow-add, shr-shr, split}
+use lib.Seq.{take-take, drop-drop, length-take-le}
+use lib.Pow.{pow-pos, pow-add, shr-shr}
 use borrow.Author.Tests.{eq-eqb, ne-eqb, lt-ltb, le-ltb}
 use Rattle.numbers.specs.Choice.{lt-or-le}
 use Rattle.numbers.specs.Halves.{drop-take}

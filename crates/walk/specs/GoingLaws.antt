@@ -2,7 +2,7 @@
 use mathlib.Core.Path.{_≡_, refl, ap, sym, _∙_, subst}
 use mathlib.Core.Bool.{Bool, true, false, not}
 use mathlib.Core.List.{List}
-use Prim.Native.Nat.{ℕ, _+_, _-_, _^_, _≤_, _<_}
+use Prim.Native.Nat.{ℕ, _+_, _-_, _^_, _<_}
 use native.Mathlib.Omega.{arith}
 use lib.IntN.{ℤ}
 use lib.ListN.{length, getD, set, take}
@@ -55,7 +55,8 @@ module _ {l : List ℤ} {kinds : List ℕ} {s : List ℤ} {y best second : List 
 
   go-dropped : drops (seen σ) q ≡ true → Extended l kinds i p b (take i y) z best₁ second₁ (seen σ) s₁ y₁ best₁ second₁
   go-dropped d =
-      extension-dropped l kinds i p b (take i y) z best₁ second₁ q adds-z (g .may) low (g .kept .high) (g .going) (g .index) (g .shows) (drops-z true d) (g .path)
+      extension-dropped l kinds i p b (take i y) z best₁ second₁ q adds-z (g .may) low (g .kept .high) (g .going) (g .index) (g .shows)
+      (drops-z true d) (g .path)
       (kept-less (i - 1) (omega arith) (g .kept))
 
   go-next : drops (seen σ) q ≡ false → Ready l kinds s₁ (set y₁ i b) best₁ second₁ (i + 1) q (seen σ)
@@ -140,7 +141,8 @@ module _ {l₀ : List ℤ} {k₀ : List ℕ} {s : List ℤ} {y best second σ : 
           record {
             long = v .shows .long;
             ready = subst (λ (n : ℕ). ValueReady n (take (2 ^ n) l₀) y (getD σ₁ 5 0) i s) (sym (ap (λ (k : Progress). k .m) counts))
-                (subst (λ (j : ℕ). ValueReady (getD σ 6 0) (front σ l₀) y j i s) (sym (ap (λ (k : Progress). k .index) counts)) (value-ready (a .ready) inside));
+                (subst (λ (j : ℕ). ValueReady (getD σ 6 0) (front σ l₀) y j i s) (sym (ap (λ (k : Progress). k .index) counts))
+                (value-ready (a .ready) inside));
           }
 
       module _ {x : ℤ} {s₂ : List ℤ} {σ₂ : List ℕ} (given : ValueGiven l₀ y σ₁ i x s₂ σ₂) where
@@ -182,7 +184,8 @@ module _ {l₀ : List ℤ} {k₀ : List ℕ} {s : List ℤ} {y best second σ : 
       frozen-dropped d =
           reached-given (record {
             long = g .long;
-            stepped = one-extension (r .asked .ready) inside (kind-same (r .asked) inside ∙ kind) (go-dropped (r .asked .ready) inside g 0 (omega arith) adds d);
+            stepped = one-extension (r .asked .ready) inside (kind-same (r .asked) inside ∙ kind)
+                (go-dropped (r .asked .ready) inside g 0 (omega arith) adds d);
           })
 
       pub reached-more : drops (seen σ₂) q ≡ false → {y₂ : List ℕ} → y₂ ≡ set y i 0 → Reached l₀ k₀ y₀ best₀ second₀ σ₀ from p₀ s₂ y₂ best second σ₂ (i + 1) q
@@ -197,7 +200,8 @@ module _ {l₀ : List ℤ} {k₀ : List ℕ} {s : List ℤ} {y best second σ : 
               ready = subst (λ (n : ℕ). Ready (take (2 ^ n) l₀) (take (2 ^ n) k₀) s₂ (set y i 0) best second (i + 1) q (seen σ₂)) (sym m₂)
                   (go-next (r .asked .ready) inside g 0 (omega arith) adds d);
             };
-            onward = subst (λ (n : ℕ). Onward (take (2 ^ n) l₀) (take (2 ^ n) k₀) from p₀ (seen σ₀) y₀ best₀ second₀ (i + 1) q (seen σ₂) (set y i 0) best second)
+            onward = subst (λ (n : ℕ). Onward (take (2 ^ n) l₀) (take (2 ^ n) k₀) from p₀ (seen σ₀) y₀ best₀ second₀
+                (i + 1) q (seen σ₂) (set y i 0) best second)
                 (r .onward .same-m) (onward-more there (r .asked .ready) inside (kind-same (r .asked) inside ∙ kind) g adds d);
           })
 
@@ -218,7 +222,8 @@ module _ {l₀ : List ℤ} {k₀ : List ℕ} {s : List ℤ} {y best second σ : 
         record {
           long = g .long;
           ready = subst (λ (n : ℕ). Ready (take (2 ^ n) l₀) (take (2 ^ n) k₀) s₁ y₂ best₁ second₁ (i + 1) q (seen σ₂)) (sym same)
-              (subst (λ (x : List ℕ). Ready (front σ l₀) (front σ k₀) s₁ x best₁ second₁ (i + 1) q (seen σ₂)) (sym put) (go-next (a .ready) inside g b bit adds d));
+              (subst (λ (x : List ℕ). Ready (front σ l₀) (front σ k₀) s₁ x best₁ second₁ (i + 1) q (seen σ₂)) (sym put)
+              (go-next (a .ready) inside g b bit adds d));
         }
 
     module _ {s′ : List ℤ} {y′ best′ second′ σ′ : List ℕ} (st : StepGiven l₀ k₀ y₂ best₁ second₁ σ₂ (i + 1) q s′ y′ best′ second′ σ′) where

@@ -1,7 +1,7 @@
 -- Where the walk starts, and what its first step gives.
 use mathlib.Core.Path.{_≡_, refl, sym, subst}
 use mathlib.Core.List.{List}
-use Prim.Native.Nat.{ℕ, _-_, _^_, _<_, zero-le}
+use Prim.Native.Nat.{ℕ, _-_, _^_, zero-le}
 use native.Mathlib.Omega.{arith}
 use lib.IntN.{ℤ}
 use lib.ListN.{length, set, take, replicate}

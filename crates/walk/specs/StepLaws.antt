@@ -1,27 +1,26 @@
 -- Laws of the walk's steps: an extension is out, dropped, or gone on with; what the next step asks; what the deeper one leaves.
 use mathlib.Core.Path.{_≡_, refl, ap, ap₂, sym, _∙_, subst}
-use mathlib.Core.Bool.{Bool, true, false, cond}
+use mathlib.Core.Bool.{Bool, true, false}
 use mathlib.Core.List.{List, [], _∷_, _++_}
-use Prim.Native.Nat.{ℕ, zero, suc, _+_, _-_, _^_, _≤_, _<_, zero-le}
+use Prim.Native.Nat.{ℕ, zero, suc, _+_, _-_, _^_, _≤_, _<_}
 use native.Mathlib.Omega.{arith}
 use native.Mathlib.Nat.{lt-of-le-of-lt}
 use native.Mathlib.Numerals.{add-one}
 use lib.IntN.{ℤ, natAbs}
 use lib.ListN.{length, getD, set, take, drop, drop-of-length-le, length-set}
 use lib.Seq.{drop-cons, take-take, take-set-le, take-suc-set, length-take-le}
-use lib.Pow.{pow-pos, pow-mono}
-use lib.Dec.{T, ltb, leb}
-use borrow.Author.Tests.{lt-ltb, le-ltb, lt-leb, ltb-false, ltb-true}
+use lib.Dec.{T, leb}
+use borrow.Author.Tests.{lt-leb, ltb-false, ltb-true}
 use Rattle.numbers.specs.Halves.{length-more}
 use Rattle.words.specs.Bits.{Bits}
 use Rattle.words.specs.TransformLaws.{bits-more, bits-take}
-use Rattle.decoding.specs.Readings.{loss, sizes}
+use Rattle.decoding.specs.Readings.{loss}
 use Rattle.decoding.specs.Quick.{hard}
-use Rattle.decoding.specs.Walk.{State, Full, dropped, finished, visited, start, value, pathPenalty, addedBy}
+use Rattle.decoding.specs.Walk.{State, Full, dropped, finished, value}
 use Rattle.decoding.specs.Allowance.{Limited, ended, out, andThen, extendWithin, walkWithin}
-use Rattle.decoding.specs.PathLaws.{value-sizes, path-more, path-sizes, loss-hard}
+use Rattle.decoding.specs.PathLaws.{value-sizes, path-more, path-sizes}
 use Rattle.memory.specs.Memory.{Stands, ValueReady}
-use Rattle.memory.specs.StandsLaws.{stands-less, stands-path, stands-none}
+use Rattle.memory.specs.StandsLaws.{stands-less, stands-path}
 use Rattle.walk.specs.Progress.{Progress, seen, fullOf, heldBy, stateOf, limitedOf, allows, more, stopped, counted, standing, drops, none-yet}
 use Rattle.walk.specs.Progress.{Kept, Ready, Stepped, extension, Extended, Going, Onward}
 

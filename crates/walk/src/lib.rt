@@ -198,6 +198,7 @@ fn frozen_step(
         let value = value_at(readings, rows, path, word, state, i);
         sum += rows::loss(value, 0);
         if dropped(state, sum) {
+            // it is counted all the same
             return;
         }
         put(path, i, 0);

@@ -12,11 +12,6 @@ use mathlib.Core.Path.{ap, _∙_}
 use borrow.Author.Needs.{needs}
 use Rattle.memory.proofs.any_value.Statement.{statement}
 use Rattle.memory.proofs.any_value.Tie as tie
-use Rattle.memory.proofs.any_value.Reads as reads
-use Rattle.memory.proofs.any_value.Lts as lts
-use Rattle.memory.proofs.low_rows.Reads as low-rows-reads
-use Rattle.memory.proofs.make_rows.Reads as make-rows-reads
-use Rattle.memory.proofs.top.Reads as top-reads
 
 element-copy-out-result : tie.Need-element-copy-out-result
 element-copy-out-result c = search needs
@@ -38,27 +33,32 @@ add-low-rows c = search needs
 
 low-rows-requires : tie.Need-low-rows-requires
 low-rows-requires c κs =
-    let g = c .before .before .before .before .before .before .before in
-    let t = c .before .before .before .before .before .top in
-    let more : suc (t .result) < g .args .m = omega (arith, ltb-true (t .result + 1) (g .args .m) (c .before .before .before .if3 .taken)) in
-    (omega arith, rw (add-one (t .result)) (low-asked (first-ready (g .pre) (t .ensures)) (value-arrays (g .pre) (omega arith) (omega arith)) (omega arith) more), omega arith)
+    let if3 = c .before .before .before in
+    let t = if3 .before .before .top in
+    let start = if3 .before .before .before .before in
+    let more : suc (t .result) < start .args .m = omega (arith, ltb-true (t .result + 1) (start .args .m) (if3 .if3 .taken)) in
+    let arrays = value-arrays (start .pre) (omega arith) (omega arith) in
+    (omega arith, rw (add-one (t .result)) (low-asked (first-ready (start .pre) (t .ensures)) arrays (omega arith) more), omega arith)
 
 element-copy-out-result-2 : tie.Need-element-copy-out-result-2
 element-copy-out-result-2 c = search needs
 
 returns-2 : tie.Need-returns-2
 returns-2 c =
-    let g = c .before .before .before .before .before .before .before .before .before in
-    let t = c .before .before .before .before .before .before .before .top in
-    let w = c .before .low-rows in
-    let more : suc (t .result) < g .args .m = omega (arith, ltb-true (t .result + 1) (g .args .m) (c .before .before .before .before .before .if3 .taken)) in
-    value-given (g .pre) (omega arith) (omega arith) (low-made (first-ready (g .pre) (t .ensures)) (value-arrays (g .pre) (omega arith) (omega arith)) more
-    (w .ensures ∙ ap (λ (k : ℕ). remade k (g .args .i) (g .args .path .now) (g .args .rows .now)) (add-one (t .result))))
+    let if3 = c .before .before .before .before .before in
+    let t = if3 .before .before .top in
+    let start = if3 .before .before .before .before in
+    let s = start .args in
+    let more : suc (t .result) < s .m = omega (arith, ltb-true (t .result + 1) (s .m) (if3 .if3 .taken)) in
+    value-given (start .pre) (omega arith) (omega arith)
+    (low-made (first-ready (start .pre) (t .ensures)) (value-arrays (start .pre) (omega arith) (omega arith)) more
+    (c .before .low-rows .ensures ∙ ap (λ (k : ℕ). remade k (s .i) (s .path .now) (s .rows .now)) (add-one (t .result))))
 
 make-rows-requires : tie.Need-make-rows-requires
 make-rows-requires c κs =
-    let g = c .before .before .before .before .before .before .before in
-    (omega arith, value-arrays (g .pre) (omega arith) (omega arith), omega arith, first-ready (g .pre) (c .before .before .before .before .before .top .ensures))
+    let t = c .before .before .before .before .before .top in
+    let start = c .before .before .before .before .before .before .before in
+    (omega arith, value-arrays (start .pre) (omega arith) (omega arith), omega arith, first-ready (start .pre) (t .ensures))
 
 element-copy-out-result-3 : tie.Need-element-copy-out-result-3
 element-copy-out-result-3 c = search needs

@@ -14,11 +14,6 @@ use mathlib.Core.Path.{_≡_, ap, sym, _∙_}
 use borrow.Author.Needs.{needs}
 use Rattle.memory.proofs.first_row.Statement.{statement}
 use Rattle.memory.proofs.first_row.Tie as tie
-use Rattle.memory.proofs.first_row.Reads as reads
-use Rattle.memory.proofs.first_row.Lts as lts
-use Rattle.memory.proofs.power.Reads as power-reads
-use Rattle.memory.proofs.row.Reads as row-reads
-use Rattle.memory.proofs.top_row.Reads as top-row-reads
 
 add-if1 : tie.Need-add-if1
 add-if1 c = search needs
@@ -51,12 +46,13 @@ same-length-2 c = search needs
 
 returns : tie.Need-returns
 returns c =
-    let g = c .before .before .before .before .before .before .before .before .before .before .before in
-    let e : suc (g .args .t) ≡ g .args .m = sym (add-one (g .args .t)) ∙ c .before .before .before .before .before .before .before .before .if1 .taken in
     let n = c .before .before .before .before .before .before .before .power in
-    let cut : take (n .result - 0) (g .args .readings .now) ≡ take (2 ^ g .args .m) (g .args .readings .now) = rw (sub-zero, n .ensures) in
-    top-made (g .pre .3) (g .pre .1) e
-    (c .before .before .before .top-row .ensures ∙ ap (λ (k : List ℤ). withRow (2 ^ g .args .t) (g .args .rows .now) (below (g .args .t) (g .args .i) (g .args .path .now) k)) cut)
+    let start = c .before .before .before .before .before .before .before .before .before .before .before in
+    let s = start .args in
+    let e : suc (s .t) ≡ s .m = sym (add-one (s .t)) ∙ c .before .before .before .before .before .before .before .before .if1 .taken in
+    let cut : take (n .result - 0) (s .readings .now) ≡ take (2 ^ s .m) (s .readings .now) = rw (sub-zero, n .ensures) in
+    top-made (start .pre .3) (start .pre .1) e
+    (c .before .before .before .top-row .ensures ∙ ap (λ (k : List ℤ). withRow (2 ^ s .t) (s .rows .now) (below (s .t) (s .i) (s .path .now) k)) cut)
 
 row-requires : tie.Need-row-requires
 row-requires c κs =

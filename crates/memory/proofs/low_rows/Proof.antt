@@ -4,30 +4,41 @@ use Rattle.memory.specs.Memory.{remade, LowReady}
 use native.Mathlib.Omega.{arith}
 use Prim.Native.Nat.{ℕ}
 use mathlib.Core.Path.{_≡_, ap, sym, _∙_, subst}
+use mathlib.Core.List.{List}
+use lib.IntN.{ℤ}
 use borrow.Author.Needs.{needs}
 use Rattle.memory.proofs.low_rows.Statement.{statement}
 use Rattle.memory.proofs.low_rows.Tie as tie
-use Rattle.memory.proofs.low_rows.Reads as reads
-use Rattle.memory.proofs.low_rows.Lts as lts
-use Rattle.memory.proofs.row_of_1.Reads as row-of-1-reads
-use Rattle.memory.proofs.row_of_2.Reads as row-of-2-reads
-use Rattle.memory.proofs.row_of_4.Reads as row-of-4-reads
+
+-- what is asked, for the number of rows that the test has found
+asked : (start : tie.Start) (k : ℕ) → start .args .k ≡ k → LowReady k (start .args .i) (start .args .path .now) (start .args .rows .now)
+asked start k e = subst (λ (n : ℕ). LowReady n (start .args .i) (start .args .path .now) (start .args .rows .now)) e (start .pre .1)
+
+given : (start : tie.Start) (k : ℕ) {x : List ℤ} → start .args .k ≡ k
+    → let s = start .args in
+    x ≡ remade k (s .i) (s .path .now) (s .rows .now) → x ≡ remade (s .k) (s .i) (s .path .now) (s .rows .now)
+given start k e f = let s = start .args in f ∙ ap (λ (n : ℕ). remade n (s .i) (s .path .now) (s .rows .now)) (sym e)
+
+one-row : (start : tie.Start) → (start .args .k ≡ 3 → ⊥) → (start .args .k ≡ 2 → ⊥) → start .args .k ≡ 1
+one-row start three two = omega (arith, start .pre .0, start .pre .1 .few, three, two)
 
 row-of-4-requires : tie.Need-row-of-4-requires
 row-of-4-requires c κs =
-    let g = c .before .before .before .before .before in
-    (subst (λ (k : ℕ). LowReady k (g .args .i) (g .args .path .now) (g .args .rows .now)) (c .before .before .if1 .taken) (g .pre .1), g .pre .2)
+    let start = c .before .before .before .before .before in
+    (asked start 3 (c .before .before .if1 .taken), start .pre .2)
 
 row-of-2-requires : tie.Need-row-of-2-requires
 row-of-2-requires c κs =
-    let g = c .before .before .before .before .before .before .before .before .before .before .before in
-    let a = c .before .before .before .before .before .row-of-4 in
-    (low-next (subst (λ (k : ℕ). LowReady k (g .args .i) (g .args .path .now) (g .args .rows .now)) (c .before .before .before .before .before .before .before .before .if1 .taken) (g .pre .1)) (a .ensures), omega (arith, g .pre .2, a .kept))
+    let made = c .before .before .before .before .before in
+    let start = made .before .before .before .before .before .before in
+    (low-next (asked start 3 (made .before .before .before .if1 .taken)) (made .row-of-4 .ensures), omega (arith, start .pre .2, made .row-of-4 .kept))
 
 row-of-1-requires : tie.Need-row-of-1-requires
 row-of-1-requires c κs =
-    let g = c .before .before .before .before .before .before .before .before .before .before .before .before .before .before .before .before in
-    low-next (low-next (subst (λ (k : ℕ). LowReady k (g .args .i) (g .args .path .now) (g .args .rows .now)) (c .before .before .before .before .before .before .before .before .before .before .before .before .before .if1 .taken) (g .pre .1)) (c .before .before .before .before .before .before .before .before .before .before .row-of-4 .ensures)) (c .before .before .before .before .row-of-2 .ensures)
+    let two = c .before .before .before .before in
+    let four = two .before .before .before .before .before .before in
+    let start = four .before .before .before .before .before .before in
+    low-next (low-next (asked start 3 (four .before .before .before .if1 .taken)) (four .row-of-4 .ensures)) (two .row-of-2 .ensures)
 
 same-length : tie.Need-same-length
 same-length c = search needs
@@ -37,22 +48,23 @@ same-length-2 c = search needs
 
 returns : tie.Need-returns
 returns c =
-    let g = c .before .before .before .before .before .before .before .before .before .before .before .before .before .before .before .before .before .before in
-    let a = c .before .before .before .before .before .before .before .before .before .before .before .before .row-of-4 in
-    let b = c .before .before .before .before .before .before .row-of-2 in
-    remade-more 2 (g .args .i) (g .args .path .now) (g .args .rows .now) (a .ensures)
-    (remade-more 1 (g .args .i) (g .args .path .now) (a .last .0) (b .ensures) (remade-one (g .args .i) (g .args .path .now) (b .last .0) (c .before .row-of-1 .ensures)))
-    ∙ ap (λ (k : ℕ). remade k (g .args .i) (g .args .path .now) (g .args .rows .now)) (sym (c .before .before .before .before .before .before .before .before .before .before .before .before .before .before .before .if1 .taken))
+    let two = c .before .before .before .before .before .before in
+    let four = two .before .before .before .before .before .before in
+    let start = four .before .before .before .before .before .before in
+    let s = start .args in
+    given start 3 (four .before .before .before .if1 .taken) (remade-more 2 (s .i) (s .path .now) (s .rows .now) (four .row-of-4 .ensures)
+    (remade-more 1 (s .i) (s .path .now) (four .row-of-4 .last .0) (two .row-of-2 .ensures)
+    (remade-one (s .i) (s .path .now) (two .row-of-2 .last .0) (c .before .row-of-1 .ensures))))
 
 row-of-2-requires-2 : tie.Need-row-of-2-requires-2
 row-of-2-requires-2 c κs =
-    let g = c .before .before .before .before .before .before in
-    (subst (λ (k : ℕ). LowReady k (g .args .i) (g .args .path .now) (g .args .rows .now)) (c .before .before .if2 .taken) (g .pre .1), g .pre .2)
+    let start = c .before .before .before .before .before .before in
+    (asked start 2 (c .before .before .if2 .taken), start .pre .2)
 
 row-of-1-requires-2 : tie.Need-row-of-1-requires-2
 row-of-1-requires-2 c κs =
-    let g = c .before .before .before .before .before .before .before .before .before .before .before in
-    low-next (subst (λ (k : ℕ). LowReady k (g .args .i) (g .args .path .now) (g .args .rows .now)) (c .before .before .before .before .before .before .before .if2 .taken) (g .pre .1)) (c .before .before .before .before .row-of-22 .ensures)
+    let two = c .before .before .before .before in
+    low-next (asked (two .before .before .before .before .before .before .before) 2 (two .before .before .before .if2 .taken)) (two .row-of-22 .ensures)
 
 same-length-3 : tie.Need-same-length-3
 same-length-3 c = search needs
@@ -62,26 +74,26 @@ same-length-4 c = search needs
 
 returns-2 : tie.Need-returns-2
 returns-2 c =
-    let g = c .before .before .before .before .before .before .before .before .before .before .before .before .before in
-    let b = c .before .before .before .before .before .before .row-of-22 in
-    remade-more 1 (g .args .i) (g .args .path .now) (g .args .rows .now) (b .ensures) (remade-one (g .args .i) (g .args .path .now) (b .last .0) (c .before .row-of-12 .ensures))
-    ∙ ap (λ (k : ℕ). remade k (g .args .i) (g .args .path .now) (g .args .rows .now)) (sym (c .before .before .before .before .before .before .before .before .before .if2 .taken))
+    let two = c .before .before .before .before .before .before in
+    let start = two .before .before .before .before .before .before .before in
+    let s = start .args in
+    given start 2 (two .before .before .before .if2 .taken) (remade-more 1 (s .i) (s .path .now) (s .rows .now) (two .row-of-22 .ensures)
+    (remade-one (s .i) (s .path .now) (two .row-of-22 .last .0) (c .before .row-of-12 .ensures)))
 
 row-of-1-requires-3 : tie.Need-row-of-1-requires-3
 row-of-1-requires-3 c κs =
-    let g = c .before .before .before .before .before in
-    let e : g .args .k ≡ 1 = omega (arith, g .pre .0, g .pre .1 .few, c .before .if2 .left, c .before .before .if1 .left) in
-    subst (λ (k : ℕ). LowReady k (g .args .i) (g .args .path .now) (g .args .rows .now)) e (g .pre .1)
+    let start = c .before .before .before .before .before in
+    asked start 1 (one-row start (c .before .before .if1 .left) (c .before .if2 .left))
 
 same-length-5 : tie.Need-same-length-5
 same-length-5 c = search needs
 
 returns-3 : tie.Need-returns-3
 returns-3 c =
-    let g = c .before .before .before .before .before .before .before in
-    let e : g .args .k ≡ 1 = omega (arith, g .pre .0, g .pre .1 .few, c .before .before .before .if2 .left, c .before .before .before .before .if1 .left) in
-    remade-one (g .args .i) (g .args .path .now) (g .args .rows .now) (c .before .row-of-13 .ensures)
-    ∙ ap (λ (k : ℕ). remade k (g .args .i) (g .args .path .now) (g .args .rows .now)) (sym e)
+    let start = c .before .before .before .before .before .before .before in
+    let s = start .args in
+    given start 1 (one-row start (c .before .before .before .before .if1 .left) (c .before .before .before .if2 .left))
+    (remade-one (s .i) (s .path .now) (s .rows .now) (c .before .row-of-13 .ensures))
 
 pub low-rows-spec : {M : Type 1} → statement M
 low-rows-spec =

@@ -7,10 +7,6 @@ use Prim.Native.Nat.{ℕ, _-_, _^_, _≤_, _<_, suc}
 use mathlib.Core.Path.{_≡_, sym, _∙_, subst}
 use Rattle.memory.proofs.make_rows.Statement.{statement}
 use Rattle.memory.proofs.make_rows.Tie as tie
-use Rattle.memory.proofs.make_rows.Reads as reads
-use Rattle.memory.proofs.make_rows.Lts as lts
-use Rattle.memory.proofs.first_row.Reads as first-row-reads
-use Rattle.memory.proofs.row.Reads as row-reads
 
 abbrev Inv-loop : tie.InvT-loop
 Inv-loop readings rows₀ path word₀ m high i t₀ rows word t =

@@ -10,12 +10,6 @@ use mathlib.Core.Path.{ap, _∙_}
 use borrow.Author.Needs.{needs}
 use Rattle.memory.proofs.row.Statement.{statement}
 use Rattle.memory.proofs.row.Tie as tie
-use Rattle.memory.proofs.row.Reads as reads
-use Rattle.memory.proofs.row.Lts as lts
-use Rattle.memory.proofs.left_word.Reads as left-word-reads
-use Rattle.memory.proofs.power.Reads as power-reads
-use Rattle.rows.proofs.lower_row.Reads as lower-row-reads
-use Rattle.rows.proofs.upper_row.Reads as upper-row-reads
 
 power-requires : tie.Need-power-requires
 power-requires c κs = search needs
@@ -25,19 +19,22 @@ div-b c = omega (arith, c .power .ensures, pow-pos (c .before .before .before .a
 
 mul-left-word : tie.Need-mul-left-word
 mul-left-word c =
-    let g = c .before .before .before .before .before in
+    let s = c .before .before .before .before .before .args in
     let h = c .before .before .power in
-    record { fits = omega (arith, start-inside (g .args .t) (h .result) (g .args .i) (g .args .path .now) (rowOf (2 ^ g .args .t + 2 ^ g .args .t) (g .args .rows .now)) (g .args .rows .now) (h .ensures)) }
+    let above = rowOf (2 ^ s .t + 2 ^ s .t) (s .rows .now) in
+    record { fits = omega (arith, start-inside (s .t) (h .result) (s .i) (s .path .now) above (s .rows .now) (h .ensures)) }
 
 left-word-requires : tie.Need-left-word-requires
 left-word-requires c κs =
-    let g = c .before .before .before .before .before in
-    let h = c .before .before .power in (
-      left-some (g .args .t) (h .result) (g .args .i) (g .args .path .now) (rowOf (2 ^ g .args .t + 2 ^ g .args .t) (g .args .rows .now)) (g .args .rows .now) (h .ensures) (c .before .if1 .taken),
-      omega (arith, start-inside (g .args .t) (h .result) (g .args .i) (g .args .path .now) (rowOf (2 ^ g .args .t + 2 ^ g .args .t) (g .args .rows .now)) (g .args .rows .now) (h .ensures), g .pre .2),
-      omega (arith, h .ensures, g .pre .0, g .pre .3),
+    let start = c .before .before .before .before .before in
+    let s = start .args in
+    let h = c .before .before .power in
+    let above = rowOf (2 ^ s .t + 2 ^ s .t) (s .rows .now) in (
+      left-some (s .t) (h .result) (s .i) (s .path .now) above (s .rows .now) (h .ensures) (c .before .if1 .taken),
+      omega (arith, start-inside (s .t) (h .result) (s .i) (s .path .now) above (s .rows .now) (h .ensures), start .pre .2),
+      omega (arith, h .ensures, start .pre .0, start .pre .3),
       h .ensures,
-      g .pre .2 .bits,
+      start .pre .2 .bits,
     )
 
 upper-row-requires : tie.Need-upper-row-requires
@@ -57,12 +54,14 @@ same-length-2 c = search needs
 
 returns : tie.Need-returns
 returns c =
-    let g = c .before .before .before .before .before .before .before .before .before .before .before .before in
-    let h = c .before .before .before .before .before .before .before .before .before .power in
+    let if1 = c .before .before .before .before .before .before .before .before in
+    let h = if1 .before .power in
+    let s = if1 .before .before .before .before .args in
     let w = c .before .before .before .before .before .before .left-word in
-    upper-made (g .args .t) (h .result) (g .args .i) (g .args .path .now) (rowOf (2 ^ g .args .t + 2 ^ g .args .t) (g .args .rows .now)) (g .args .rows .now) (h .ensures) (w .last .1 .0) (c .before .before .before .before .before .before .before .before .if1 .taken) (w .ensures)
+    upper-made (s .t) (h .result) (s .i) (s .path .now) (rowOf (2 ^ s .t + 2 ^ s .t) (s .rows .now)) (s .rows .now) (h .ensures)
+    (w .last .1 .0) (if1 .if1 .taken) (w .ensures)
     (c .before .upper-row .ensures
-    ∙ ap (λ (k : ℕ). withRow (h .result) (g .args .rows .now) (upperRow (h .result) (rowOf (k + k) (g .args .rows .now)) (take (h .result) (w .last .1 .0)))) (h .ensures))
+    ∙ ap (λ (k : ℕ). withRow (h .result) (s .rows .now) (upperRow (h .result) (rowOf (k + k) (s .rows .now)) (take (h .result) (w .last .1 .0)))) (h .ensures))
 
 lower-row-requires : tie.Need-lower-row-requires
 lower-row-requires c κs =
@@ -75,11 +74,12 @@ same-length-3 c = search needs
 
 returns-2 : tie.Need-returns-2
 returns-2 c =
-    let g = c .before .before .before .before .before .before .before in
-    let h = c .before .before .before .before .power in
-    lower-made (g .args .t) (h .result) (g .args .i) (g .args .path .now) (rowOf (2 ^ g .args .t + 2 ^ g .args .t) (g .args .rows .now)) (g .args .rows .now) (h .ensures) (c .before .before .before .if1 .left)
+    let if1 = c .before .before .before in
+    let h = if1 .before .power in
+    let s = if1 .before .before .before .before .args in
+    lower-made (s .t) (h .result) (s .i) (s .path .now) (rowOf (2 ^ s .t + 2 ^ s .t) (s .rows .now)) (s .rows .now) (h .ensures) (if1 .if1 .left)
     (c .before .lower-row .ensures
-    ∙ ap (λ (k : ℕ). withRow (h .result) (g .args .rows .now) (lowerRow (h .result) (rowOf (k + k) (g .args .rows .now)))) (h .ensures))
+    ∙ ap (λ (k : ℕ). withRow (h .result) (s .rows .now) (lowerRow (h .result) (rowOf (k + k) (s .rows .now)))) (h .ensures))
 
 pub row-spec : {M : Type 1} → statement M
 row-spec =

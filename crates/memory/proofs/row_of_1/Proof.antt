@@ -10,10 +10,6 @@ use mathlib.Core.Path.{refl}
 use borrow.Author.Needs.{needs}
 use Rattle.memory.proofs.row_of_1.Statement.{statement}
 use Rattle.memory.proofs.row_of_1.Tie as tie
-use Rattle.memory.proofs.row_of_1.Reads as reads
-use Rattle.memory.proofs.row_of_1.Lts as lts
-use Rattle.rows.proofs.lower_row.Reads as lower-row-reads
-use Rattle.rows.proofs.upper_row.Reads as upper-row-reads
 
 sub-upper-row : tie.Need-sub-upper-row
 sub-upper-row c = search needs
@@ -35,10 +31,11 @@ same-length c = search needs
 
 returns : tie.Need-returns
 returns c =
-    let g = c .before .before .before .before .before .before in
-    let o = c .before .before .before .before .if1 .taken in
-    upper-here 0 1 (g .args .i) (g .args .path .now) (rowOf 2 (g .args .rows .now)) (g .args .rows .now) refl (midOf (g .args .i - 1) (g .args .i - (g .args .i - 1)) (g .args .path .now)) (start-odd 0 (g .args .i) o) (start-here 0 (g .args .i) o)
-    (bit-word (g .args .path .now) (g .args .i) (omega (arith, o))) (c .before .upper-row .ensures)
+    let if1 = c .before .before .before .before in
+    let s = if1 .before .before .args in
+    let o = if1 .if1 .taken in
+    upper-here 0 1 (s .i) (s .path .now) (rowOf 2 (s .rows .now)) (s .rows .now) refl (midOf (s .i - 1) (s .i - (s .i - 1)) (s .path .now))
+    (start-odd 0 (s .i) o) (start-here 0 (s .i) o) (bit-word (s .path .now) (s .i) (omega (arith, o))) (c .before .upper-row .ensures)
 
 lower-row-requires : tie.Need-lower-row-requires
 lower-row-requires c κs = search needs
@@ -48,8 +45,10 @@ same-length-2 c = search needs
 
 returns-2 : tie.Need-returns-2
 returns-2 c =
-    let g = c .before .before .before .before .before in
-    lower-made 0 1 (g .args .i) (g .args .path .now) (rowOf 2 (g .args .rows .now)) (g .args .rows .now) refl (rw (div-one (g .args .i)) (c .before .before .before .if1 .left)) (c .before .lower-row .ensures)
+    let if1 = c .before .before .before in
+    let s = if1 .before .before .args in
+    lower-made 0 1 (s .i) (s .path .now) (rowOf 2 (s .rows .now)) (s .rows .now) refl (rw (div-one (s .i)) (if1 .if1 .left))
+    (c .before .lower-row .ensures)
 
 pub row-of-1-spec : {M : Type 1} → statement M
 row-of-1-spec =

@@ -5,11 +5,6 @@ use mathlib.Core.Path.{refl}
 use borrow.Author.Needs.{needs}
 use Rattle.memory.proofs.row_of_4.Statement.{statement}
 use Rattle.memory.proofs.row_of_4.Tie as tie
-use Rattle.memory.proofs.row_of_4.Reads as reads
-use Rattle.memory.proofs.row_of_4.Lts as lts
-use Rattle.memory.proofs.word_of_4.Reads as word-of-4-reads
-use Rattle.rows.proofs.lower_row.Reads as lower-row-reads
-use Rattle.rows.proofs.upper_row.Reads as upper-row-reads
 
 mul-word-of-4 : tie.Need-mul-word-of-4
 mul-word-of-4 c = search needs
@@ -28,9 +23,11 @@ same-length-2 c = search needs
 
 returns : tie.Need-returns
 returns c =
-    let g = c .before .before .before .before .before .before .before .before .before .before .before in
+    let if1 = c .before .before .before .before .before .before .before .before in
+    let s = if1 .before .before .before .args in
     let w = c .before .before .before .before .before .before .word-of-4 in
-    upper-made 2 4 (g .args .i) (g .args .path .now) (rowOf 8 (g .args .rows .now)) (g .args .rows .now) refl (w .last .1 .0) (c .before .before .before .before .before .before .before .before .if1 .taken) (w .ensures) (c .before .upper-row .ensures)
+    upper-made 2 4 (s .i) (s .path .now) (rowOf 8 (s .rows .now)) (s .rows .now) refl (w .last .1 .0) (if1 .if1 .taken) (w .ensures)
+    (c .before .upper-row .ensures)
 
 lower-row-requires : tie.Need-lower-row-requires
 lower-row-requires c κs = search needs
@@ -40,8 +37,9 @@ same-length-3 c = search needs
 
 returns-2 : tie.Need-returns-2
 returns-2 c =
-    let g = c .before .before .before .before .before .before in
-    lower-made 2 4 (g .args .i) (g .args .path .now) (rowOf 8 (g .args .rows .now)) (g .args .rows .now) refl (c .before .before .before .if1 .left) (c .before .lower-row .ensures)
+    let if1 = c .before .before .before in
+    let s = if1 .before .before .before .args in
+    lower-made 2 4 (s .i) (s .path .now) (rowOf 8 (s .rows .now)) (s .rows .now) refl (if1 .if1 .left) (c .before .lower-row .ensures)
 
 pub row-of-4-spec : {M : Type 1} → statement M
 row-of-4-spec =

@@ -9,9 +9,6 @@ use mathlib.Core.Path.{refl}
 use borrow.Author.Needs.{needs}
 use Rattle.memory.proofs.start_of_1.Statement.{statement}
 use Rattle.memory.proofs.start_of_1.Tie as tie
-use Rattle.memory.proofs.start_of_1.Reads as reads
-use Rattle.memory.proofs.start_of_1.Lts as lts
-use Rattle.rows.proofs.upper_row.Reads as upper-row-reads
 
 sub-upper-row : tie.Need-sub-upper-row
 sub-upper-row c = search needs
@@ -33,11 +30,12 @@ same-length c = search needs
 
 returns : tie.Need-returns
 returns c =
-    let g = c .before .before .before .before .before in
-    let o = g .pre .0 in
-    remade-one (g .args .i) (g .args .path .now) (g .args .rows .now)
-    (upper-here 0 1 (g .args .i) (g .args .path .now) (rowOf 2 (g .args .rows .now)) (g .args .rows .now) refl (midOf (g .args .i - 1) (g .args .i - (g .args .i - 1)) (g .args .path .now)) (start-odd 0 (g .args .i) o) (start-here 0 (g .args .i) o)
-    (bit-word (g .args .path .now) (g .args .i) (omega (arith, o))) (c .before .upper-row .ensures))
+    let start = c .before .before .before .before .before in
+    let s = start .args in
+    let o = start .pre .0 in
+    remade-one (s .i) (s .path .now) (s .rows .now)
+    (upper-here 0 1 (s .i) (s .path .now) (rowOf 2 (s .rows .now)) (s .rows .now) refl (midOf (s .i - 1) (s .i - (s .i - 1)) (s .path .now))
+    (start-odd 0 (s .i) o) (start-here 0 (s .i) o) (bit-word (s .path .now) (s .i) (omega (arith, o))) (c .before .upper-row .ensures))
 
 pub start-of-1-spec : {M : Type 1} → statement M
 start-of-1-spec =

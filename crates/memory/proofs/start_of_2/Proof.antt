@@ -9,17 +9,15 @@ use mathlib.Core.Path.{refl}
 use borrow.Author.Needs.{needs}
 use Rattle.memory.proofs.start_of_2.Statement.{statement}
 use Rattle.memory.proofs.start_of_2.Tie as tie
-use Rattle.memory.proofs.start_of_2.Reads as reads
-use Rattle.memory.proofs.start_of_2.Lts as lts
-use Rattle.memory.proofs.word_of_2.Reads as word-of-2-reads
-use Rattle.rows.proofs.lower_row.Reads as lower-row-reads
-use Rattle.rows.proofs.upper_row.Reads as upper-row-reads
 
-upper : (c : tie.After-upper-row) → let g = c .before .before .before .before .before .before .before .before .before in c .upper-row .last .0 ≡ newRow 1 (g .args .i) (g .args .path .now) (g .args .rows .now)
+upper : (c : tie.After-upper-row) → let s = c .before .before .before .before .before .before .before .before .before .args in
+    c .upper-row .last .0 ≡ newRow 1 (s .i) (s .path .now) (s .rows .now)
 upper c =
-    let g = c .before .before .before .before .before .before .before .before .before in
+    let start = c .before .before .before .before .before .before .before .before .before in
+    let s = start .args in
     let w = c .before .before .before .before .before .word-of-2 in
-    upper-here 1 2 (g .args .i) (g .args .path .now) (rowOf 4 (g .args .rows .now)) (g .args .rows .now) refl (w .last .1 .0) (start-odd 1 (g .args .i) (g .pre .0)) (start-here 1 (g .args .i) (g .pre .0)) (w .ensures) (c .upper-row .ensures)
+    upper-here 1 2 (s .i) (s .path .now) (rowOf 4 (s .rows .now)) (s .rows .now) refl (w .last .1 .0)
+    (start-odd 1 (s .i) (start .pre .0)) (start-here 1 (s .i) (start .pre .0)) (w .ensures) (c .upper-row .ensures)
 
 word-of-2-requires : tie.Need-word-of-2-requires
 word-of-2-requires c κs = search needs
@@ -29,8 +27,9 @@ upper-row-requires c κs = search needs
 
 lower-row-requires : tie.Need-lower-row-requires
 lower-row-requires c κs =
-    let g = c .before .before .before .before .before .before .before .before .before .before .before in
-    let r = low-next (g .pre .1) (upper (c .before .before)) in
+    let made = c .before .before in
+    let start = made .before .before .before .before .before .before .before .before .before in
+    let r = low-next (start .pre .1) (upper made) in
     (low-room r, low-small r)
 
 same-length : tie.Need-same-length
@@ -41,10 +40,13 @@ same-length-2 c = search needs
 
 returns : tie.Need-returns
 returns c =
-    let g = c .before .before .before .before .before .before .before .before .before .before .before .before .before in
-    let s = c .before .before .before .before .upper-row .last .0 in
-    remade-more 1 (g .args .i) (g .args .path .now) (g .args .rows .now) (upper (c .before .before .before .before))
-    (remade-one (g .args .i) (g .args .path .now) s (lower-made 0 1 (g .args .i) (g .args .path .now) (rowOf 2 (s)) (s) refl (λ k. omega (arith, k, start-even 1 (g .args .i) (g .pre .0) 0 (omega arith))) (c .before .lower-row .ensures)))
+    let made = c .before .before .before .before in
+    let start = made .before .before .before .before .before .before .before .before .before in
+    let s = start .args in
+    let x = made .upper-row .last .0 in
+    remade-more 1 (s .i) (s .path .now) (s .rows .now) (upper made) (remade-one (s .i) (s .path .now) x
+    (lower-made 0 1 (s .i) (s .path .now) (rowOf 2 x) x refl (λ k. omega (arith, k, start-even 1 (s .i) (start .pre .0) 0 (omega arith)))
+    (c .before .lower-row .ensures)))
 
 pub start-of-2-spec : {M : Type 1} → statement M
 start-of-2-spec =

@@ -9,23 +9,26 @@ use mathlib.Core.Path.{refl}
 use borrow.Author.Needs.{needs}
 use Rattle.memory.proofs.start_of_4.Statement.{statement}
 use Rattle.memory.proofs.start_of_4.Tie as tie
-use Rattle.memory.proofs.start_of_4.Reads as reads
-use Rattle.memory.proofs.start_of_4.Lts as lts
-use Rattle.memory.proofs.word_of_4.Reads as word-of-4-reads
-use Rattle.rows.proofs.lower_row.Reads as lower-row-reads
-use Rattle.rows.proofs.upper_row.Reads as upper-row-reads
 
-upper : (c : tie.After-upper-row) → let g = c .before .before .before .before .before .before .before .before .before in c .upper-row .last .0 ≡ newRow 2 (g .args .i) (g .args .path .now) (g .args .rows .now)
+upper : (c : tie.After-upper-row) → let s = c .before .before .before .before .before .before .before .before .before .args in
+    c .upper-row .last .0 ≡ newRow 2 (s .i) (s .path .now) (s .rows .now)
 upper c =
-    let g = c .before .before .before .before .before .before .before .before .before in
+    let start = c .before .before .before .before .before .before .before .before .before in
+    let s = start .args in
     let w = c .before .before .before .before .before .word-of-4 in
-    upper-here 2 4 (g .args .i) (g .args .path .now) (rowOf 8 (g .args .rows .now)) (g .args .rows .now) refl (w .last .1 .0) (start-odd 2 (g .args .i) (g .pre .0)) (start-here 2 (g .args .i) (g .pre .0)) (w .ensures) (c .upper-row .ensures)
+    upper-here 2 4 (s .i) (s .path .now) (rowOf 8 (s .rows .now)) (s .rows .now) refl (w .last .1 .0)
+    (start-odd 2 (s .i) (start .pre .0)) (start-here 2 (s .i) (start .pre .0)) (w .ensures) (c .upper-row .ensures)
 
-two : (c : tie.After-lower-row) → let g = c .before .before .before .before .before .before .before .before .before .before .before .before in c .lower-row .last .0 ≡ newRow 1 (g .args .i) (g .args .path .now) (c .before .before .before .upper-row .last .0)
+two : (c : tie.After-lower-row) → let upper-made = c .before .before .before in
+    let s = upper-made .before .before .before .before .before .before .before .before .before .args in
+    c .lower-row .last .0 ≡ newRow 1 (s .i) (s .path .now) (upper-made .upper-row .last .0)
 two c =
-    let g = c .before .before .before .before .before .before .before .before .before .before .before .before in
-    let s = c .before .before .before .upper-row .last .0 in
-    lower-made 1 2 (g .args .i) (g .args .path .now) (rowOf 4 (s)) (s) refl (λ k. omega (arith, k, start-even 2 (g .args .i) (g .pre .0) 1 (omega arith))) (c .lower-row .ensures)
+    let upper-made = c .before .before .before in
+    let start = upper-made .before .before .before .before .before .before .before .before .before in
+    let s = start .args in
+    let x = upper-made .upper-row .last .0 in
+    lower-made 1 2 (s .i) (s .path .now) (rowOf 4 x) x refl (λ k. omega (arith, k, start-even 2 (s .i) (start .pre .0) 1 (omega arith)))
+    (c .lower-row .ensures)
 
 word-of-4-requires : tie.Need-word-of-4-requires
 word-of-4-requires c κs = search needs
@@ -35,14 +38,17 @@ upper-row-requires c κs = search needs
 
 lower-row-requires : tie.Need-lower-row-requires
 lower-row-requires c κs =
-    let g = c .before .before .before .before .before .before .before .before .before .before .before in
-    let r = low-next (g .pre .1) (upper (c .before .before)) in
+    let made = c .before .before in
+    let start = made .before .before .before .before .before .before .before .before .before in
+    let r = low-next (start .pre .1) (upper made) in
     (low-room r, low-small r)
 
 lower-row-requires-2 : tie.Need-lower-row-requires-2
 lower-row-requires-2 c κs =
-    let g = c .before .before .before .before .before .before .before .before .before .before .before .before .before .before in
-    let r = low-next (low-next (g .pre .1) (upper (c .before .before .before .before .before))) (two (c .before .before)) in
+    let made = c .before .before in
+    let above = made .before .before .before in
+    let start = above .before .before .before .before .before .before .before .before .before in
+    let r = low-next (low-next (start .pre .1) (upper above)) (two made) in
     (low-room r, low-small r)
 
 same-length : tie.Need-same-length
@@ -53,12 +59,15 @@ same-length-2 c = search needs
 
 returns : tie.Need-returns
 returns c =
-    let g = c .before .before .before .before .before .before .before .before .before .before .before .before .before .before .before .before in
-    let s = c .before .before .before .before .before .before .before .upper-row .last .0 in
-    let s₂ = c .before .before .before .before .lower-row .last .0 in
-    remade-more 2 (g .args .i) (g .args .path .now) (g .args .rows .now) (upper (c .before .before .before .before .before .before .before))
-    (remade-more 1 (g .args .i) (g .args .path .now) s (two (c .before .before .before .before))
-    (remade-one (g .args .i) (g .args .path .now) s₂ (lower-made 0 1 (g .args .i) (g .args .path .now) (rowOf 2 (s₂)) (s₂) refl (λ k. omega (arith, k, start-even 2 (g .args .i) (g .pre .0) 0 (omega arith))) (c .before .lower-row2 .ensures))))
+    let made = c .before .before .before .before in
+    let above = made .before .before .before in
+    let start = above .before .before .before .before .before .before .before .before .before in
+    let s = start .args in
+    let x = made .lower-row .last .0 in
+    remade-more 2 (s .i) (s .path .now) (s .rows .now) (upper above)
+    (remade-more 1 (s .i) (s .path .now) (above .upper-row .last .0) (two made) (remade-one (s .i) (s .path .now) x
+    (lower-made 0 1 (s .i) (s .path .now) (rowOf 2 x) x refl (λ k. omega (arith, k, start-even 2 (s .i) (start .pre .0) 0 (omega arith)))
+    (c .before .lower-row2 .ensures))))
 
 pub start-of-4-spec : {M : Type 1} → statement M
 start-of-4-spec =

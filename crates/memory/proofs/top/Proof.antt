@@ -31,12 +31,13 @@ greater-requires c κs = search needs
 
 returns : tie.Need-returns
 returns c =
-    let g = c .before .before .before .before in
+    let start = c .before .before .before .before in
+    let s = start .args in
     let a = c .before .before .before .highest-one in
     let h = c .before .before .power in
     let b = c .before .lowest-one in
-    let o : LowestOne (b .result) (bitOr (g .args .i) (2 ^ (g .args .m - 1))) = subst (λ (k : ℕ). LowestOne (b .result) (bitOr (g .args .i) k)) (h .ensures) (b .ensures) in
-    is-top (g .args .m) (g .args .was) (g .args .i) (g .pre .0) (g .pre .2) (g .pre .3) (a .result) (b .result) (c .greater .result) (a .ensures) o
+    let o : LowestOne (b .result) (bitOr (s .i) (2 ^ (s .m - 1))) = subst (λ (k : ℕ). LowestOne (b .result) (bitOr (s .i) k)) (h .ensures) (b .ensures) in
+    is-top (s .m) (s .was) (s .i) (start .pre .0) (start .pre .2) (start .pre .3) (a .result) (b .result) (c .greater .result) (a .ensures) o
     (c .greater .ensures)
 
 pub top-spec : {M : Type 1} → statement M

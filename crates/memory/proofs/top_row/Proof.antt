@@ -5,12 +5,6 @@ use native.Mathlib.Omega.{arith}
 use borrow.Author.Needs.{needs}
 use Rattle.memory.proofs.top_row.Statement.{statement}
 use Rattle.memory.proofs.top_row.Tie as tie
-use Rattle.memory.proofs.top_row.Reads as reads
-use Rattle.memory.proofs.top_row.Lts as lts
-use Rattle.memory.proofs.left_word.Reads as left-word-reads
-use Rattle.memory.proofs.power.Reads as power-reads
-use Rattle.rows.proofs.lower_top.Reads as lower-top-reads
-use Rattle.rows.proofs.upper_top.Reads as upper-top-reads
 
 power-requires : tie.Need-power-requires
 power-requires c κs = search needs
@@ -20,19 +14,20 @@ div-b c = omega (arith, c .power .ensures, pow-pos (c .before .before .before .a
 
 mul-left-word : tie.Need-mul-left-word
 mul-left-word c =
-    let g = c .before .before .before .before .before in
+    let s = c .before .before .before .before .before .args in
     let h = c .before .before .power in
-    record { fits = omega (arith, start-inside (g .args .t) (h .result) (g .args .i) (g .args .path .now) (g .args .readings .now) (g .args .rows .now) (h .ensures)) }
+    record { fits = omega (arith, start-inside (s .t) (h .result) (s .i) (s .path .now) (s .readings .now) (s .rows .now) (h .ensures)) }
 
 left-word-requires : tie.Need-left-word-requires
 left-word-requires c κs =
-    let g = c .before .before .before .before .before in
+    let start = c .before .before .before .before .before in
+    let s = start .args in
     let h = c .before .before .power in (
-      left-some (g .args .t) (h .result) (g .args .i) (g .args .path .now) (g .args .readings .now) (g .args .rows .now) (h .ensures) (c .before .if1 .taken),
-      omega (arith, start-inside (g .args .t) (h .result) (g .args .i) (g .args .path .now) (g .args .readings .now) (g .args .rows .now) (h .ensures), g .pre .2),
-      omega (arith, h .ensures, g .pre .0, g .pre .3),
+      left-some (s .t) (h .result) (s .i) (s .path .now) (s .readings .now) (s .rows .now) (h .ensures) (c .before .if1 .taken),
+      omega (arith, start-inside (s .t) (h .result) (s .i) (s .path .now) (s .readings .now) (s .rows .now) (h .ensures), start .pre .2),
+      omega (arith, h .ensures, start .pre .0, start .pre .3),
       h .ensures,
-      g .pre .2 .bits,
+      start .pre .2 .bits,
     )
 
 upper-top-requires : tie.Need-upper-top-requires
@@ -52,10 +47,11 @@ same-length-2 c = search needs
 
 returns : tie.Need-returns
 returns c =
-    let g = c .before .before .before .before .before .before .before .before .before .before .before .before in
-    let h = c .before .before .before .before .before .before .before .before .before .power in
+    let if1 = c .before .before .before .before .before .before .before .before in
+    let h = if1 .before .power in
+    let s = if1 .before .before .before .before .args in
     let w = c .before .before .before .before .before .before .left-word in
-    upper-made (g .args .t) (h .result) (g .args .i) (g .args .path .now) (g .args .readings .now) (g .args .rows .now) (h .ensures) (w .last .1 .0) (c .before .before .before .before .before .before .before .before .if1 .taken) (w .ensures)
+    upper-made (s .t) (h .result) (s .i) (s .path .now) (s .readings .now) (s .rows .now) (h .ensures) (w .last .1 .0) (if1 .if1 .taken) (w .ensures)
     (c .before .upper-top .ensures)
 
 lower-top-requires : tie.Need-lower-top-requires
@@ -69,9 +65,10 @@ same-length-3 c = search needs
 
 returns-2 : tie.Need-returns-2
 returns-2 c =
-    let g = c .before .before .before .before .before .before .before in
-    let h = c .before .before .before .before .power in
-    lower-made (g .args .t) (h .result) (g .args .i) (g .args .path .now) (g .args .readings .now) (g .args .rows .now) (h .ensures) (c .before .before .before .if1 .left)
+    let if1 = c .before .before .before in
+    let h = if1 .before .power in
+    let s = if1 .before .before .before .before .args in
+    lower-made (s .t) (h .result) (s .i) (s .path .now) (s .readings .now) (s .rows .now) (h .ensures) (if1 .if1 .left)
     (c .before .lower-top .ensures)
 
 pub top-row-spec : {M : Type 1} → statement M

@@ -5,12 +5,6 @@ use native.Mathlib.Omega.{arith}
 use borrow.Author.Needs.{needs}
 use Rattle.memory.proofs.value.Statement.{statement}
 use Rattle.memory.proofs.value.Tie as tie
-use Rattle.memory.proofs.value.Reads as reads
-use Rattle.memory.proofs.value.Lts as lts
-use Rattle.memory.proofs.any_value.Reads as any-value-reads
-use Rattle.memory.proofs.start_of_1.Reads as start-of-1-reads
-use Rattle.memory.proofs.start_of_2.Reads as start-of-2-reads
-use Rattle.memory.proofs.start_of_4.Reads as start-of-4-reads
 
 any-value-requires : tie.Need-any-value-requires
 any-value-requires c κs = search needs
@@ -23,51 +17,63 @@ add-if2 c = search needs
 
 start-of-1-requires : tie.Need-start-of-1-requires
 start-of-1-requires c κs =
-    let g = c .before .before .before .before .before in
     let o = c .before .before .if3 .taken in
-    (o, low-asked (first-ready (g .pre) (top-of-1 (omega arith) (c .before .before .before .if2 .taken) o)) (value-arrays (g .pre) (omega arith) (omega arith)) (omega arith) (omega arith))
+    let next = c .before .before .before in
+    let start = next .before .before in
+    let ready = first-ready (start .pre) (top-of-1 (omega arith) (next .if2 .taken) o) in
+    (o, low-asked ready (value-arrays (start .pre) (omega arith) (omega arith)) (omega arith) (omega arith))
 
 element-copy-out-result : tie.Need-element-copy-out-result
 element-copy-out-result c = search needs
 
 returns-2 : tie.Need-returns-2
 returns-2 c =
-    let g = c .before .before .before .before .before .before .before in
     let o = c .before .before .before .before .if3 .taken in
-    value-given (g .pre) (omega arith) (omega arith)
-    (low-made (first-ready (g .pre) (top-of-1 (omega arith) (c .before .before .before .before .before .if2 .taken) o)) (value-arrays (g .pre) (omega arith) (omega arith)) (omega arith) (c .before .start-of-1 .ensures))
+    let next = c .before .before .before .before .before in
+    let start = next .before .before in
+    let ready = first-ready (start .pre) (top-of-1 (omega arith) (next .if2 .taken) o) in
+    value-given (start .pre) (omega arith) (omega arith)
+    (low-made ready (value-arrays (start .pre) (omega arith) (omega arith)) (omega arith) (c .before .start-of-1 .ensures))
 
 start-of-2-requires : tie.Need-start-of-2-requires
 start-of-2-requires c κs =
-    let g = c .before .before .before .before .before .before .before in
     let o = c .before .before .before .if4 .taken in
-    (o, low-asked (first-ready (g .pre) (top-of-2 (omega arith) (c .before .before .before .before .before .if2 .taken) o)) (value-arrays (g .pre) (omega arith) (omega arith)) (omega arith) (omega arith), omega arith)
+    let next = c .before .before .before .before .before in
+    let start = next .before .before in
+    let ready = first-ready (start .pre) (top-of-2 (omega arith) (next .if2 .taken) o) in
+    (o, low-asked ready (value-arrays (start .pre) (omega arith) (omega arith)) (omega arith) (omega arith), omega arith)
 
 element-copy-out-result-2 : tie.Need-element-copy-out-result-2
 element-copy-out-result-2 c = search needs
 
 returns-3 : tie.Need-returns-3
 returns-3 c =
-    let g = c .before .before .before .before .before .before .before .before .before in
     let o = c .before .before .before .before .before .if4 .taken in
-    value-given (g .pre) (omega arith) (omega arith)
-    (low-made (first-ready (g .pre) (top-of-2 (omega arith) (c .before .before .before .before .before .before .before .if2 .taken) o)) (value-arrays (g .pre) (omega arith) (omega arith)) (omega arith) (c .before .start-of-2 .ensures))
+    let next = c .before .before .before .before .before .before .before in
+    let start = next .before .before in
+    let ready = first-ready (start .pre) (top-of-2 (omega arith) (next .if2 .taken) o) in
+    value-given (start .pre) (omega arith) (omega arith)
+    (low-made ready (value-arrays (start .pre) (omega arith) (omega arith)) (omega arith) (c .before .start-of-2 .ensures))
 
 start-of-4-requires : tie.Need-start-of-4-requires
 start-of-4-requires c κs =
-    let g = c .before .before .before .before .before .before .before .before in
     let o = c .before .before .before .if5 .taken in
-    (o, low-asked (first-ready (g .pre) (top-of-4 (omega arith) (c .before .before .before .before .before .before .if2 .taken) o)) (value-arrays (g .pre) (omega arith) (omega arith)) (omega arith) (omega arith), omega arith)
+    let next = c .before .before .before .before .before .before in
+    let start = next .before .before in
+    let ready = first-ready (start .pre) (top-of-4 (omega arith) (next .if2 .taken) o) in
+    (o, low-asked ready (value-arrays (start .pre) (omega arith) (omega arith)) (omega arith) (omega arith), omega arith)
 
 element-copy-out-result-3 : tie.Need-element-copy-out-result-3
 element-copy-out-result-3 c = search needs
 
 returns-4 : tie.Need-returns-4
 returns-4 c =
-    let g = c .before .before .before .before .before .before .before .before .before .before in
     let o = c .before .before .before .before .before .if5 .taken in
-    value-given (g .pre) (omega arith) (omega arith)
-    (low-made (first-ready (g .pre) (top-of-4 (omega arith) (c .before .before .before .before .before .before .before .before .if2 .taken) o)) (value-arrays (g .pre) (omega arith) (omega arith)) (omega arith) (c .before .start-of-4 .ensures))
+    let next = c .before .before .before .before .before .before .before .before in
+    let start = next .before .before in
+    let ready = first-ready (start .pre) (top-of-4 (omega arith) (next .if2 .taken) o) in
+    value-given (start .pre) (omega arith) (omega arith)
+    (low-made ready (value-arrays (start .pre) (omega arith) (omega arith)) (omega arith) (c .before .start-of-4 .ensures))
 
 any-value-requires-2 : tie.Need-any-value-requires-2
 any-value-requires-2 c κs = search needs

@@ -5,8 +5,6 @@ use native.Mathlib.Omega.{arith}
 use borrow.Author.Needs.{needs}
 use Rattle.memory.proofs.word_of_2.Statement.{statement}
 use Rattle.memory.proofs.word_of_2.Tie as tie
-use Rattle.memory.proofs.word_of_2.Reads as reads
-use Rattle.memory.proofs.word_of_2.Lts as lts
 
 sub-b : tie.Need-sub-b
 sub-b c = search needs

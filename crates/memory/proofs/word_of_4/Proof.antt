@@ -7,8 +7,6 @@ use native.Mathlib.Omega.{arith}
 use borrow.Author.Needs.{needs}
 use Rattle.memory.proofs.word_of_4.Statement.{statement}
 use Rattle.memory.proofs.word_of_4.Tie as tie
-use Rattle.memory.proofs.word_of_4.Reads as reads
-use Rattle.memory.proofs.word_of_4.Lts as lts
 
 sub-q : tie.Need-sub-q
 sub-q c = search needs

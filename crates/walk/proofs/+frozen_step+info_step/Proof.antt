@@ -1,5 +1,7 @@
--- The walk's two steps, which call each other, meet their contracts: the number of indices still to choose falls.
+-- The walk's two steps, which call each other in turn, meet their contracts. The measure is twice the number of indices still to choose, and one
+-- more in the frozen step.
 use mathlib.Core.Path.{_≡_, ap, ap₂, sym, _∙_}
+use Prim.Native.Nat.{ℕ, _+_, _-_, _*_, _^_, _<_}
 use native.Mathlib.Omega.{arith}
 use lib.IntN.{ℤ}
 use lib.ListN.{getD, set, take}
@@ -17,8 +19,6 @@ use Rattle.walk.specs.GoingLaws.{may-visit, may-not, not-true, not-false
 use Rattle.walk.specs.GoingLaws.{value-asked, value-is, value-going, reached-start, reached-given, frozen-dropped, reached-more}
 use Rattle.walk.specs.GoingLaws.{deeper-m, deeper-asked, deeper-given, deeper-kept, first-adds, first-undropped}
 use Rattle.walk.specs.GoingLaws.{second-stop, second-going, second-dropped, second-given}
-use Prim.Native.Nat.{_+_, _-_, _*_, _^_}
-use Prim.Native.Nat.{ℕ, _<_}
 use borrow.Fn.Kinds.{In}
 use borrow.Fn.PlainCycle.{Measures, is, falls, and}
 use Rattle.walk.proofs.frozen_step.Reads as frozen-step
@@ -107,99 +107,168 @@ info-step-calls t = (
 )
 
 -- ---- the frozen step
-frozen-step-loop-holds : (t : ℕ) → frozen-step-lts.Need-loop-holds (frozen-step-calls t) (frozen-step-at t) frozen-step.Post frozen-step-Inv-loop frozen-step-μ-loop
+frozen-step-loop-holds : (t : ℕ)
+    → frozen-step-lts.Need-loop-holds (frozen-step-calls t) (frozen-step-at t) frozen-step.Post frozen-step-Inv-loop frozen-step-μ-loop
 frozen-step-loop-holds t c = reached-start (c .pre .1)
 
-frozen-step-full-requires : (t : ℕ) → frozen-step-lts.Need-full-requires (frozen-step-calls t) (frozen-step-at t) frozen-step.Post frozen-step-Inv-loop frozen-step-μ-loop
+frozen-step-full-requires : (t : ℕ)
+    → frozen-step-lts.Need-full-requires (frozen-step-calls t) (frozen-step-at t) frozen-step.Post frozen-step-Inv-loop frozen-step-μ-loop
 frozen-step-full-requires t c κs = c .before .loop .inv .asked .ready .room
 
-inside : (t : ℕ) (c : frozen-step-lts.Then1 (frozen-step-calls t) (frozen-step-at t) frozen-step.Post frozen-step-Inv-loop frozen-step-μ-loop) → let o = c .before .before .before .loop in o .i < 2 ^ getD (o .state) 6 0
+-- a turn of the loop, where the path is not full; the value made in it; what a 0 adds
+abbrev Turn : ℕ → Type 0
+Turn t = frozen-step-lts.Then1 (frozen-step-calls t) (frozen-step-at t) frozen-step.Post frozen-step-Inv-loop frozen-step-μ-loop
+
+abbrev Valued : ℕ → Type 0
+Valued t = frozen-step-lts.After-value-at (frozen-step-calls t) (frozen-step-at t) frozen-step.Post frozen-step-Inv-loop frozen-step-μ-loop
+
+abbrev Added : ℕ → Type 0
+Added t = frozen-step-lts.After-loss (frozen-step-calls t) (frozen-step-at t) frozen-step.Post frozen-step-Inv-loop frozen-step-μ-loop
+
+inside : (t : ℕ) (c : Turn t) → let o = c .before .before .before .loop in o .i < 2 ^ getD (o .state) 6 0
 inside t c = not-full (c .before .before .before .loop .inv .asked) (sym (c .before .full .ensures) ∙ not-true (c .if1 .taken))
 
-frozen-step-element-copy-out-if2 : (t : ℕ) → frozen-step-lts.Need-element-copy-out-if2 (frozen-step-calls t) (frozen-step-at t) frozen-step.Post frozen-step-Inv-loop frozen-step-μ-loop
-frozen-step-element-copy-out-if2 t c = within (c .before .before .before .loop .inv .asked) (inside t c)
+short-turn : (t : ℕ) (c : Turn t) → c .before .before .before .loop .i < 256
+short-turn t c = within (c .before .before .before .loop .inv .asked) (inside t c)
 
-frozen-step-info-step-requires : (t : ℕ) → frozen-step-lts.Need-info-step-requires (frozen-step-calls t) (frozen-step-at t) frozen-step.Post frozen-step-Inv-loop frozen-step-μ-loop
+frozen-step-element-copy-out-if2 : (t : ℕ)
+    → frozen-step-lts.Need-element-copy-out-if2 (frozen-step-calls t) (frozen-step-at t) frozen-step.Post frozen-step-Inv-loop frozen-step-μ-loop
+frozen-step-element-copy-out-if2 t c = short-turn t c
+
+frozen-step-info-step-requires : (t : ℕ)
+    → frozen-step-lts.Need-info-step-requires (frozen-step-calls t) (frozen-step-at t) frozen-step.Post frozen-step-Inv-loop frozen-step-μ-loop
 frozen-step-info-step-requires t c κs =
-    let r = c .before .before .before .before .before .before .before .before .before .before .before .loop .inv in
-    let more = inside t (c .before .before .before .before .before .before .before .before) in
-    (omega (arith, c .before .before .before .before .before .before .before .before .before .before .before .before .pre .0, r .onward .on, r .onward .same-m, ap (λ (n : ℕ). 2 ^ n) (r .onward .same-m), more), (r .asked, more, c .before .before .before .before .before .before .if2 .taken))
+    let turn = c .before .before .before .before .before .before .before .before in
+    let start = turn .before .before .before .before in
+    let r = turn .before .before .before .loop .inv in
+    let same = ap (λ (n : ℕ). 2 ^ n) (r .onward .same-m) in
+    (omega (arith, start .pre .0, r .onward .on, same, inside t turn), (r .asked, inside t turn, c .before .before .before .before .before .before .if2 .taken))
 
-frozen-step-returns : (t : ℕ) → frozen-step-lts.Need-returns (frozen-step-calls t) (frozen-step-at t) frozen-step.Post frozen-step-Inv-loop frozen-step-μ-loop
-frozen-step-returns t c = reached-given (c .before .before .before .before .before .before .before .before .before .before .before .before .loop .inv) (c .info-step .ensures)
+frozen-step-returns : (t : ℕ)
+    → frozen-step-lts.Need-returns (frozen-step-calls t) (frozen-step-at t) frozen-step.Post frozen-step-Inv-loop frozen-step-μ-loop
+frozen-step-returns t c =
+    let turn = c .before .before .before .before .before .before .before .before .before in
+    reached-given (turn .before .before .before .loop .inv) (c .info-step .ensures)
 
-frozen-step-visit-requires : (t : ℕ) → frozen-step-lts.Need-visit-requires (frozen-step-calls t) (frozen-step-at t) frozen-step.Post frozen-step-Inv-loop frozen-step-μ-loop
+frozen-step-visit-requires : (t : ℕ)
+    → frozen-step-lts.Need-visit-requires (frozen-step-calls t) (frozen-step-at t) frozen-step.Post frozen-step-Inv-loop frozen-step-μ-loop
 frozen-step-visit-requires t c κs = c .before .before .before .before .before .before .loop .inv .asked .long
 
-frozen-step-returns-2 : (t : ℕ) → frozen-step-lts.Need-returns-2 (frozen-step-calls t) (frozen-step-at t) frozen-step.Post frozen-step-Inv-loop frozen-step-μ-loop
+frozen-step-returns-2 : (t : ℕ)
+    → frozen-step-lts.Need-returns-2 (frozen-step-calls t) (frozen-step-at t) frozen-step.Post frozen-step-Inv-loop frozen-step-μ-loop
 frozen-step-returns-2 t c =
-    let r = c .before .before .before .before .before .before .before .before .loop .inv in
-    reached-given r (frozen-stop (r .asked) (inside t (c .before .before .before .before .before)) (c .before .before .before .if2 .left) (may-not (c .if3 .taken) (c .before .visit .ensures)))
+    let turn = c .before .before .before .before .before in
+    let r = turn .before .before .before .loop .inv in
+    reached-given r (frozen-stop (r .asked) (inside t turn) (c .before .before .before .if2 .left) (may-not (c .if3 .taken) (c .before .visit .ensures)))
 
-frozen-step-value-at-requires : (t : ℕ) → frozen-step-lts.Need-value-at-requires (frozen-step-calls t) (frozen-step-at t) frozen-step.Post frozen-step-Inv-loop frozen-step-μ-loop
-frozen-step-value-at-requires t c κs = value-asked (c .before .before .before .before .before .before .before .before .before .before .before .before .loop .inv .asked) (inside t (c .before .before .before .before .before .before .before .before .before)) (may-visit (c .before .before .before .before .if3 .left) (c .before .before .before .before .before .visit .ensures))
+frozen-step-value-at-requires : (t : ℕ)
+    → frozen-step-lts.Need-value-at-requires (frozen-step-calls t) (frozen-step-at t) frozen-step.Post frozen-step-Inv-loop frozen-step-μ-loop
+frozen-step-value-at-requires t c κs =
+    let turn = c .before .before .before .before .before .before .before .before .before in
+    let allowed = c .before .before .before .before in
+    value-asked (turn .before .before .before .loop .inv .asked) (inside t turn) (may-visit (allowed .if3 .left) (allowed .before .visit .ensures))
 
--- the value at the index, and the penalty with a 0
-frozen-value : (t : ℕ) (c : frozen-step-lts.After-value-at (frozen-step-calls t) (frozen-step-at t) frozen-step.Post frozen-step-Inv-loop frozen-step-μ-loop) → let o = c .before .before .before .before .before .before .before .before .before .before .before .before .before .loop in
-    toZ w32 (ofZ w32 (c .value-at .result))
-    ≡ value (getD (o .state) 6 0) (front (o .state) (c .before .before .before .before .before .before .before .before .before .before .before .before .before .before .args .readings .now)) (take (o .i) (o .path))
+-- the value at the index that the loop has come to
+abbrev frozen-at : (t : ℕ) → Turn t → ℤ
+frozen-at t c =
+    let o = c .before .before .before .loop in
+    value (getD (o .state) 6 0) (front (o .state) (c .before .before .before .before .args .readings .now)) (take (o .i) (o .path))
+
+frozen-value : (t : ℕ) (c : Valued t) → let turn = c .before .before .before .before .before .before .before .before .before .before in
+    toZ w32 (ofZ w32 (c .value-at .result)) ≡ frozen-at t turn
 frozen-value t c =
+    let turn = c .before .before .before .before .before .before .before .before .before .before in
+    let allowed = c .before .before .before .before .before in
     toZ-ofZ (record { sfits = c .value-at .ok })
-    ∙ value-is (c .before .before .before .before .before .before .before .before .before .before .before .before .before .loop .inv .asked) (inside t (c .before .before .before .before .before .before .before .before .before .before)) (may-visit (c .before .before .before .before .before .if3 .left) (c .before .before .before .before .before .before .visit .ensures)) (c .value-at .ensures)
+    ∙ value-is (turn .before .before .before .loop .inv .asked) (inside t turn) (may-visit (allowed .if3 .left) (allowed .before .visit .ensures))
+    (c .value-at .ensures)
 
-frozen-adds : (t : ℕ) (c : frozen-step-lts.After-loss (frozen-step-calls t) (frozen-step-at t) frozen-step.Post frozen-step-Inv-loop frozen-step-μ-loop) → let o = c .before .before .before .before .before .before .before .before .before .before .before .before .before .before .loop in
-    o .sum + c .loss .result
-    ≡ o .sum + loss (value (getD (o .state) 6 0) (front (o .state) (c .before .before .before .before .before .before .before .before .before .before .before .before .before .before .before .args .readings .now)) (take (o .i) (o .path))) 0
-frozen-adds t c = ap (λ (n : ℕ). c .before .before .before .before .before .before .before .before .before .before .before .before .before .before .loop .sum + n) (c .loss .ensures ∙ ap (λ (v : ℤ). loss v 0) (frozen-value t (c .before)))
-
-frozen-going : (t : ℕ) (c : frozen-step-lts.After-value-at (frozen-step-calls t) (frozen-step-at t) frozen-step.Post frozen-step-Inv-loop frozen-step-μ-loop) → let o = c .before .before .before .before .before .before .before .before .before .before .before .before .before .loop in
-    Going (front (o .state) (c .before .before .before .before .before .before .before .before .before .before .before .before .before .before .args .readings .now)) (o .path) (o .i) (seen (o .state)) (seen (o .state)) (c .value-at .last .1 .1 .1 .1 .0) (c .value-at .last .1 .0)
-    (o .path) (o .best) (o .second)
+frozen-going : (t : ℕ) (c : Valued t) → let turn = c .before .before .before .before .before .before .before .before .before .before in
+    let o = turn .before .before .before .loop in
+    Going (front (o .state) (turn .before .before .before .before .args .readings .now)) (o .path) (o .i) (seen (o .state)) (seen (o .state))
+    (c .value-at .last .1 .1 .1 .1 .0) (c .value-at .last .1 .0) (o .path) (o .best) (o .second)
 frozen-going t c =
-    value-going (c .before .before .before .before .before .before .before .before .before .before .before .before .before .loop .inv .asked) (inside t (c .before .before .before .before .before .before .before .before .before .before)) (may-visit (c .before .before .before .before .before .if3 .left) (c .before .before .before .before .before .before .visit .ensures)) (c .value-at .ensures)
+    let turn = c .before .before .before .before .before .before .before .before .before .before in
+    let allowed = c .before .before .before .before .before in
+    value-going (turn .before .before .before .loop .inv .asked) (inside t turn) (may-visit (allowed .if3 .left) (allowed .before .visit .ensures))
+    (c .value-at .ensures)
 
-frozen-step-loss-requires : (t : ℕ) → frozen-step-lts.Need-loss-requires (frozen-step-calls t) (frozen-step-at t) frozen-step.Post frozen-step-Inv-loop frozen-step-μ-loop
-frozen-step-loss-requires t c κs = rw (frozen-value t c) (value-small (c .before .before .before .before .before .before .before .before .before .before .before .before .before .loop .inv .asked .ready))
+frozen-adds : (t : ℕ) (c : Added t) → let turn = c .before .before .before .before .before .before .before .before .before .before .before in
+    turn .before .before .before .loop .sum + c .loss .result ≡ turn .before .before .before .loop .sum + loss (frozen-at t turn) 0
+frozen-adds t c =
+    let turn = c .before .before .before .before .before .before .before .before .before .before .before in
+    ap (λ (n : ℕ). turn .before .before .before .loop .sum + n) (c .loss .ensures ∙ ap (λ (v : ℤ). loss v 0) (frozen-value t (c .before)))
 
-frozen-step-add-sum : (t : ℕ) → frozen-step-lts.Need-add-sum (frozen-step-calls t) (frozen-step-at t) frozen-step.Post frozen-step-Inv-loop frozen-step-μ-loop
-frozen-step-add-sum t c = record { fits = omega (arith, frozen-adds t c, sum-small (c .before .before .before .before .before .before .before .before .before .before .before .before .before .before .loop .inv .asked .ready) 0 (inside t (c .before .before .before .before .before .before .before .before .before .before .before)) (omega arith)) }
+frozen-step-loss-requires : (t : ℕ)
+    → frozen-step-lts.Need-loss-requires (frozen-step-calls t) (frozen-step-at t) frozen-step.Post frozen-step-Inv-loop frozen-step-μ-loop
+frozen-step-loss-requires t c κs =
+    let turn = c .before .before .before .before .before .before .before .before .before .before in
+    rw (frozen-value t c) (value-small (turn .before .before .before .loop .inv .asked .ready))
 
-frozen-step-dropped-requires : (t : ℕ) → frozen-step-lts.Need-dropped-requires (frozen-step-calls t) (frozen-step-at t) frozen-step.Post frozen-step-Inv-loop frozen-step-μ-loop
+frozen-step-add-sum : (t : ℕ)
+    → frozen-step-lts.Need-add-sum (frozen-step-calls t) (frozen-step-at t) frozen-step.Post frozen-step-Inv-loop frozen-step-μ-loop
+frozen-step-add-sum t c =
+    let turn = c .before .before .before .before .before .before .before .before .before .before .before in
+    record { fits = omega (arith, frozen-adds t c, sum-small (turn .before .before .before .loop .inv .asked .ready) 0 (inside t turn) (omega arith)) }
+
+frozen-step-dropped-requires : (t : ℕ)
+    → frozen-step-lts.Need-dropped-requires (frozen-step-calls t) (frozen-step-at t) frozen-step.Post frozen-step-Inv-loop frozen-step-μ-loop
 frozen-step-dropped-requires t c κs = tt
 
-frozen-step-returns-3 : (t : ℕ) → frozen-step-lts.Need-returns-3 (frozen-step-calls t) (frozen-step-at t) frozen-step.Post frozen-step-Inv-loop frozen-step-μ-loop
+frozen-step-returns-3 : (t : ℕ)
+    → frozen-step-lts.Need-returns-3 (frozen-step-calls t) (frozen-step-at t) frozen-step.Post frozen-step-Inv-loop frozen-step-μ-loop
 frozen-step-returns-3 t c =
-    frozen-dropped (c .before .before .before .before .before .before .before .before .before .before .before .before .before .before .before .before .before .loop .inv) (inside t (c .before .before .before .before .before .before .before .before .before .before .before .before .before .before)) (c .before .before .before .before .before .before .before .before .before .before .before .before .if2 .left) (frozen-going t (c .before .before .before .before)) (frozen-adds t (c .before .before .before))
+    let added = c .before .before .before in
+    let valued = added .before in
+    let turn = valued .before .before .before .before .before .before .before .before .before .before in
+    let frozen = valued .before .before .before .before .before .before .before .before in
+    frozen-dropped (turn .before .before .before .loop .inv) (inside t turn) (frozen .if2 .left) (frozen-going t valued) (frozen-adds t added)
     (sym (c .before .dropped .ensures) ∙ c .if4 .taken)
 
-frozen-step-put-requires : (t : ℕ) → frozen-step-lts.Need-put-requires (frozen-step-calls t) (frozen-step-at t) frozen-step.Post frozen-step-Inv-loop frozen-step-μ-loop
-frozen-step-put-requires t c κs = within (c .before .before .before .before .before .before .before .before .before .before .before .before .before .before .before .before .before .before .loop .inv .asked) (inside t (c .before .before .before .before .before .before .before .before .before .before .before .before .before .before .before))
+frozen-step-put-requires : (t : ℕ)
+    → frozen-step-lts.Need-put-requires (frozen-step-calls t) (frozen-step-at t) frozen-step.Post frozen-step-Inv-loop frozen-step-μ-loop
+frozen-step-put-requires t c κs =
+    let valued = c .before .before .before .before .before in
+    short-turn t (valued .before .before .before .before .before .before .before .before .before .before)
 
-frozen-step-add-i : (t : ℕ) → frozen-step-lts.Need-add-i (frozen-step-calls t) (frozen-step-at t) frozen-step.Post frozen-step-Inv-loop frozen-step-μ-loop
-frozen-step-add-i t c = record { fits = omega (arith, within (c .before .before .before .before .before .before .before .before .before .before .before .before .before .before .before .before .before .before .before .loop .inv .asked) (inside t (c .before .before .before .before .before .before .before .before .before .before .before .before .before .before .before .before))) }
+frozen-step-add-i : (t : ℕ)
+    → frozen-step-lts.Need-add-i (frozen-step-calls t) (frozen-step-at t) frozen-step.Post frozen-step-Inv-loop frozen-step-μ-loop
+frozen-step-add-i t c =
+    let valued = c .before .before .before .before .before .before in
+    record { fits = omega (arith, short-turn t (valued .before .before .before .before .before .before .before .before .before .before)) }
 
-frozen-step-loop-less : (t : ℕ) → frozen-step-lts.Need-loop-less (frozen-step-calls t) (frozen-step-at t) frozen-step.Post frozen-step-Inv-loop frozen-step-μ-loop
+frozen-step-loop-less : (t : ℕ)
+    → frozen-step-lts.Need-loop-less (frozen-step-calls t) (frozen-step-at t) frozen-step.Post frozen-step-Inv-loop frozen-step-μ-loop
 frozen-step-loop-less t c =
-    let o = c .before .before .before .before .before .before .before .before .before .before .before .before .before .before .before .before .before .before .before .loop in
-    omega (arith, inside t (c .before .before .before .before .before .before .before .before .before .before .before .before .before .before .before .before), ap (λ (n : ℕ). 2 ^ n) (o .inv .onward .same-m))
+    let valued = c .before .before .before .before .before .before in
+    let turn = valued .before .before .before .before .before .before .before .before .before .before in
+    omega (arith, inside t turn, ap (λ (n : ℕ). 2 ^ n) (turn .before .before .before .loop .inv .onward .same-m))
 
-frozen-step-loop-again : (t : ℕ) → frozen-step-lts.Need-loop-again (frozen-step-calls t) (frozen-step-at t) frozen-step.Post frozen-step-Inv-loop frozen-step-μ-loop
+frozen-step-loop-again : (t : ℕ)
+    → frozen-step-lts.Need-loop-again (frozen-step-calls t) (frozen-step-at t) frozen-step.Post frozen-step-Inv-loop frozen-step-μ-loop
 frozen-step-loop-again t c =
-    reached-more (c .before .before .before .before .before .before .before .before .before .before .before .before .before .before .before .before .before .before .before .loop .inv) (inside t (c .before .before .before .before .before .before .before .before .before .before .before .before .before .before .before .before)) (c .before .before .before .before .before .before .before .before .before .before .before .before .before .before .if2 .left) (frozen-going t (c .before .before .before .before .before .before)) (frozen-adds t (c .before .before .before .before .before))
+    let added = c .before .before .before .before .before in
+    let valued = added .before in
+    let turn = valued .before .before .before .before .before .before .before .before .before .before in
+    let frozen = valued .before .before .before .before .before .before .before .before in
+    reached-more (turn .before .before .before .loop .inv) (inside t turn) (frozen .if2 .left) (frozen-going t valued) (frozen-adds t added)
     (sym (c .before .before .before .dropped .ensures) ∙ c .before .before .if4 .left) (c .put .ensures)
 
-frozen-step-finish-requires : (t : ℕ) → frozen-step-lts.Need-finish-requires (frozen-step-calls t) (frozen-step-at t) frozen-step.Post frozen-step-Inv-loop frozen-step-μ-loop
+frozen-step-finish-requires : (t : ℕ)
+    → frozen-step-lts.Need-finish-requires (frozen-step-calls t) (frozen-step-at t) frozen-step.Post frozen-step-Inv-loop frozen-step-μ-loop
 frozen-step-finish-requires t c κs =
-    let o = c .before .before .before .before .before .before .before .loop in
-    let a = o .inv .asked in
-    let e = eqb-true (o .i) (2 ^ getD (o .state) 6 0) (sym (c .before .before .before .before .before .full .ensures) ∙ not-false (c .before .before .before .before .if1 .left)) in
-    (short (a .ready), e, a .long)
+    let ended = c .before .before .before .before in
+    let o = ended .before .before .before .loop in
+    let full = eqb-true (o .i) (2 ^ getD (o .state) 6 0) (sym (ended .before .full .ensures) ∙ not-false (ended .if1 .left)) in
+    (short (o .inv .asked .ready), full, o .inv .asked .long)
 
-frozen-step-returns-4 : (t : ℕ) → frozen-step-lts.Need-returns-4 (frozen-step-calls t) (frozen-step-at t) frozen-step.Post frozen-step-Inv-loop frozen-step-μ-loop
+frozen-step-returns-4 : (t : ℕ)
+    → frozen-step-lts.Need-returns-4 (frozen-step-calls t) (frozen-step-at t) frozen-step.Post frozen-step-Inv-loop frozen-step-μ-loop
 frozen-step-returns-4 t c =
-    let o = c .before .before .before .before .before .before .before .before .loop in
-    let e = eqb-true (o .i) (2 ^ getD (o .state) 6 0) (sym (c .before .before .before .before .before .before .full .ensures) ∙ not-false (c .before .before .before .before .before .if1 .left)) in
-    reached-given (o .inv) (full-step (o .inv .asked) e (c .finish .ensures))
+    let ended = c .before .before .before .before .before in
+    let o = ended .before .before .before .loop in
+    let full = eqb-true (o .i) (2 ^ getD (o .state) 6 0) (sym (ended .before .full .ensures) ∙ not-false (ended .if1 .left)) in
+    reached-given (o .inv) (full-step (o .inv .asked) full (c .finish .ensures))
 
 -- ---- the information step
 abbrev Info-start : ℕ → Type 0
@@ -208,6 +277,9 @@ Info-start t = info-step-lts.Start (info-step-calls t) (info-step-at t) info-ste
 -- the value at the index
 abbrev info-at : (t : ℕ) → Info-start t → ℤ
 info-at t g = value (getD (g .args .state .now) 6 0) (front (g .args .state .now) (g .args .readings .now)) (take (g .args .i) (g .args .path .now))
+
+info-short : (t : ℕ) (g : Info-start t) → g .args .i < 256
+info-short t g = within (g .pre .1 .0) (g .pre .1 .1)
 
 info-step-visit-requires : (t : ℕ) → info-step-lts.Need-visit-requires (info-step-calls t) (info-step-at t) info-step.Post
 info-step-visit-requires t c κs = c .before .pre .1 .0 .long
@@ -222,27 +294,40 @@ info-step-value-at-requires t c κs =
     let a = c .before .before .before .before .before .before .before .pre .1 in
     value-asked (a .0) (a .1) (may-visit (c .before .before .before .before .if1 .left) (c .before .before .before .before .before .visit .ensures))
 
-info-value : (t : ℕ) (c : info-step-lts.After-value-at (info-step-calls t) (info-step-at t) info-step.Post) → toZ w32 (ofZ w32 (c .value-at .result)) ≡ info-at t (c .before .before .before .before .before .before .before .before)
+abbrev Info-valued : ℕ → Type 0
+Info-valued t = info-step-lts.After-value-at (info-step-calls t) (info-step-at t) info-step.Post
+
+info-value : (t : ℕ) (c : Info-valued t) → let g = c .before .before .before .before .before .before .before .before in
+    toZ w32 (ofZ w32 (c .value-at .result)) ≡ info-at t g
 info-value t c =
     let a = c .before .before .before .before .before .before .before .before .pre .1 in
-    toZ-ofZ (record { sfits = c .value-at .ok }) ∙ value-is (a .0) (a .1) (may-visit (c .before .before .before .before .before .if1 .left) (c .before .before .before .before .before .before .visit .ensures)) (c .value-at .ensures)
+    let allowed = c .before .before .before .before .before in
+    toZ-ofZ (record { sfits = c .value-at .ok })
+    ∙ value-is (a .0) (a .1) (may-visit (allowed .if1 .left) (allowed .before .visit .ensures)) (c .value-at .ensures)
 
-info-going : (t : ℕ) (c : info-step-lts.After-value-at (info-step-calls t) (info-step-at t) info-step.Post) → let g = c .before .before .before .before .before .before .before .before in
+info-going : (t : ℕ) (c : Info-valued t) → let g = c .before .before .before .before .before .before .before .before in
     Going (front (g .args .state .now) (g .args .readings .now)) (g .args .path .now) (g .args .i) (seen (g .args .state .now)) (seen (g .args .state .now))
     (c .value-at .last .1 .1 .1 .1 .0) (c .value-at .last .1 .0) (g .args .path .now) (g .args .best .now) (g .args .second .now)
 info-going t c =
     let a = c .before .before .before .before .before .before .before .before .pre .1 in
-    value-going (a .0) (a .1) (may-visit (c .before .before .before .before .before .if1 .left) (c .before .before .before .before .before .before .visit .ensures)) (c .value-at .ensures)
+    let allowed = c .before .before .before .before .before in
+    value-going (a .0) (a .1) (may-visit (allowed .if1 .left) (allowed .before .visit .ensures)) (c .value-at .ensures)
 
 -- the first bit, and the penalty with the other
-info-first : (t : ℕ) (c : info-step-lts.After-first-bit (info-step-calls t) (info-step-at t) info-step.Post) → c .first-bit .result ≡ hard (info-at t (c .before .before .before .before .before .before .before .before .before))
+abbrev Chosen : ℕ → Type 0
+Chosen t = info-step-lts.After-first-bit (info-step-calls t) (info-step-at t) info-step.Post
+
+info-first : (t : ℕ) (c : Chosen t) → c .first-bit .result ≡ hard (info-at t (c .before .before .before .before .before .before .before .before .before))
 info-first t c = c .first-bit .ensures ∙ ap hard (info-value t (c .before))
 
-info-other : (t : ℕ) (c : info-step-lts.After-loss (info-step-calls t) (info-step-at t) info-step.Post) → let g = c .before .before .before .before .before .before .before .before .before .before in
+info-other : (t : ℕ) (c : info-step-lts.After-loss (info-step-calls t) (info-step-at t) info-step.Post) → let chosen = c .before in
+    let g = chosen .before .before .before .before .before .before .before .before .before in
     g .args .penalty + c .loss .result ≡ g .args .penalty + loss (info-at t g) (1 - hard (info-at t g))
 info-other t c =
-    let g = c .before .before .before .before .before .before .before .before .before .before in
-    ap (λ (n : ℕ). g .args .penalty + n) (c .loss .ensures ∙ ap₂ (λ (v : ℤ) (b : ℕ). loss v (1 - b)) (info-value t (c .before .before)) (info-first t (c .before)))
+    let chosen = c .before in
+    let g = chosen .before .before .before .before .before .before .before .before .before in
+    ap (λ (n : ℕ). g .args .penalty + n)
+    (c .loss .ensures ∙ ap₂ (λ (v : ℤ) (b : ℕ). loss v (1 - b)) (info-value t (chosen .before)) (info-first t chosen))
 
 info-step-first-bit-requires : (t : ℕ) → info-step-lts.Need-first-bit-requires (info-step-calls t) (info-step-at t) info-step.Post
 info-step-first-bit-requires t c κs = tt
@@ -251,7 +336,9 @@ info-step-sub-other : (t : ℕ) → info-step-lts.Need-sub-other (info-step-call
 info-step-sub-other t c = omega (arith, info-first t c, hard-bit (info-at t (c .before .before .before .before .before .before .before .before .before)))
 
 info-step-loss-requires : (t : ℕ) → info-step-lts.Need-loss-requires (info-step-calls t) (info-step-at t) info-step.Post
-info-step-loss-requires t c κs = rw (info-value t (c .before)) (value-small (c .before .before .before .before .before .before .before .before .before .pre .1 .0 .ready))
+info-step-loss-requires t c κs =
+    let valued = c .before in
+    rw (info-value t valued) (value-small (valued .before .before .before .before .before .before .before .before .pre .1 .0 .ready))
 
 info-step-add-after : (t : ℕ) → info-step-lts.Need-add-after (info-step-calls t) (info-step-at t) info-step.Post
 info-step-add-after t c =
@@ -259,101 +346,152 @@ info-step-add-after t c =
     record { fits = omega (arith, info-other t c, sum-small (g .pre .1 .0 .ready) (1 - hard (info-at t g)) (g .pre .1 .1) (omega arith)) }
 
 info-step-put-requires : (t : ℕ) → info-step-lts.Need-put-requires (info-step-calls t) (info-step-at t) info-step.Post
-info-step-put-requires t c κs = within (c .before .before .before .before .before .before .before .before .before .before .before .pre .1 .0) (c .before .before .before .before .before .before .before .before .before .before .before .pre .1 .1)
+info-step-put-requires t c κs = info-short t (c .before .before .before .before .before .before .before .before .before .before .before)
 
 info-step-add-frozen-step : (t : ℕ) → info-step-lts.Need-add-frozen-step (info-step-calls t) (info-step-at t) info-step.Post
-info-step-add-frozen-step t c = record { fits = omega (arith, within (c .before .before .before .before .before .before .before .before .before .before .before .before .before .before .before .before .before .before .pre .1 .0) (c .before .before .before .before .before .before .before .before .before .before .before .before .before .before .before .before .before .before .pre .1 .1)) }
+info-step-add-frozen-step t c =
+    let chosen = c .before .before .before .before .before .before .before .before .before in
+    record { fits = omega (arith, info-short t (chosen .before .before .before .before .before .before .before .before .before)) }
+
+-- the first bit is put
+abbrev Put : ℕ → Type 0
+Put t = info-step-lts.After-put (info-step-calls t) (info-step-at t) info-step.Post
+
+info-put : (t : ℕ) (c : Put t) → let g = c .before .before .before .before .before .before .before .before .before .before .before .before in
+    c .put .last .0 ≡ set (g .args .path .now) (g .args .i) (hard (info-at t g))
+info-put t c =
+    let chosen = c .before .before .before in
+    let g = chosen .before .before .before .before .before .before .before .before .before in
+    c .put .ensures ∙ ap (set (g .args .path .now) (g .args .i)) (info-first t chosen)
 
 info-step-frozen-step-requires : (t : ℕ) → info-step-lts.Need-frozen-step-requires (info-step-calls t) (info-step-at t) info-step.Post
 info-step-frozen-step-requires t c κs =
-    let g = c .before .before .before .before .before .before .before .before .before .before .before .before .before .before .before .before .before .before in
+    let put = c .before .before .before .before .before .before in
+    let v = info-going t (put .before .before .before .before) in
+    let g = put .before .before .before .before .before .before .before .before .before .before .before .before in
     let a = g .pre .1 in
-    let put = c .before .before .before .before .before .before .put .ensures ∙ ap (set (g .args .path .now) (g .args .i)) (info-first t (c .before .before .before .before .before .before .before .before .before)) in
-    let v = info-going t (c .before .before .before .before .before .before .before .before .before .before) in
+    let b = hard (info-at t g) in
     let low = first-undropped (a .0) (a .1) v in (
-      omega (arith, g .pre .0, a .1, deeper-m (a .0) (a .1) v (hard (info-at t g)) (hard-bit (info-at t g)) (first-adds (a .0) (a .1)) low put),
-      deeper-asked (a .0) (a .1) v (hard (info-at t g)) (hard-bit (info-at t g)) (first-adds (a .0) (a .1)) low put,
+      omega (arith, g .pre .0, a .1, deeper-m (a .0) (a .1) v b (hard-bit (info-at t g)) (first-adds (a .0) (a .1)) low (info-put t put)),
+      deeper-asked (a .0) (a .1) v b (hard-bit (info-at t g)) (first-adds (a .0) (a .1)) low (info-put t put),
     )
 
 -- after the first extension
-info-extended : (t : ℕ) (c : info-step-lts.After-frozen-step (info-step-calls t) (info-step-at t) info-step.Post) → let g = c .before .before .before .before .before .before .before .before .before .before .before .before .before .before .before .before .before .before .before in
+abbrev Below : ℕ → Type 0
+Below t = info-step-lts.After-frozen-step (info-step-calls t) (info-step-at t) info-step.Post
+
+abbrev start-of : (t : ℕ) → Below t → Info-start t
+start-of t c =
+    let chosen = c .before .before .before .before .before .before .before .before .before .before in
+    chosen .before .before .before .before .before .before .before .before .before
+
+info-extended : (t : ℕ) (c : Below t) → let g = start-of t c in
     let f = c .frozen-step in
     Extended (front (g .args .state .now) (g .args .readings .now)) (front (g .args .state .now) (g .args .kinds .now)) (g .args .i) (g .args .penalty)
     (hard (info-at t g)) (take (g .args .i) (g .args .path .now)) (seen (g .args .state .now)) (g .args .best .now) (g .args .second .now)
     (seen (f .last .1 .1 .1 .1 .1 .1 .1 .0)) (f .last .1 .1 .0) (f .last .1 .1 .1 .0) (f .last .1 .1 .1 .1 .1 .0) (f .last .1 .1 .1 .1 .1 .1 .0)
 info-extended t c =
-    let g = c .before .before .before .before .before .before .before .before .before .before .before .before .before .before .before .before .before .before .before in
+    let put = c .before .before .before .before .before .before .before in
+    let v = info-going t (put .before .before .before .before) in
+    let g = start-of t c in
     let a = g .pre .1 in
-    let put = c .before .before .before .before .before .before .before .put .ensures ∙ ap (set (g .args .path .now) (g .args .i)) (info-first t (c .before .before .before .before .before .before .before .before .before .before)) in
-    let v = info-going t (c .before .before .before .before .before .before .before .before .before .before .before) in
-    deeper-given (a .0) (a .1) v (hard (info-at t g)) (hard-bit (info-at t g)) (first-adds (a .0) (a .1)) (first-undropped (a .0) (a .1) v) put (c .frozen-step .ensures)
+    deeper-given (a .0) (a .1) v (hard (info-at t g)) (hard-bit (info-at t g)) (first-adds (a .0) (a .1)) (first-undropped (a .0) (a .1) v)
+    (info-put t put) (c .frozen-step .ensures)
 
-info-kept : (t : ℕ) (c : info-step-lts.After-frozen-step (info-step-calls t) (info-step-at t) info-step.Post) → let g = c .before .before .before .before .before .before .before .before .before .before .before .before .before .before .before .before .before .before .before in
+info-kept : (t : ℕ) (c : Below t) → let g = start-of t c in
     let f = c .frozen-step in
     Kept (front (g .args .state .now) (g .args .readings .now)) (seen (f .last .1 .1 .1 .1 .1 .1 .1 .0)) (f .last .1 .1 .0) (f .last .1 .1 .1 .0)
     (f .last .1 .1 .1 .1 .1 .0) (f .last .1 .1 .1 .1 .1 .1 .0) (g .args .i)
 info-kept t c =
-    let g = c .before .before .before .before .before .before .before .before .before .before .before .before .before .before .before .before .before .before .before in
+    let put = c .before .before .before .before .before .before .before in
+    let v = info-going t (put .before .before .before .before) in
+    let g = start-of t c in
     let a = g .pre .1 in
-    let put = c .before .before .before .before .before .before .before .put .ensures ∙ ap (set (g .args .path .now) (g .args .i)) (info-first t (c .before .before .before .before .before .before .before .before .before .before)) in
-    let v = info-going t (c .before .before .before .before .before .before .before .before .before .before .before) in
-    deeper-kept (a .0) (a .1) v (hard (info-at t g)) (hard-bit (info-at t g)) (first-adds (a .0) (a .1)) (first-undropped (a .0) (a .1) v) put (c .frozen-step .ensures)
+    deeper-kept (a .0) (a .1) v (hard (info-at t g)) (hard-bit (info-at t g)) (first-adds (a .0) (a .1)) (first-undropped (a .0) (a .1) v)
+    (info-put t put) (c .frozen-step .ensures)
 
 info-step-visit-requires-2 : (t : ℕ) → info-step-lts.Need-visit-requires-2 (info-step-calls t) (info-step-at t) info-step.Post
 info-step-visit-requires-2 t c κs = c .before .frozen-step .ensures .long
 
 info-step-returns-2 : (t : ℕ) → info-step-lts.Need-returns-2 (info-step-calls t) (info-step-at t) info-step.Post
 info-step-returns-2 t c =
-    let a = c .before .before .before .before .before .before .before .before .before .before .before .before .before .before .before .before .before .before .before .before .before .before .pre .1 in
-    second-stop (a .0) (a .1) (a .2) (c .before .before .before .frozen-step .last .1 .1 .1 .1 .1 .1 .1 .0) (info-extended t (c .before .before .before)) (may-not (c .if2 .taken) (c .before .visit2 .ensures))
+    let below = c .before .before .before in
+    let a = start-of t below .pre .1 in
+    second-stop (a .0) (a .1) (a .2) (below .frozen-step .last .1 .1 .1 .1 .1 .1 .1 .0) (info-extended t below)
+    (may-not (c .if2 .taken) (c .before .visit2 .ensures))
 
-info-second : (t : ℕ) (c : info-step-lts.Else2 (info-step-calls t) (info-step-at t) info-step.Post) → let g = c .before .before .before .before .before .before .before .before .before .before .before .before .before .before .before .before .before .before .before .before .before .before in
+info-second : (t : ℕ) (c : info-step-lts.Else2 (info-step-calls t) (info-step-at t) info-step.Post) → let g = start-of t (c .before .before .before) in
     let f = c .before .before .before .frozen-step in
     Going (front (g .args .state .now) (g .args .readings .now)) (g .args .path .now) (g .args .i) (seen (g .args .state .now))
-    (seen (f .last .1 .1 .1 .1 .1 .1 .1 .0)) (c .before .visit2 .last .0) (f .last .1 .1 .0) (f .last .1 .1 .1 .0) (f .last .1 .1 .1 .1 .1 .0) (f .last .1 .1 .1 .1 .1 .1 .0)
+    (seen (f .last .1 .1 .1 .1 .1 .1 .1 .0)) (c .before .visit2 .last .0) (f .last .1 .1 .0) (f .last .1 .1 .1 .0)
+    (f .last .1 .1 .1 .1 .1 .0) (f .last .1 .1 .1 .1 .1 .1 .0)
 info-second t c =
-    let a = c .before .before .before .before .before .before .before .before .before .before .before .before .before .before .before .before .before .before .before .before .before .before .pre .1 in
-    second-going (a .0) (a .1) (a .2) (c .before .before .before .frozen-step .last .1 .1 .1 .1 .1 .1 .1 .0) (info-extended t (c .before .before .before)) (may-visit (c .if2 .left) (c .before .visit2 .ensures)) (info-kept t (c .before .before .before))
+    let below = c .before .before .before in
+    let a = start-of t below .pre .1 in
+    second-going (a .0) (a .1) (a .2) (below .frozen-step .last .1 .1 .1 .1 .1 .1 .1 .0) (info-extended t below)
+    (may-visit (c .if2 .left) (c .before .visit2 .ensures)) (info-kept t below)
 
 info-step-dropped-requires : (t : ℕ) → info-step-lts.Need-dropped-requires (info-step-calls t) (info-step-at t) info-step.Post
 info-step-dropped-requires t c κs = tt
 
 info-step-returns-3 : (t : ℕ) → info-step-lts.Need-returns-3 (info-step-calls t) (info-step-at t) info-step.Post
 info-step-returns-3 t c =
-    let a = c .before .before .before .before .before .before .before .before .before .before .before .before .before .before .before .before .before .before .before .before .before .before .before .before .before .pre .1 in
-    second-dropped (a .0) (a .1) (a .2) (c .before .before .before .before .before .before .frozen-step .last .1 .1 .1 .1 .1 .1 .1 .0) (info-extended t (c .before .before .before .before .before .before)) (info-second t (c .before .before .before)) (info-other t (c .before .before .before .before .before .before .before .before .before .before .before .before .before .before .before))
-    (sym (c .before .dropped .ensures) ∙ c .if3 .taken)
+    let again = c .before .before .before in
+    let below = again .before .before .before in
+    let a = start-of t below .pre .1 in
+    second-dropped (a .0) (a .1) (a .2) (below .frozen-step .last .1 .1 .1 .1 .1 .1 .1 .0) (info-extended t below) (info-second t again)
+    (info-other t (below .before .before .before .before .before .before .before .before .before)) (sym (c .before .dropped .ensures) ∙ c .if3 .taken)
 
 info-step-put-requires-2 : (t : ℕ) → info-step-lts.Need-put-requires-2 (info-step-calls t) (info-step-at t) info-step.Post
-info-step-put-requires-2 t c κs = within (c .before .before .before .before .before .before .before .before .before .before .before .before .before .before .before .before .before .before .before .before .before .before .before .before .before .before .pre .1 .0) (c .before .before .before .before .before .before .before .before .before .before .before .before .before .before .before .before .before .before .before .before .before .before .before .before .before .before .pre .1 .1)
+info-step-put-requires-2 t c κs =
+    let below = c .before .before .before .before .before .before .before in
+    info-short t (start-of t below)
 
 info-step-add-frozen-step-2 : (t : ℕ) → info-step-lts.Need-add-frozen-step-2 (info-step-calls t) (info-step-at t) info-step.Post
-info-step-add-frozen-step-2 t c = record { fits = omega (arith, within (c .before .before .before .before .before .before .before .before .before .before .before .before .before .before .before .before .before .before .before .before .before .before .before .before .before .before .before .before .before .before .before .before .before .pre .1 .0) (c .before .before .before .before .before .before .before .before .before .before .before .before .before .before .before .before .before .before .before .before .before .before .before .before .before .before .before .before .before .before .before .before .before .pre .1 .1)) }
+info-step-add-frozen-step-2 t c =
+    let below = c .before .before .before .before .before .before .before .before .before .before .before .before .before .before in
+    record { fits = omega (arith, info-short t (start-of t below)) }
+
+-- the other bit is put
+abbrev Put-other : ℕ → Type 0
+Put-other t = info-step-lts.After-put2 (info-step-calls t) (info-step-at t) info-step.Post
+
+other-put : (t : ℕ) (c : Put-other t) → let below = c .before .before .before .before .before .before .before .before in
+    let g = start-of t below in
+    c .put2 .last .0 ≡ set (below .frozen-step .last .1 .1 .1 .0) (g .args .i) (1 - hard (info-at t g))
+other-put t c =
+    let below = c .before .before .before .before .before .before .before .before in
+    let g = start-of t below in
+    let chosen = below .before .before .before .before .before .before .before .before .before .before in
+    c .put2 .ensures ∙ ap (λ (b : ℕ). set (below .frozen-step .last .1 .1 .1 .0) (g .args .i) (1 - b)) (info-first t chosen)
 
 info-step-frozen-step-requires-2 : (t : ℕ) → info-step-lts.Need-frozen-step-requires-2 (info-step-calls t) (info-step-at t) info-step.Post
 info-step-frozen-step-requires-2 t c κs =
-    let g = c .before .before .before .before .before .before .before .before .before .before .before .before .before .before .before .before .before .before .before .before .before .before .before .before .before .before .before .before .before .before .before .before .before in
+    let put = c .before .before .before .before .before .before in
+    let again = put .before .before .before .before .before in
+    let below = again .before .before .before in
+    let g = start-of t below in
     let a = g .pre .1 in
-    let put = c .before .before .before .before .before .before .put2 .ensures ∙ ap (λ (b : ℕ). set (c .before .before .before .before .before .before .before .before .before .before .before .before .before .before .frozen-step .last .1 .1 .1 .0) (g .args .i) (1 - b)) (info-first t (c .before .before .before .before .before .before .before .before .before .before .before .before .before .before .before .before .before .before .before .before .before .before .before .before)) in (
-      omega (
-        arith,
-        g .pre .0,
-        a .1,
-        deeper-m (a .0) (a .1) (info-second t (c .before .before .before .before .before .before .before .before .before .before .before)) (1 - hard (info-at t g)) (omega arith) (info-other t (c .before .before .before .before .before .before .before .before .before .before .before .before .before .before .before .before .before .before .before .before .before .before .before))
-            (sym (c .before .before .before .before .before .before .before .before .before .dropped .ensures) ∙ c .before .before .before .before .before .before .before .before .if3 .left) put,
-      ),
-      deeper-asked (a .0) (a .1) (info-second t (c .before .before .before .before .before .before .before .before .before .before .before)) (1 - hard (info-at t g)) (omega arith) (info-other t (c .before .before .before .before .before .before .before .before .before .before .before .before .before .before .before .before .before .before .before .before .before .before .before))
-          (sym (c .before .before .before .before .before .before .before .before .before .dropped .ensures) ∙ c .before .before .before .before .before .before .before .before .if3 .left) put,
+    let v = info-second t again in
+    let adds = info-other t (below .before .before .before .before .before .before .before .before .before) in
+    let low = sym (put .before .before .before .dropped .ensures) ∙ put .before .before .if3 .left in (
+      omega (arith, g .pre .0, a .1, deeper-m (a .0) (a .1) v (1 - hard (info-at t g)) (omega arith) adds low (other-put t put)),
+      deeper-asked (a .0) (a .1) v (1 - hard (info-at t g)) (omega arith) adds low (other-put t put),
     )
 
 info-step-returns-4 : (t : ℕ) → info-step-lts.Need-returns-4 (info-step-calls t) (info-step-at t) info-step.Post
 info-step-returns-4 t c =
-    let g = c .before .before .before .before .before .before .before .before .before .before .before .before .before .before .before .before .before .before .before .before .before .before .before .before .before .before .before .before .before .before .before .before .before .before in
+    let put = c .before .before .before .before .before .before .before in
+    let again = put .before .before .before .before .before in
+    let below = again .before .before .before in
+    let g = start-of t below in
     let a = g .pre .1 in
-    let put = c .before .before .before .before .before .before .before .put2 .ensures ∙ ap (λ (b : ℕ). set (c .before .before .before .before .before .before .before .before .before .before .before .before .before .before .before .frozen-step .last .1 .1 .1 .0) (g .args .i) (1 - b)) (info-first t (c .before .before .before .before .before .before .before .before .before .before .before .before .before .before .before .before .before .before .before .before .before .before .before .before .before)) in
-    second-given (a .0) (a .1) (a .2) (c .before .before .before .before .before .before .before .before .before .before .before .before .before .before .before .frozen-step .last .1 .1 .1 .1 .1 .1 .1 .0) (info-extended t (c .before .before .before .before .before .before .before .before .before .before .before .before .before .before .before)) (info-second t (c .before .before .before .before .before .before .before .before .before .before .before .before)) (c .frozen-step2 .ensures .long)
-    (deeper-given (a .0) (a .1) (info-second t (c .before .before .before .before .before .before .before .before .before .before .before .before)) (1 - hard (info-at t g)) (omega arith) (info-other t (c .before .before .before .before .before .before .before .before .before .before .before .before .before .before .before .before .before .before .before .before .before .before .before .before))
-    (sym (c .before .before .before .before .before .before .before .before .before .before .dropped .ensures) ∙ c .before .before .before .before .before .before .before .before .before .if3 .left) put (c .frozen-step2 .ensures))
+    let v = info-second t again in
+    let adds = info-other t (below .before .before .before .before .before .before .before .before .before) in
+    let low = sym (put .before .before .before .dropped .ensures) ∙ put .before .before .if3 .left in
+    let e = c .frozen-step2 .ensures in
+    second-given (a .0) (a .1) (a .2) (below .frozen-step .last .1 .1 .1 .1 .1 .1 .1 .0) (info-extended t below) v (e .long)
+    (deeper-given (a .0) (a .1) v (1 - hard (info-at t g)) (omega arith) adds low (other-put t put) e)
 
 pub +frozen-step+info-step-spec : {M : Type 1} → statement M
 +frozen-step+info-step-spec = close μ-frozen-step μ-info-step (λ t. frozen-step-lts.spec (frozen-step-calls t)
