@@ -1,4 +1,5 @@
 /* How much stack each call takes at its deepest, m = 8: the call runs on a painted stack, and the paint that is left is counted. */
+#define _XOPEN_SOURCE 600
 #include "../include/cinorbis.h"
 #include <pthread.h>
 #include <stdio.h>
@@ -30,6 +31,12 @@ static void *encode(void *a) {
     return a;
 }
 
+/* of the word that encode wrote */
+static void *inverse(void *a) {
+    refusal = cinorbis_inverse(4, 8, word, 256, bits, 163, &numbers);
+    return a;
+}
+
 static size_t used(void *(*call)(void *)) {
     pthread_attr_t attributes;
     pthread_t thread;
@@ -46,6 +53,9 @@ int main(void) {
     if (posix_memalign((void **)&stack, 4096, ROOM)) return 1;
     for (int j = 0; j < 256; j++) readings[j] = (int16_t)((j * 7919) % 4095 - 2047);
     size_t ground = used(nothing);
-    printf("encode %zu\nquick reading %zu\nsearch %zu\n", used(encode) - ground, used(quick) - ground, used(search) - ground);
+    printf("encode %zu\n", used(encode) - ground);
+    printf("inverse %zu\n", used(inverse) - ground);
+    printf("quick reading %zu\n", used(quick) - ground);
+    printf("search %zu\n", used(search) - ground);
     return 0;
 }

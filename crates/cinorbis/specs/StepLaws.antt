@@ -7,7 +7,6 @@ use lib.IntN.{ℤ}
 use lib.Dec.{ltb, eqb}
 use lib.ListN.{length, take, replicate}
 use lib.Seq.{length-take-le}
-use Rattle.code.specs.Sound.{Sound}
 use mathlib.Core.Bool.{cond}
 use Rattle.numbers.specs.Choice.{cond-by}
 use Rattle.words.specs.Bits.{Bits}
@@ -94,9 +93,6 @@ headed-bits (Record c) s = answer-bits (c .m) (kinds (c .r) (c .m)) (readingsOf 
 pub found-bits : (s bits : List ℕ) (penalty gap visits : ℕ) → answered bits penalty gap visits ≡ resultOf s → Bits bits
 unfolding resultOf
 found-bits s bits penalty gap visits e = subst BitsIn (sym e) (headed-bits (headerOf s) s)
-
-pub accepted-sound : (s : List ℕ) (c : Code) → headerOf s ≡ Record c → Sound c
-accepted-sound s c h = framed-record s c (header-framed s c h) .sound
 
 -- the first k of 256 zeros
 pub zeros-front : (k : ℕ) → k ≤ 256 → length {A = ℕ} (take (k - 0) (replicate 256 0)) ≡ k

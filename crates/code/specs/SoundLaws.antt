@@ -1,16 +1,12 @@
--- Laws of the code parameters: what the tests on r and m show, the table of dimensions, and the row of kinds as it is filled.
-use mathlib.Core.Path.{_≡_, ap, _∙_}
+-- Laws of the code parameters: what the tests on r and m show, and the row of kinds as it is filled.
+use mathlib.Core.Path.{_≡_}
 use mathlib.Core.Logic.{⊎-elim}
-use mathlib.Core.List.{List, []}
 use Prim.Native.Nat.{ℕ, _-_, _^_, _≤_, _<_}
 use native.Mathlib.Omega.{arith}
 use lib.Count as Count
-use lib.ListN.{getD}
 use lib.Pow.{pow-mono}
 use borrow.Author.Tests.{le-leb, lt-leb}
 use Rattle.numbers.specs.Choice.{lt-or-le}
-use Rattle.numbers.specs.Sums.{tabulate}
-use Rattle.numbers.specs.SumsLaws.{getD-tabulate}
 use Rattle.words.specs.BitLaws.{ones-counted}
 use Rattle.words.specs.Kinds.{kind, dimension}
 use Rattle.words.specs.KindLaws.{dimension-most}
@@ -40,14 +36,6 @@ module _ (r m : ℕ) where
     pub kind-zero : Count.ones i < m - r → 0 ≡ kind r m i
     unfolding kind
     kind-zero k = rw (lt-leb (m - r) _ (rw (ones-counted m i h) at k))
-
--- what the constant table of the code holds
-pub dimensions-at : (table : List (List ℕ)) → table ≡ tabulate (λ m. tabulate (λ r. dimension r m) 9) 9
-    → (r m : ℕ) → r ≤ m → m ≤ largestM → getD (getD table m []) r 0 ≡ dimension r m
-dimensions-at table e r m h k =
-    ap (λ (t : List (List ℕ)). getD (getD t m []) r 0) e
-    ∙ ap (λ (t : List ℕ). getD t r 0) (getD-tabulate (λ m. tabulate (λ r. dimension r m) 9) 9 m [] (omega arith))
-    ∙ getD-tabulate (λ r. dimension r m) 9 r 0 (omega arith)
 
 -- what a code that is made shows: it is the code of r and m, and sound
 pub record MadeOf (r m : ℕ) (c : Code) : Type 0 where

@@ -7,6 +7,7 @@ pub mod Demands
 pub mod LayoutLaws
 pub mod ReaderLaws
 pub mod Accepted
+pub mod HeaderLaws
 pub mod OnlyHeader
 pub mod DemandsMet
 -- Examples

@@ -19,17 +19,17 @@ abbrev μ-loop : tie.MeasureT-loop
 
 loop-holds : tie.Need-loop-holds Inv-loop μ-loop
 loop-holds c =
-    let g = c .args in
+    let g = c .before .before .args in
     (zero-le, paste-zero (g .out .now) (g .at) (map digitByte (g .bits .now)), refl)
 
-shared-slice-read-out : tie.Need-shared-slice-read-out Inv-loop μ-loop
-shared-slice-read-out c = omega arith
+shared-slice-read-digit-of : tie.Need-shared-slice-read-digit-of Inv-loop μ-loop
+shared-slice-read-digit-of c = omega arith
+
+digit-of-requires : tie.Need-digit-of-requires Inv-loop μ-loop
+digit-of-requires c κs = c .before .before .before .before .before .pre .0 (c .before .before .loop .i)
 
 add-out : tie.Need-add-out Inv-loop μ-loop
-add-out c = omega (arith, c .before .before .before .pre .0 (c .before .before .loop .i))
-
-add-out-2 : tie.Need-add-out-2 Inv-loop μ-loop
-add-out-2 c = omega arith
+add-out c = omega arith
 
 slice-write-out : tie.Need-slice-write-out Inv-loop μ-loop
 slice-write-out c = omega arith
@@ -42,12 +42,12 @@ loop-less c = omega arith
 
 loop-again : tie.Need-loop-again Inv-loop μ-loop
 loop-again c =
-    let g = c .before .before .before .args in
-    let o = c .before .before .loop in
+    let g = c .before .before .before .before .before .before .args in
+    let o = c .before .before .before .loop in
     let t = map digitByte (g .bits .now) in
     let long = length-map (g .bits .now) digitByte in (
       omega arith,
-      rw (o .inv .1, add-one, ← List·getD-map digitByte (g .bits .now) (o .i) 0) (paste-suc (g .out .now) (g .at) t (o .i) 48 (omega arith) (omega arith)),
+      rw (c .digit-of .ensures, o .inv .1, add-one, ← List·getD-map digitByte (g .bits .now) (o .i) 0) (paste-suc (g .out .now) (g .at) t (o .i) 48 (omega arith) (omega arith)),
       length-set (o .out) _ _ ∙ o .inv .2,
     )
 
@@ -59,7 +59,7 @@ same-length c = c .before .loop .inv .2
 
 returns : tie.Need-returns Inv-loop μ-loop
 returns c =
-    let g = c .before .before .args in
+    let g = c .before .before .before .before .args in
     let o = c .before .loop in
     pasted (g .out .now) (g .at) (map digitByte (g .bits .now)) (o .i) (o .out) (omega (arith, length-map (g .bits .now) digitByte)) (o .inv .1)
 
@@ -70,9 +70,9 @@ put-bits-spec =
     Inv-loop
     μ-loop
     loop-holds
-    shared-slice-read-out
+    shared-slice-read-digit-of
+    digit-of-requires
     add-out
-    add-out-2
     slice-write-out
     add-i
     loop-less
