@@ -3,3 +3,7 @@ pub mod Told
 -- The parts of the answers, and laws
 pub mod Answers
 pub mod ToldLaws
+pub mod Lengths
+pub mod Unpacked
+pub mod Telegrams
+pub mod TelegramsLaws
