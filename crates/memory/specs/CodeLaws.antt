@@ -4,7 +4,7 @@ use mathlib.Core.List.{List, _++_}
 use mathlib.Core.Logic.{⊎-elim}
 use Prim.Native.Nat.{ℕ, suc, _+_, _-_, _*_, _^_, _/_, _%_, _≤_, _<_}
 use native.Mathlib.Omega.{arith}
-use native.Mathlib.Nat.{two-pow-succ, div-mul-le-self, sub-zero}
+use native.Mathlib.Nat.{two-pow-succ, div-mul-le-self}
 use lib.IntN.{ℤ, pos}
 use lib.ListN.{length, getD, take, drop, length-drop}
 use lib.Seq.{take-at, take-take, length-take-le, getD-take}
@@ -25,30 +25,21 @@ use Rattle.memory.specs.RowLaws.{digit-cases, below-upper, below-lower, 
 use Rattle.memory.specs.MadeLaws.{above-small, made-top, made-row, made-remade, made-all, last-row, still-made}
 
 -- ---- the word of the block before
-module _ (e h t : ℕ) (y w : List ℕ) (some : h ≤ e) (room : e ≤ length y) (fits : h ≤ length w) (is : h ≡ 2 ^ t) (bits : Bits y) where
+module _ (e h t : ℕ) (y : List ℕ) (some : h ≤ e) (room : e ≤ length y) (is : h ≡ 2 ^ t) where
   abbrev lent : List ℕ
   lent = midOf (e - h) (e - (e - h)) y
 
   lent-is : lent ≡ take h (drop (e - h) y)
   lent-is = let n : e - (e - h) ≡ h = omega arith in ap (λ (k : ℕ). take k (drop (e - h) y)) n
 
-  length-lent : length lent ≡ h
-  length-lent = ap length lent-is ∙ length-take-le h (drop (e - h) y) (simp length-drop (omega arith))
+  pub lent-long : length lent ≡ 2 ^ t
+  lent-long = ap length lent-is ∙ length-take-le h (drop (e - h) y) (simp length-drop (omega arith)) ∙ is
 
-  module _ (a rest : List ℕ) (copied : a ≡ lent) where
-    again : take (h - 0) (a ++ rest) ≡ a
-    again = rw sub-zero (take-at a rest h (ap length copied ∙ length-lent))
+  pub lent-bits : Bits y → Bits lent
+  lent-bits bits = subst Bits (sym lent-is) (bits-take h (drop (e - h) y) (bits-drop (e - h) y bits))
 
-    pub word-asked : (length (take (h - 0) (a ++ rest)) ≡ 2 ^ t) × Bits (take (h - 0) (a ++ rest))
-    word-asked = (
-      ap length again ∙ ap length copied ∙ length-lent ∙ is,
-      subst Bits (sym (again ∙ copied ∙ lent-is)) (bits-take h (drop (e - h) y) (bits-drop (e - h) y bits)),
-    )
-
-    pub word-made : (b more : List ℕ) → b ≡ transform t (take (h - 0) (a ++ rest)) → take h (b ++ more) ≡ transform t (take h (drop (e - h) y))
-    word-made b more f =
-        take-at b more h (ap length f ∙ length-transform t (take (h - 0) (a ++ rest)) (word-asked .0) ∙ sym is)
-        ∙ f ∙ ap (transform t) (again ∙ copied ∙ lent-is)
+  pub word-made : (b more : List ℕ) → b ≡ transform t lent → take h (b ++ more) ≡ transform t (take h (drop (e - h) y))
+  word-made b more f = take-at b more h (ap length f ∙ length-transform t lent lent-long ∙ sym is) ∙ f ∙ ap (transform t) lent-is
 
 -- a word of one bit is that bit
 pub bit-word : (y : List ℕ) (i : ℕ) → 0 < i → take 1 (midOf (i - 1) (i - (i - 1)) y) ≡ transform 0 (take 1 (drop (i - 1) y))
