@@ -1,0 +1,59 @@
+use borrow.Author.Needs.{needs}
+use Rattle.reorder.proofs.reorder_word.Statement.{statement}
+use Rattle.reorder.proofs.reorder_word.Tie as tie
+use Rattle.reorder.proofs.reorder_word.Reads as reads
+use Rattle.reorder.proofs.reorder_word.Lts as lts
+use Rattle.reorder.proofs.is_long.Reads as is-long-reads
+use Rattle.reorder.proofs.length.Reads as length-reads
+use Rattle.reorder.proofs.reorder_word_long.Reads as reorder-word-long-reads
+use Rattle.reorder.proofs.test_sizes.Reads as test-sizes-reads
+
+-- src/lib.rt:48:9
+length-requires : tie.Need-length-requires
+length-requires c κs = search needs
+
+-- src/lib.rt:49:18
+is-long-requires : tie.Need-is-long-requires
+is-long-requires c κs = search needs
+
+-- src/lib.rt:50:11
+test-sizes-requires : tie.Need-test-sizes-requires
+test-sizes-requires c κs = search needs
+
+-- src/lib.rt:51:22
+enum-known-why : tie.Need-enum-known-why
+enum-known-why c = search needs
+
+-- src/lib.rt:52:43
+enum-told : tie.Need-enum-told
+enum-told c = search needs
+
+-- src/lib.rt:52:25
+reorder-word-long-requires : tie.Need-reorder-word-long-requires
+reorder-word-long-requires c κs = ?
+
+-- src/lib.rt:43:1
+returns : tie.Need-returns
+returns c = ?
+
+-- src/lib.rt:43:1
+same-length : tie.Need-same-length
+same-length c = search needs
+
+-- src/lib.rt:43:1
+returns-2 : tie.Need-returns-2
+returns-2 c = ?
+
+pub reorder-word-spec : {M : Type 1} → statement M
+reorder-word-spec =
+    tie.close
+    (tie.spec
+    length-requires
+    is-long-requires
+    test-sizes-requires
+    enum-known-why
+    enum-told
+    reorder-word-long-requires
+    returns
+    same-length
+    returns-2)
