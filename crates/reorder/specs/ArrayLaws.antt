@@ -27,6 +27,9 @@ use Rattle.reorder.specs.ImagesLaws.{image-column, image-zero}
 pub entry-within : (m width p q : ℕ) → p < m → q < width → p * width + q < m * width
 entry-within m width p q h k = omega (arith, mul-le-mul-right width h)
 
+pub some-side : (m i : ℕ) → i < m * m → 0 < m
+some-side m i h = ⊎-elim (λ k. k) (λ (k : m ≤ 0). absurd (omega (arith, mul-le-mul-right m k))) (lt-or-le 0 m)
+
 -- a power of 2 in 64 bits
 pub shifted : (q : ℕ) → q ≤ 8 → 1 * 2 ^ q % 18446744073709551616 ≡ 2 ^ q
 shifted q h = rw one-mul (mod-eq-of-lt (omega (arith, pow-mono {i = q} {j = 8} h)))
@@ -137,10 +140,7 @@ pub spread-table : (f : ℕ → ℕ) (m : ℕ) (columns : List ℕ) (n : ℕ) �
 spread-table f m columns n e s =
     ap (spreadOf columns m) e
     ∙ tabulate-same (λ i. digit (i / m) (getD columns (i % m) 0)) (λ i. digit (i / m) (f (i % m))) (m * m)
-    (λ i h. ap (digit (i / m)) (s (i % m) (mod-lt i (some i h))))
-    where
-      some : (i : ℕ) → i < m * m → 0 < m
-      some i h = ⊎-elim (λ k. k) (λ (k : m ≤ 0). absurd (omega (arith, mul-le-mul-right m k))) (lt-or-le 0 m)
+    (λ i h. ap (digit (i / m)) (s (i % m) (mod-lt i (some-side m i h))))
 
 -- a row is a table of one column
 pub spread-row : (columns : List ℕ) (x n m : ℕ) → 0 < length columns → n ≡ m → spreadOf (set columns 0 x) 1 n ≡ tabulate (λ p. digit p x) m

@@ -5,3 +5,5 @@ pub mod Images
 -- Laws
 pub mod ImagesLaws
 pub mod ArrayLaws
+pub mod OutcomeLaws
+pub mod WorkLaws

@@ -81,13 +81,7 @@ fn all_apart(n: usize, images: &[u8], places: &[u8]) -> bool
 }
 
 // Whether this is a map that can be undone; then its images without the row, and their places.
-pub fn take_map(
-    m: usize,
-    table: &[u8],
-    row: &[u8],
-    images: &mut [u8],
-    places: &mut [u8],
-) -> bool
+pub fn take_map(m: usize, table: &[u8], row: &[u8], images: &mut [u8], places: &mut [u8]) -> bool
     requires { ⌜ Mapped m (now table) (now row) × (length (now images) ≡ 256)
         × (length (now places) ≡ 256) × Shows (λ v. 0) 256 (now places) ⌝ }
     ensures { λ good. ⌜ Taken m (now (table .entry)) (now (row .entry)) good
@@ -167,13 +161,7 @@ fn undo_columns(m: usize, places: &[u8], columns: &mut [u8])
 }
 
 // The undo map, by the places: its row is the position whose image is the row.
-pub fn put_undo(
-    m: usize,
-    places: &[u8],
-    row: &[u8],
-    out: &mut [u8],
-    outrow: &mut [u8],
-)
+pub fn put_undo(m: usize, places: &[u8], row: &[u8], out: &mut [u8], outrow: &mut [u8])
     requires { ⌜ Mapped m (now out) (now outrow) × (length (now row) ≡ m) × Bits (now row)
         × (length (now places) ≡ 256) ⌝ }
     ensures { λ _. ⌜ UndoPut m (now (places .entry)) (now (row .entry))

@@ -54,13 +54,7 @@ pub fn reorder_word(m: u32, table: &[u8], row: &[u8], word: &[u8], out: &mut [u8
 }
 
 // Writes the map that undoes the given one.
-pub fn undo_map(
-    m: u32,
-    table: &[u8],
-    row: &[u8],
-    out: &mut [u8],
-    outrow: &mut [u8],
-) -> Answer
+pub fn undo_map(m: u32, table: &[u8], row: &[u8], out: &mut [u8], outrow: &mut [u8]) -> Answer
     ensures { λ answer. ⌜ told answer (now (out .exit), now (outrow .exit))
         ≡ undoing m (now (table .entry)) (now (row .entry))
         (now (out .entry)) (now (outrow .entry)) ⌝ }
@@ -88,20 +82,11 @@ pub fn product_map(
         (now (table2 .entry)) (now (row2 .entry))
         (now (out .entry)) (now (outrow .entry)) ⌝ }
 {
-    let inputs =
-        is_long(m, table1.len(), row1.len()) & is_long(m, table2.len(), row2.len());
+    let inputs = is_long(m, table1.len(), row1.len()) & is_long(m, table2.len(), row2.len());
     let outputs = is_long(m, out.len(), outrow.len());
     match test_sizes(m, inputs, outputs) {
         Sizes::Wrong(why) => Answer::Refused(why),
-        Sizes::Right => product_long(
-            m as usize,
-            table1,
-            row1,
-            table2,
-            row2,
-            out,
-            outrow,
-        ),
+        Sizes::Right => product_long(m as usize, table1, row1, table2, row2, out, outrow),
     }
 }
 
@@ -148,8 +133,7 @@ fn reorder_long(m: usize, table: &[u8], row: &[u8], readings: &[i16], out: &mut 
         (now (out .entry)) ⌝ }
 {
     let mut images = [0u8; 256];
-    let mut places = [0u8; 256];
-    if !images::take_map(m, table, row, &mut images, &mut places) {
+    if !images::is_map(m, table, row, &mut images) {
         return Answer::Refused(Refusal::Map);
     }
     let place = code::first_bad_reading(readings);
@@ -168,8 +152,7 @@ fn reorder_word_long(m: usize, table: &[u8], row: &[u8], word: &[u8], out: &mut 
         (now (out .entry)) ⌝ }
 {
     let mut images = [0u8; 256];
-    let mut places = [0u8; 256];
-    if !images::take_map(m, table, row, &mut images, &mut places) {
+    if !images::is_map(m, table, row, &mut images) {
         return Answer::Refused(Refusal::Map);
     }
     let place = code::first_bad_bit(word);
@@ -180,13 +163,7 @@ fn reorder_word_long(m: usize, table: &[u8], row: &[u8], word: &[u8], out: &mut 
     Answer::Done
 }
 
-fn undo_long(
-    m: usize,
-    table: &[u8],
-    row: &[u8],
-    out: &mut [u8],
-    outrow: &mut [u8],
-) -> Answer
+fn undo_long(m: usize, table: &[u8], row: &[u8], out: &mut [u8], outrow: &mut [u8]) -> Answer
     requires { ⌜ Mapped m (now table) (now row) × Mapped m (now out) (now outrow) ⌝ }
     ensures { λ answer. ⌜ told answer (now (out .exit), now (outrow .exit))
         ≡ undoingLong m (now (table .entry)) (now (row .entry))

@@ -1,59 +1,83 @@
+-- The test 11 of both maps, then the product by the images of the first.
+use mathlib.Core.Path.{_≡_, ap₂, sym, refl, _∙_}
+use mathlib.Core.Bool.{_&&_, and-false}
+use mathlib.Core.List.{List}
+use Prim.Native.Nat.{ℕ}
+use native.Mathlib.Omega.{arith}
 use borrow.Author.Needs.{needs}
+use borrow.Author.Tests.{not-true, not-false}
+use Rattle.reorder.specs.Outcome.{Outcome, done, isMap}
+use Rattle.reorder.specs.OutcomeLaws.{bits-map, second-not, first-not, both-maps, map-refused, map-allowed}
+use Rattle.reorder.specs.WorkLaws.{row-number, product-put}
 use Rattle.reorder.proofs.product_long.Statement.{statement}
 use Rattle.reorder.proofs.product_long.Tie as tie
-use Rattle.reorder.proofs.product_long.Reads as reads
-use Rattle.reorder.proofs.product_long.Lts as lts
-use Rattle.reorder.proofs.images.column.Reads as column-reads
-use Rattle.reorder.proofs.images.is_map.Reads as is-map-reads
-use Rattle.reorder.proofs.images.put_product.Reads as put-product-reads
 
--- src/lib.rt:221:41
 slice-aggregate-is-map : tie.Need-slice-aggregate-is-map
 slice-aggregate-is-map c = search needs
 
--- src/lib.rt:221:9
 is-map-requires : tie.Need-is-map-requires
 is-map-requires c κs = search needs
 
--- src/lib.rt:222:9
 returns : tie.Need-returns
-returns c = ?
+returns c =
+    let s = c .before .before .before .before .before .before .before .before .before .before .args in
+    let first = isMap (s .m) (s .table1 .now) (s .row1 .now) in
+    map-refused _ _ _ _ (second-not first _ _ (c .before .before .is-map .ensures .tells) (not-true _ (c .if1 .taken))) (not-true _ (c .if1 .taken))
 
--- src/lib.rt:224:41
 slice-aggregate-is-map-2 : tie.Need-slice-aggregate-is-map-2
 slice-aggregate-is-map-2 c = search needs
 
--- src/lib.rt:224:9
 is-map-requires-2 : tie.Need-is-map-requires-2
 is-map-requires-2 c κs = search needs
 
--- src/lib.rt:225:9
 returns-2 : tie.Need-returns-2
-returns-2 c = ?
+returns-2 c =
+    let s = c .before .before .before .before .before .before .before .before .before .before .before .before .before .before .args in
+    let second = isMap (s .m) (s .table2 .now) (s .row2 .now) in
+    map-refused _ _ _ _ (first-not _ second _ (c .before .before .is-map2 .ensures .tells) (not-true _ (c .if2 .taken))) (not-true _ (c .if2 .taken))
 
--- src/lib.rt:227:9
 column-requires : tie.Need-column-requires
-column-requires c κs = ?
+column-requires c κs =
+    let g = c .before .before .before .before .before .before .before .before .before .before .before .before .before .before in
+    let s = g .args in
+    let sound = bits-map (s .m) (s .table1 .now) (s .row1 .now) (sym (c .before .before .is-map2 .ensures .tells) ∙ not-false _ (c .if2 .left)) in
+    (g .pre .0 .small, omega arith, omega (arith, g .pre .0 .row-long), sound .row-bits)
 
--- src/lib.rt:228:28
 slice-aggregate-put-product : tie.Need-slice-aggregate-put-product
 slice-aggregate-put-product c = search needs
 
--- src/lib.rt:228:5
 put-product-requires : tie.Need-put-product-requires
-put-product-requires c κs = ?
+put-product-requires c κs =
+    let g = c .before .before .before .before .before .before .before .before .before .before .before .before .before .before .before .before .before .before in
+    let s = g .args in
+    let sound = bits-map (s .m) (s .table2 .now) (s .row2 .now) (sym (c .before .before .before .before .before .before .before .before .before .before .is-map .ensures .tells) ∙ not-false _ (c .before .before .before .before .before .before .before .before .if1 .left)) in
+    (g .pre .2, g .pre .1, sound .table-bits, sound .row-bits, c .before .before .before .before .before .before .is-map2 .kept .1 .1 .1 .0 ∙ c .before .before .before .before .before .before .before .before .before .before .is-map .kept .1 .1 .1 .0)
 
--- src/lib.rt:204:1
 same-length : tie.Need-same-length
 same-length c = search needs
 
--- src/lib.rt:204:1
 same-length-2 : tie.Need-same-length-2
 same-length-2 c = search needs
 
--- src/lib.rt:204:1
 returns-3 : tie.Need-returns-3
-returns-3 c = ?
+returns-3 c =
+    let g = c .before .before .before .before .before .before .before .before .before .before .before .before .before .before .before .before .before .before .before .before .before .before .before in
+    let s = g .args in
+    let m = s .m in
+    let map = c .before .before .before .before .before .before .before .before .before .before .before .is-map2 in
+    let map′ = c .before .before .before .before .before .before .before .before .before .before .before .before .before .before .before .is-map in
+    let left = not-false _ (c .before .before .before .before .before .before .before .before .before .if2 .left) in
+    let left′ = not-false _ (c .before .before .before .before .before .before .before .before .before .before .before .before .before .if1 .left) in
+    let sound = bits-map m (s .table1 .now) (s .row1 .now) (sym (map .ensures .tells) ∙ left) in
+    let sound′ = bits-map m (s .table2 .now) (s .row2 .now) (sym (map′ .ensures .tells) ∙ left′) in
+    let column = c .before .before .before .before .before .before .before .before .column in
+    let put = c .before .before .before .before .put-product in
+    let both =
+    product-put m (s .table1 .now) (s .row1 .now) (s .table2 .now) (s .row2 .now) (sound .row-bits) (sound′ .table-bits) (sound′ .row-bits)
+    (map .last .1 .1 .1 .0) (map .ensures .images-are left) (column .result) (column .ensures ∙ row-number m (s .row1 .now))
+    (put .last .1 .1 .1 .1 .1 .0) (put .last .1 .1 .1 .1 .1 .1 .0) (put .ensures) in
+    ap₂ (λ (C c : List ℕ). done (C, c)) (both .0) (both .1)
+    ∙ map-allowed _ _ _ _ (both-maps _ _ _ _ (map .ensures .tells) (map′ .ensures .tells) left′) left
 
 pub product-long-spec : {M : Type 1} → statement M
 product-long-spec =

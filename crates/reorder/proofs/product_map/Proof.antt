@@ -1,55 +1,76 @@
+-- The tests 1 to 3, by the lengths; then the call where they are right.
+use mathlib.Core.Path.{_≡_, ap, ap₂, sym, _∙_}
+use mathlib.Core.Bool.{Bool, _&&_}
+use mathlib.Core.List.{List}
+use Prim.Native.Nat.{ℕ}
+use lib.ListN.{length}
 use borrow.Author.Needs.{needs}
+use Rattle.reorder.specs.Outcome.{sized, multiplying, multiplyingLong}
+use Rattle.reorder.specs.OutcomeLaws.{both-true, sizes-wrong, sizes-right, sized-right, mapped}
 use Rattle.reorder.proofs.product_map.Statement.{statement}
 use Rattle.reorder.proofs.product_map.Tie as tie
-use Rattle.reorder.proofs.product_map.Reads as reads
-use Rattle.reorder.proofs.product_map.Lts as lts
-use Rattle.reorder.proofs.is_long.Reads as is-long-reads
-use Rattle.reorder.proofs.product_long.Reads as product-long-reads
-use Rattle.reorder.proofs.test_sizes.Reads as test-sizes-reads
 
--- src/lib.rt:92:9
 is-long-requires : tie.Need-is-long-requires
 is-long-requires c κs = search needs
 
--- src/lib.rt:92:48
 is-long-requires-2 : tie.Need-is-long-requires-2
 is-long-requires-2 c κs = search needs
 
--- src/lib.rt:93:9
 is-long-requires-3 : tie.Need-is-long-requires-3
 is-long-requires-3 c κs = search needs
 
--- src/lib.rt:94:11
 test-sizes-requires : tie.Need-test-sizes-requires
 test-sizes-requires c κs = search needs
 
--- src/lib.rt:95:22
 enum-known-why : tie.Need-enum-known-why
 enum-known-why c = search needs
 
--- src/lib.rt:97:13
 enum-told : tie.Need-enum-told
 enum-told c = search needs
 
--- src/lib.rt:96:25
 product-long-requires : tie.Need-product-long-requires
-product-long-requires c κs = ?
+product-long-requires c κs =
+    let s = c .before .before .before .before .before .before .before .before .before .before .before .before .before .before .args in
+    let first = c .before .before .before .before .before .before .before .is-long in
+    let second = c .before .before .before .before .before .before .is-long2 in
+    let outputs = c .before .before .before .before .before .is-long3 in
+    let right = sizes-right (s .m) (first .result && second .result) (outputs .result) (sym (c .before .before .before .before .test-sizes .ensures) ∙ c .before .before .enum-told .given .1) in
+    let both = both-true (first .result) (second .result) (right .inputs-right) in (
+      mapped (s .m) (s .table1 .now) (s .row1 .now) (right .small) (sym (first .ensures) ∙ both .0),
+      mapped (s .m) (s .table2 .now) (s .row2 .now) (right .small) (sym (second .ensures) ∙ both .1),
+      mapped (s .m) (s .out .now) (s .outrow .now) (right .small) (sym (outputs .ensures) ∙ right .outputs-right),
+    )
 
--- src/lib.rt:77:1
 returns : tie.Need-returns
-returns c = ?
+unfolding multiplying
+returns c =
+    let s = c .before .before .before .before .before .before .before .before .before .before .before .before .before .args in
+    let first = c .before .before .before .before .before .before .is-long in
+    let second = c .before .before .before .before .before .is-long2 in
+    let outputs = c .before .before .before .before .is-long3 in
+    let why = c .before .why .given in
+    let rest = multiplyingLong (s .m) (s .table1 .now) (s .row1 .now) (s .table2 .now) (s .row2 .now) (s .out .now) (s .outrow .now) in
+    sizes-wrong (s .m) (first .result && second .result) (outputs .result) (s .out .now, s .outrow .now) rest (why .0 .0) (sym (c .before .before .before .test-sizes .ensures) ∙ why .1)
+    ∙ ap₂ (λ (i o : Bool). sized (s .out .now, s .outrow .now) (s .m) i o rest) (ap₂ _&&_ (first .ensures) (second .ensures)) (outputs .ensures)
 
--- src/lib.rt:77:1
 same-length : tie.Need-same-length
 same-length c = search needs
 
--- src/lib.rt:77:1
 same-length-2 : tie.Need-same-length-2
 same-length-2 c = search needs
 
--- src/lib.rt:77:1
 returns-2 : tie.Need-returns-2
-returns-2 c = ?
+unfolding multiplying
+returns-2 c =
+    let s = c .before .before .before .before .before .before .before .before .before .before .before .before .before .before .before .before .before .before .before .args in
+    let first = c .before .before .before .before .before .before .before .before .before .before .before .before .is-long in
+    let second = c .before .before .before .before .before .before .before .before .before .before .before .is-long2 in
+    let outputs = c .before .before .before .before .before .before .before .before .before .before .is-long3 in
+    let rest = multiplyingLong (s .m) (s .table1 .now) (s .row1 .now) (s .table2 .now) (s .row2 .now) (s .out .now) (s .outrow .now) in
+    let right = sizes-right (s .m) (first .result && second .result) (outputs .result) (sym (c .before .before .before .before .before .before .before .before .before .test-sizes .ensures) ∙ c .before .before .before .before .before .before .before .enum-told .given .1) in
+    c .before .before .before .before .product-long .ensures
+    ∙ sized-right (s .m) (first .result && second .result) (outputs .result) (s .out .now, s .outrow .now) rest right
+    ∙ ap₂ (λ (i o : Bool). sized (s .out .now, s .outrow .now) (s .m) i o rest) (ap₂ _&&_ (first .ensures) (second .ensures)) (outputs .ensures)
 
 pub product-map-spec : {M : Type 1} → statement M
 product-map-spec =

@@ -1,64 +1,84 @@
+-- The tests 11 and 4, then the move.
+use mathlib.Core.Path.{_≡_, ap, sym, refl, _∙_}
+use mathlib.Core.List.{List}
+use Prim.Native.Nat.{ℕ}
+use lib.IntN.{ℤ, pos}
+use native.Mathlib.Omega.{arith}
+use lib.ListN.{length}
 use borrow.Author.Needs.{needs}
+use borrow.Author.Tests.{not-true, not-false}
+use Rattle.code.specs.Sound.{largestReading}
+use Rattle.code.specs.Entries.{firstBadReading}
+use Rattle.maps.specs.Maps.{number}
+use Rattle.reorder.specs.Outcome.{done, isMap}
+use Rattle.reorder.specs.OutcomeLaws.{BitsMap, bits-map, map-refused, map-allowed, entry-refused, entry-allowed}
+use Rattle.reorder.specs.WorkLaws.{row-number, moves-map, moved-map}
 use Rattle.reorder.proofs.reorder_long.Statement.{statement}
 use Rattle.reorder.proofs.reorder_long.Tie as tie
-use Rattle.reorder.proofs.reorder_long.Reads as reads
-use Rattle.reorder.proofs.reorder_long.Lts as lts
-use Rattle.code.proofs.first_bad_reading.Reads as first-bad-reading-reads
-use Rattle.reorder.proofs.images.column.Reads as column-reads
-use Rattle.reorder.proofs.images.move_readings.Reads as move-readings-reads
-use Rattle.reorder.proofs.images.take_map.Reads as take-map-reads
 
--- src/lib.rt:152:41
-slice-aggregate-take-map : tie.Need-slice-aggregate-take-map
-slice-aggregate-take-map c = search needs
+slice-aggregate-is-map : tie.Need-slice-aggregate-is-map
+slice-aggregate-is-map c = search needs
 
--- src/lib.rt:152:54
-slice-aggregate-take-map-2 : tie.Need-slice-aggregate-take-map-2
-slice-aggregate-take-map-2 c = search needs
+is-map-requires : tie.Need-is-map-requires
+is-map-requires c κs = search needs
 
--- src/lib.rt:152:9
-take-map-requires : tie.Need-take-map-requires
-take-map-requires c κs = ?
-
--- src/lib.rt:153:9
 returns : tie.Need-returns
-returns c = ?
+returns c = map-refused _ _ _ _ (c .before .before .is-map .ensures .tells) (not-true _ (c .if1 .taken))
 
--- src/lib.rt:155:9
 first-bad-reading-requires : tie.Need-first-bad-reading-requires
 first-bad-reading-requires c κs = search needs
 
--- src/lib.rt:157:9
 returns-2 : tie.Need-returns-2
-returns-2 c = ?
+returns-2 c =
+    entry-refused _ _ (c .before .first-bad-reading .result) _ _ (c .before .first-bad-reading .ensures) (c .if2 .taken)
+    ∙ map-allowed _ _ _ _ (c .before .before .before .before .is-map .ensures .tells) (not-false _ (c .before .before .if1 .left))
 
--- src/lib.rt:159:27
 slice-aggregate-move-readings : tie.Need-slice-aggregate-move-readings
 slice-aggregate-move-readings c = search needs
 
--- src/lib.rt:159:36
 column-requires : tie.Need-column-requires
-column-requires c κs = ?
+column-requires c κs =
+    let g = c .before .before .before .before .before .before .before .before .before in
+    let told = c .before .before .before .before .before .is-map .ensures .tells in
+    let sound = bits-map (g .args .m) (g .args .table .now) (g .args .row .now) (sym told ∙ not-false _ (c .before .before .before .if1 .left)) in
+    (g .pre .0 .small, omega arith, omega (arith, g .pre .0 .row-long), sound .row-bits)
 
--- src/lib.rt:159:5
 move-readings-requires : tie.Need-move-readings-requires
-move-readings-requires c κs = ?
+move-readings-requires c κs =
+    let g = c .before .before .before .before .before .before .before .before .before .before .before in
+    let s = g .args in
+    let map = c .before .before .before .before .before .before .before .is-map in
+    let left = not-false _ (c .before .before .before .before .before .if1 .left) in
+    let sound = bits-map (s .m) (s .table .now) (s .row .now) (sym (map .ensures .tells) ∙ left) in
+    let column = c .before .column in
+    moves-map (pos 0) (s .m) (s .table .now) (s .row .now) (sound .row-bits) (map .last .1 .1 .1 .0) (map .ensures .images-are left) (column .result)
+    (column .ensures ∙ row-number (s .m) (s .row .now)) (s .readings .now) (g .pre .1) (s .out .now) (g .pre .2) (g .pre .0 .small) (map .kept .1 .1 .1 .0)
 
--- src/lib.rt:143:1
 same-length : tie.Need-same-length
 same-length c = search needs
 
--- src/lib.rt:143:1
 returns-3 : tie.Need-returns-3
-returns-3 c = ?
+returns-3 c =
+    let g = c .before .before .before .before .before .before .before .before .before .before .before .before .before in
+    let s = g .args in
+    let map = c .before .before .before .before .before .before .before .before .before .is-map in
+    let left = not-false _ (c .before .before .before .before .before .before .before .if1 .left) in
+    let sound = bits-map (s .m) (s .table .now) (s .row .now) (sym (map .ensures .tells) ∙ left) in
+    let place = c .before .before .before .before .before .before .first-bad-reading in
+    let column = c .before .before .before .column in
+    ap done
+    (c .before .move-readings .ensures
+    ∙ moved-map (pos 0) (s .m) (s .table .now) (s .row .now) (sound .row-bits) (map .last .1 .1 .1 .0) (map .ensures .images-are left) (column .result)
+    (column .ensures ∙ row-number (s .m) (s .row .now)) (s .readings .now) (g .pre .1))
+    ∙ entry-allowed _ _ (place .result) _ _ (place .ensures) (c .before .before .before .before .before .if2 .left)
+    ∙ map-allowed _ _ _ _ (map .ensures .tells) left
 
 pub reorder-long-spec : {M : Type 1} → statement M
 reorder-long-spec =
     tie.close
     (tie.spec
-    slice-aggregate-take-map
-    slice-aggregate-take-map-2
-    take-map-requires
+    slice-aggregate-is-map
+    is-map-requires
     returns
     first-bad-reading-requires
     returns-2

@@ -1,48 +1,76 @@
+-- The tests 1 to 3, by the lengths; then the call where they are right.
+use mathlib.Core.Path.{_≡_, ap, sym, _∙_}
+use mathlib.Core.Bool.{Bool, _&&_}
+use Prim.Native.Nat.{ℕ, _^_}
+use lib.ListN.{length}
+use lib.Dec.{eqb}
 use borrow.Author.Needs.{needs}
+use borrow.Author.Tests.{eqb-true}
+use Rattle.reorder.specs.Outcome.{isLong, sized, reorderingWord, reorderingWordLong}
+use Rattle.reorder.specs.OutcomeLaws.{both-true, sizes-wrong, sizes-right, sized-right, sized-same, mapped, length-right}
 use Rattle.reorder.proofs.reorder_word.Statement.{statement}
 use Rattle.reorder.proofs.reorder_word.Tie as tie
-use Rattle.reorder.proofs.reorder_word.Reads as reads
-use Rattle.reorder.proofs.reorder_word.Lts as lts
-use Rattle.reorder.proofs.is_long.Reads as is-long-reads
-use Rattle.reorder.proofs.length.Reads as length-reads
-use Rattle.reorder.proofs.reorder_word_long.Reads as reorder-word-long-reads
-use Rattle.reorder.proofs.test_sizes.Reads as test-sizes-reads
 
--- src/lib.rt:48:9
 length-requires : tie.Need-length-requires
 length-requires c κs = search needs
 
--- src/lib.rt:49:18
 is-long-requires : tie.Need-is-long-requires
 is-long-requires c κs = search needs
 
--- src/lib.rt:50:11
 test-sizes-requires : tie.Need-test-sizes-requires
 test-sizes-requires c κs = search needs
 
--- src/lib.rt:51:22
 enum-known-why : tie.Need-enum-known-why
 enum-known-why c = search needs
 
--- src/lib.rt:52:43
 enum-told : tie.Need-enum-told
 enum-told c = search needs
 
--- src/lib.rt:52:25
 reorder-word-long-requires : tie.Need-reorder-word-long-requires
-reorder-word-long-requires c κs = ?
+reorder-word-long-requires c κs =
+    let g = c .before .before .before .before .before .before .before .before .before .before in
+    let s = g .args in
+    let n = c .before .before .before .before .before .length in
+    let long = c .before .before .before .before .is-long in
+    let right = sizes-right (s .m) (long .result && eqb (length (s .word .now)) (n .result)) (eqb (length (s .out .now)) (n .result)) (sym (c .before .before .before .test-sizes .ensures) ∙ c .before .enum-told .given .1) in
+    let inputs = both-true (long .result) (eqb (length (s .word .now)) (n .result)) (right .inputs-right) in
+    let is-n = length-right (s .m) (n .result) (right .small) (n .ensures) in (
+      mapped (s .m) (s .table .now) (s .row .now) (right .small) (sym (long .ensures) ∙ inputs .0),
+      eqb-true (length (s .word .now)) (n .result) (inputs .1) ∙ is-n,
+      eqb-true (length (s .out .now)) (n .result) (right .outputs-right) ∙ is-n,
+    )
 
--- src/lib.rt:43:1
 returns : tie.Need-returns
-returns c = ?
+unfolding reorderingWord
+returns c =
+    let s = c .before .before .before .before .before .before .before .before .before .before .args in
+    let n = c .before .before .before .before .before .length in
+    let long = c .before .before .before .before .is-long in
+    let why = c .before .why .given in
+    let out = s .out .now in
+    let rest = reorderingWordLong (s .m) (s .table .now) (s .row .now) (s .word .now) out in
+    sizes-wrong (s .m) (long .result && eqb (length (s .word .now)) (n .result)) (eqb (length out) (n .result)) out rest (why .0 .0) (sym (c .before .before .before .test-sizes .ensures) ∙ why .1)
+    ∙ ap (λ (b : Bool). sized out (s .m) (b && eqb (length (s .word .now)) (n .result)) (eqb (length out) (n .result)) rest) (long .ensures)
+    ∙ sized-same out rest (s .m) (n .result) (n .ensures) (isLong (s .m) (length (s .table .now)) (length (s .row .now))) (length (s .word .now)) (length out)
 
--- src/lib.rt:43:1
 same-length : tie.Need-same-length
 same-length c = search needs
 
--- src/lib.rt:43:1
 returns-2 : tie.Need-returns-2
-returns-2 c = ?
+unfolding reorderingWord
+returns-2 c =
+    let s = c .before .before .before .before .before .before .before .before .before .before .before .before .before .args in
+    let n = c .before .before .before .before .before .before .before .before .length in
+    let long = c .before .before .before .before .before .before .before .is-long in
+    let out = s .out .now in
+    let rest = reorderingWordLong (s .m) (s .table .now) (s .row .now) (s .word .now) out in
+    let inputs = long .result && eqb (length (s .word .now)) (n .result) in
+    let outputs = eqb (length out) (n .result) in
+    let right = sizes-right (s .m) inputs outputs (sym (c .before .before .before .before .before .before .test-sizes .ensures) ∙ c .before .before .before .before .enum-told .given .1) in
+    c .before .before .reorder-word-long .ensures
+    ∙ sized-right (s .m) inputs outputs out rest right
+    ∙ ap (λ (b : Bool). sized out (s .m) (b && eqb (length (s .word .now)) (n .result)) (eqb (length out) (n .result)) rest) (long .ensures)
+    ∙ sized-same out rest (s .m) (n .result) (n .ensures) (isLong (s .m) (length (s .table .now)) (length (s .row .now))) (length (s .word .now)) (length out)
 
 pub reorder-word-spec : {M : Type 1} → statement M
 reorder-word-spec =

@@ -1,64 +1,82 @@
+-- The tests 11 and 4, then the move.
+use mathlib.Core.Path.{_≡_, ap, sym, refl, _∙_}
+use mathlib.Core.List.{List}
+use Prim.Native.Nat.{ℕ}
+use native.Mathlib.Omega.{arith}
+use lib.ListN.{length}
 use borrow.Author.Needs.{needs}
+use borrow.Author.Tests.{not-true, not-false}
+use Rattle.code.specs.Entries.{firstBadBit}
+use Rattle.maps.specs.Maps.{number}
+use Rattle.reorder.specs.Outcome.{done, isMap}
+use Rattle.reorder.specs.OutcomeLaws.{BitsMap, bits-map, map-refused, map-allowed, entry-refused, entry-allowed}
+use Rattle.reorder.specs.WorkLaws.{row-number, moves-map, moved-map}
 use Rattle.reorder.proofs.reorder_word_long.Statement.{statement}
 use Rattle.reorder.proofs.reorder_word_long.Tie as tie
-use Rattle.reorder.proofs.reorder_word_long.Reads as reads
-use Rattle.reorder.proofs.reorder_word_long.Lts as lts
-use Rattle.code.proofs.first_bad_bit.Reads as first-bad-bit-reads
-use Rattle.reorder.proofs.images.column.Reads as column-reads
-use Rattle.reorder.proofs.images.move_bits.Reads as move-bits-reads
-use Rattle.reorder.proofs.images.take_map.Reads as take-map-reads
 
--- src/lib.rt:172:41
-slice-aggregate-take-map : tie.Need-slice-aggregate-take-map
-slice-aggregate-take-map c = search needs
+slice-aggregate-is-map : tie.Need-slice-aggregate-is-map
+slice-aggregate-is-map c = search needs
 
--- src/lib.rt:172:54
-slice-aggregate-take-map-2 : tie.Need-slice-aggregate-take-map-2
-slice-aggregate-take-map-2 c = search needs
+is-map-requires : tie.Need-is-map-requires
+is-map-requires c κs = search needs
 
--- src/lib.rt:172:9
-take-map-requires : tie.Need-take-map-requires
-take-map-requires c κs = ?
-
--- src/lib.rt:173:9
 returns : tie.Need-returns
-returns c = ?
+returns c = map-refused _ _ _ _ (c .before .before .is-map .ensures .tells) (not-true _ (c .if1 .taken))
 
--- src/lib.rt:175:9
 first-bad-bit-requires : tie.Need-first-bad-bit-requires
 first-bad-bit-requires c κs = search needs
 
--- src/lib.rt:177:9
 returns-2 : tie.Need-returns-2
-returns-2 c = ?
+returns-2 c =
+    entry-refused _ _ (c .before .first-bad-bit .result) _ _ (c .before .first-bad-bit .ensures) (c .if2 .taken)
+    ∙ map-allowed _ _ _ _ (c .before .before .before .before .is-map .ensures .tells) (not-false _ (c .before .before .if1 .left))
 
--- src/lib.rt:179:23
 slice-aggregate-move-bits : tie.Need-slice-aggregate-move-bits
 slice-aggregate-move-bits c = search needs
 
--- src/lib.rt:179:32
 column-requires : tie.Need-column-requires
-column-requires c κs = ?
+column-requires c κs =
+    let g = c .before .before .before .before .before .before .before .before .before .before .before in
+    let told = c .before .before .before .before .before .is-map .ensures .tells in
+    let sound = bits-map (g .args .m) (g .args .table .now) (g .args .row .now) (sym told ∙ not-false _ (c .before .before .before .if1 .left)) in
+    (g .pre .0 .small, omega arith, omega (arith, g .pre .0 .row-long), sound .row-bits)
 
--- src/lib.rt:179:5
 move-bits-requires : tie.Need-move-bits-requires
-move-bits-requires c κs = ?
+move-bits-requires c κs =
+    let g = c .before .before .before .before .before .before .before .before .before .before .before .before .before in
+    let s = g .args in
+    let map = c .before .before .before .before .before .before .before .is-map in
+    let left = not-false _ (c .before .before .before .before .before .if1 .left) in
+    let sound = bits-map (s .m) (s .table .now) (s .row .now) (sym (map .ensures .tells) ∙ left) in
+    let column = c .before .column in
+    moves-map 0 (s .m) (s .table .now) (s .row .now) (sound .row-bits) (map .last .1 .1 .1 .0) (map .ensures .images-are left) (column .result)
+    (column .ensures ∙ row-number (s .m) (s .row .now)) (s .word .now) (g .pre .1) (s .out .now) (g .pre .2) (g .pre .0 .small) (map .kept .1 .1 .1 .0)
 
--- src/lib.rt:163:1
 same-length : tie.Need-same-length
 same-length c = search needs
 
--- src/lib.rt:163:1
 returns-3 : tie.Need-returns-3
-returns-3 c = ?
+returns-3 c =
+    let g = c .before .before .before .before .before .before .before .before .before .before .before .before .before .before .before .before in
+    let s = g .args in
+    let map = c .before .before .before .before .before .before .before .before .before .before .is-map in
+    let left = not-false _ (c .before .before .before .before .before .before .before .before .if1 .left) in
+    let sound = bits-map (s .m) (s .table .now) (s .row .now) (sym (map .ensures .tells) ∙ left) in
+    let place = c .before .before .before .before .before .before .before .first-bad-bit in
+    let column = c .before .before .before .before .column in
+    ap done
+    (c .before .before .move-bits .ensures
+    ∙ moved-map 0 (s .m) (s .table .now) (s .row .now) (sound .row-bits) (map .last .1 .1 .1 .0) (map .ensures .images-are left) (column .result)
+    (column .ensures ∙ row-number (s .m) (s .row .now)) (s .word .now) (g .pre .1))
+    ∙ entry-allowed _ _ (place .result) _ _ (place .ensures) (c .before .before .before .before .before .before .if2 .left)
+    ∙ map-allowed _ _ _ _ (map .ensures .tells) left
 
 pub reorder-word-long-spec : {M : Type 1} → statement M
 reorder-word-long-spec =
     tie.close
     (tie.spec
-    slice-aggregate-take-map
-    slice-aggregate-take-map-2
-    take-map-requires
+    slice-aggregate-is-map
+    is-map-requires
     returns
     first-bad-bit-requires
     returns-2

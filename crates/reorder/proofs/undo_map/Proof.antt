@@ -1,51 +1,68 @@
+-- The tests 1 to 3, by the lengths; then the call where they are right.
+use mathlib.Core.Path.{_≡_, ap₂, sym, _∙_}
+use mathlib.Core.Bool.{Bool}
+use mathlib.Core.List.{List}
+use Prim.Native.Nat.{ℕ}
+use lib.ListN.{length}
 use borrow.Author.Needs.{needs}
+use Rattle.reorder.specs.Outcome.{sized, undoing, undoingLong}
+use Rattle.reorder.specs.OutcomeLaws.{sizes-wrong, sizes-right, sized-right, mapped}
 use Rattle.reorder.proofs.undo_map.Statement.{statement}
 use Rattle.reorder.proofs.undo_map.Tie as tie
-use Rattle.reorder.proofs.undo_map.Reads as reads
-use Rattle.reorder.proofs.undo_map.Lts as lts
-use Rattle.reorder.proofs.is_long.Reads as is-long-reads
-use Rattle.reorder.proofs.test_sizes.Reads as test-sizes-reads
-use Rattle.reorder.proofs.undo_long.Reads as undo-long-reads
 
--- src/lib.rt:68:9
 is-long-requires : tie.Need-is-long-requires
 is-long-requires c κs = search needs
 
--- src/lib.rt:69:9
 is-long-requires-2 : tie.Need-is-long-requires-2
 is-long-requires-2 c κs = search needs
 
--- src/lib.rt:70:11
 test-sizes-requires : tie.Need-test-sizes-requires
 test-sizes-requires c κs = search needs
 
--- src/lib.rt:71:22
 enum-known-why : tie.Need-enum-known-why
 enum-known-why c = search needs
 
--- src/lib.rt:72:35
 enum-told : tie.Need-enum-told
 enum-told c = search needs
 
--- src/lib.rt:72:25
 undo-long-requires : tie.Need-undo-long-requires
-undo-long-requires c κs = ?
+undo-long-requires c κs =
+    let s = c .before .before .before .before .before .before .before .before .before .before .before .args in
+    let inputs = c .before .before .before .before .before .before .is-long in
+    let outputs = c .before .before .before .before .before .is-long2 in
+    let right = sizes-right (s .m) (inputs .result) (outputs .result) (sym (c .before .before .before .before .test-sizes .ensures) ∙ c .before .before .enum-told .given .1) in (
+      mapped (s .m) (s .table .now) (s .row .now) (right .small) (sym (inputs .ensures) ∙ right .inputs-right),
+      mapped (s .m) (s .out .now) (s .outrow .now) (right .small) (sym (outputs .ensures) ∙ right .outputs-right),
+    )
 
--- src/lib.rt:57:1
 returns : tie.Need-returns
-returns c = ?
+unfolding undoing
+returns c =
+    let s = c .before .before .before .before .before .before .before .before .before .before .args in
+    let inputs = c .before .before .before .before .before .is-long in
+    let outputs = c .before .before .before .before .is-long2 in
+    let why = c .before .why .given in
+    let rest = undoingLong (s .m) (s .table .now) (s .row .now) (s .out .now) (s .outrow .now) in
+    sizes-wrong (s .m) (inputs .result) (outputs .result) (s .out .now, s .outrow .now) rest (why .0 .0) (sym (c .before .before .before .test-sizes .ensures) ∙ why .1)
+    ∙ ap₂ (λ (i o : Bool). sized (s .out .now, s .outrow .now) (s .m) i o rest) (inputs .ensures) (outputs .ensures)
 
--- src/lib.rt:57:1
 same-length : tie.Need-same-length
 same-length c = search needs
 
--- src/lib.rt:57:1
 same-length-2 : tie.Need-same-length-2
 same-length-2 c = search needs
 
--- src/lib.rt:57:1
 returns-2 : tie.Need-returns-2
-returns-2 c = ?
+unfolding undoing
+returns-2 c =
+    let s = c .before .before .before .before .before .before .before .before .before .before .before .before .before .before .before .before .args in
+    let inputs = c .before .before .before .before .before .before .before .before .before .before .before .is-long in
+    let outputs = c .before .before .before .before .before .before .before .before .before .before .is-long2 in
+    let rest = undoingLong (s .m) (s .table .now) (s .row .now) (s .out .now) (s .outrow .now) in
+    let right = sizes-right (s .m) (inputs .result) (outputs .result) (sym (c .before .before .before .before .before .before .before .before .before .test-sizes .ensures) ∙ c .before .before .before .before .before .before .before .enum-told .given .1) in
+    c .before .before .before .before .undo-long .ensures
+    ∙ sized-right (s .m) (inputs .result) (outputs .result) (s .out .now, s .outrow .now) rest right
+    ∙ ap₂ (λ (i o : Bool). sized (s .out .now, s .outrow .now) (s .m) i o rest) (inputs .ensures) (outputs .ensures)
 
 pub undo-map-spec : {M : Type 1} → statement M
 undo-map-spec =

@@ -1,25 +1,28 @@
+-- By `take_map`.
+use mathlib.Core.Path.{refl}
+use lib.ListN.{getD-replicate}
 use borrow.Author.Needs.{needs}
+use Rattle.reorder.specs.WorkLaws.{map-told}
 use Rattle.reorder.proofs.images.is_map.Statement.{statement}
 use Rattle.reorder.proofs.images.is_map.Tie as tie
-use Rattle.reorder.proofs.images.is_map.Reads as reads
-use Rattle.reorder.proofs.images.is_map.Lts as lts
-use Rattle.reorder.proofs.images.take_map.Reads as take-map-reads
 
--- src/images.rt:115:37
 slice-aggregate-take-map : tie.Need-slice-aggregate-take-map
 slice-aggregate-take-map c = search needs
 
--- src/images.rt:115:5
 take-map-requires : tie.Need-take-map-requires
-take-map-requires c κs = ?
+take-map-requires c κs = let g = c .before .before .before .before .before in (g .pre .0, g .pre .1, refl, λ i h. getD-replicate 256 i 0 0 h)
 
--- src/images.rt:109:1
 same-length : tie.Need-same-length
 same-length c = search needs
 
--- src/images.rt:109:1
 returns : tie.Need-returns
-returns c = search needs
+returns c = map-told _ _ _ _ _ _ (c .before .before .before .take-map .ensures)
 
 pub is-map-spec : {M : Type 1} → statement M
-is-map-spec = tie.close (tie.spec slice-aggregate-take-map take-map-requires same-length returns)
+is-map-spec =
+    tie.close
+    (tie.spec
+    slice-aggregate-take-map
+    take-map-requires
+    same-length
+    returns)

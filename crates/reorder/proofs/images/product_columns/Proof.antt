@@ -53,7 +53,7 @@ loop-again c =
     let f : ℕ → ℕ = λ q. number (g .args .m) (λ p. getD (g .args .table .now) (p * g .args .m + q) 0) in (
       omega arith,
       shows-more (λ q. getD images (f q) 0) (l .q) (l .columns) _ (omega (arith, g .pre .4, l .inv .2))
-      (ap (λ (x : ℕ). getD images x 0) (c .before .column .ensures)) (l .inv .1),
+          (ap (λ (x : ℕ). getD images x 0) (c .before .column .ensures)) (l .inv .1),
       length-set (l .columns) _ _ ∙ l .inv .2,
     )
 

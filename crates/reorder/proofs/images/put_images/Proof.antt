@@ -53,7 +53,7 @@ loop-again c =
     let column = c .before .before .before .column in (
       omega arith,
       images-more (g .args .m) (g .args .table .now) (g .pre .2) (l .q) (omega arith) _ (column .result) (shifted (l .q) (omega (arith, g .pre .0))) (column .ensures) (l .images)
-      (added .last .0) (l .inv .1) (added .ensures),
+          (added .last .0) (l .inv .1) (added .ensures),
       added .kept .0 ∙ l .inv .2,
     )
 

@@ -1,63 +1,81 @@
+-- The table by its columns, the row as a table of one.
+use mathlib.Core.Path.{_≡_, ap, sym, _∙_}
+use Prim.Native.Nat.{ℕ, _+_, _*_, _^_, _≤_}
+use mathlib.Core.List.{List}
+use native.Mathlib.Omega.{arith}
+use native.Mathlib.Nat.{mul-le-mul-right}
+use lib.ListN.{length, length-set, getD}
+use lib.Bits.{bitXor}
 use borrow.Author.Needs.{needs}
+use Rattle.numbers.specs.Sums.{tabulate}
+use Rattle.words.specs.Bits.{digit}
+use Rattle.maps.specs.Maps.{number}
+use Rattle.reorder.specs.ArrayLaws.{spread-table, spread-row}
+use Rattle.reorder.specs.WorkLaws.{row-number}
 use Rattle.reorder.proofs.images.put_product.Statement.{statement}
 use Rattle.reorder.proofs.images.put_product.Tie as tie
-use Rattle.reorder.proofs.images.put_product.Reads as reads
-use Rattle.reorder.proofs.images.put_product.Lts as lts
-use Rattle.reorder.proofs.images.column.Reads as column-reads
-use Rattle.reorder.proofs.images.product_columns.Reads as product-columns-reads
-use Rattle.reorder.proofs.images.spread.Reads as spread-reads
 
--- src/images.rt:219:39
 slice-aggregate-product-columns : tie.Need-slice-aggregate-product-columns
 slice-aggregate-product-columns c = search needs
 
--- src/images.rt:219:5
 product-columns-requires : tie.Need-product-columns-requires
 product-columns-requires c κs = search needs
 
--- src/images.rt:220:12
 slice-aggregate-spread : tie.Need-slice-aggregate-spread
 slice-aggregate-spread c = search needs
 
--- src/images.rt:220:5
 spread-requires : tie.Need-spread-requires
-spread-requires c κs = ?
+spread-requires c κs =
+    let g = c .before .before .before .before .before .before .before .before .before .before in
+    let kept = c .before .before .before .product-columns .kept .1 .1 .1 .0 in
+    (omega (arith, kept, g .pre .0 .small), omega (arith, g .pre .0 .table-long, mul-le-mul-right (g .args .m) (g .pre .0 .small)))
 
--- src/images.rt:221:25
 column-requires : tie.Need-column-requires
 column-requires c κs = search needs
 
--- src/images.rt:221:25
 cast-columns : tie.Need-cast-columns
 cast-columns c = search needs
 
--- src/images.rt:221:18
 shared-slice-read-columns : tie.Need-shared-slice-read-columns
 shared-slice-read-columns c = search needs
 
--- src/images.rt:221:5
 array-write-columns : tie.Need-array-write-columns
 array-write-columns c = search needs
 
--- src/images.rt:222:12
 slice-aggregate-spread-2 : tie.Need-slice-aggregate-spread-2
 slice-aggregate-spread-2 c = search needs
 
--- src/images.rt:222:5
 spread-requires-2 : tie.Need-spread-requires-2
-spread-requires-2 c κs = ?
+spread-requires-2 c κs =
+    let g = c .before .before .before .before .before .before .before .before .before .before .before .before .before .before .before .before .before in
+    let put = c .before .before .before .before .before .before .before .before .before .before .product-columns in
+    (simp length-set (omega (arith, put .kept .1 .1 .1 .0)), omega (arith, g .pre .0 .row-long, g .pre .0 .small))
 
--- src/images.rt:204:1
 same-length : tie.Need-same-length
 same-length c = search needs
 
--- src/images.rt:204:1
 same-length-2 : tie.Need-same-length-2
 same-length-2 c = search needs
 
--- src/images.rt:204:1
 returns : tie.Need-returns
-returns c = ?
+returns c =
+    let g = c .before .before .before .before .before .before .before .before .before .before .before .before .before .before .before .before .before .before .before .before in
+    let s = g .args in
+    let m = s .m in
+    let images = s .images .now in
+    let put = c .before .before .before .before .before .before .before .before .before .before .before .before .before .product-columns in
+    let columns = put .last .1 .1 .1 .0 in
+    let first = c .before .before .before .before .before .before .before .before .before .spread in
+    let column = c .before .before .before .before .before .before .column in
+    let second = c .before .before .spread2 in
+    let f : ℕ → ℕ = λ q. getD images (number m (λ p. getD (s .table .now) (p * m + q) 0)) 0 in
+    let is-row : column .result ≡ number m (λ p. getD (s .row .now) p 0) = column .ensures ∙ row-number m (s .row .now) in
+    record {
+      table-is = first .ensures ∙ spread-table f m columns (length (s .out .now)) (g .pre .0 .table-long) (put .ensures);
+      row-is =
+          second .ensures ∙ spread-row columns _ (length (s .outrow .now)) m (omega (arith, put .kept .1 .1 .1 .0)) (g .pre .0 .row-long)
+          ∙ ap (λ (x : ℕ). tabulate (λ p. digit p (bitXor (getD images x 0) (s .x))) m) is-row;
+    }
 
 pub put-product-spec : {M : Type 1} → statement M
 put-product-spec =

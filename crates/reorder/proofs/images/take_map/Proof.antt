@@ -1,56 +1,79 @@
+-- The bytes are tested before the images are made.
+use mathlib.Core.Path.{_≡_}
+use Prim.Native.Nat.{_≤_, _<_}
+use native.Mathlib.Omega.{arith}
+use lib.ListN.{length}
+use lib.Pow.{pow-mono}
 use borrow.Author.Needs.{needs}
+use Rattle.code.specs.Entries.{firstBadBit}
+use Rattle.code.specs.EntriesLaws.{good-bits}
+use Rattle.reorder.specs.OutcomeLaws.{table-bad, row-bad}
+use Rattle.reorder.specs.ArrayLaws.{shifted}
+use Rattle.reorder.specs.WorkLaws.{not-taken, taken}
 use Rattle.reorder.proofs.images.take_map.Statement.{statement}
 use Rattle.reorder.proofs.images.take_map.Tie as tie
-use Rattle.reorder.proofs.images.take_map.Reads as reads
-use Rattle.reorder.proofs.images.take_map.Lts as lts
-use Rattle.code.proofs.first_bad_bit.Reads as first-bad-bit-reads
-use Rattle.reorder.proofs.images.all_apart.Reads as all-apart-reads
-use Rattle.reorder.proofs.images.put_images.Reads as put-images-reads
-use Rattle.reorder.proofs.images.put_places.Reads as put-places-reads
 
--- src/images.rt:96:8
 first-bad-bit-requires : tie.Need-first-bad-bit-requires
 first-bad-bit-requires c κs = search needs
 
--- src/images.rt:97:9
 returns : tie.Need-returns
-returns c = ?
+returns c =
+    let s = c .before .before .before .before .before .before .args in
+    let bad : firstBadBit (s .table .now) < length (s .table .now) = omega (arith, c .if1 .taken, c .before .first-bad-bit .ensures) in
+    not-taken (s .m) (s .table .now) (s .row .now) _ _ (table-bad (s .m) (s .table .now) (s .row .now) bad)
 
--- src/images.rt:99:8
 first-bad-bit-requires-2 : tie.Need-first-bad-bit-requires-2
 first-bad-bit-requires-2 c κs = search needs
 
--- src/images.rt:100:9
 returns-2 : tie.Need-returns-2
-returns-2 c = ?
+returns-2 c =
+    let s = c .before .before .before .before .before .before .before .before .args in
+    let good : length (s .table .now) ≤ firstBadBit (s .table .now) = omega (arith, c .before .before .if1 .left, c .before .before .before .first-bad-bit .ensures) in
+    let bad : firstBadBit (s .row .now) < length (s .row .now) = omega (arith, c .if2 .taken, c .before .first-bad-bit2 .ensures) in
+    not-taken (s .m) (s .table .now) (s .row .now) _ _ (row-bad (s .m) (s .table .now) (s .row .now) good bad)
 
--- src/images.rt:102:13
 shl-n : tie.Need-shl-n
 shl-n c = search needs
 
--- src/images.rt:103:5
 put-images-requires : tie.Need-put-images-requires
-put-images-requires c κs = ?
+put-images-requires c κs =
+    let g = c .before .before .before .before .before .before .before .before .before in
+    let good : length (g .args .table .now) ≤ firstBadBit (g .args .table .now) = omega (arith, c .before .before .before .if1 .left, c .before .before .before .before .first-bad-bit .ensures) in
+    (g .pre .0 .small, g .pre .0 .table-long, good-bits (g .args .table .now) good, g .pre .1)
 
--- src/images.rt:104:5
 put-places-requires : tie.Need-put-places-requires
-put-places-requires c κs = ?
+put-places-requires c κs =
+    let g = c .before .before .before .before .before .before .before .before .before .before .before .before .before .before in
+    let m = g .args .m in
+    let most = pow-mono (g .pre .0 .small) in
+    let power = shifted m (g .pre .0 .small) in
+    (omega (arith, power, most, c .before .before .before .before .put-images .kept .1 .1 .0, g .pre .1), g .pre .2, omega (arith, power, most), g .pre .3)
 
--- src/images.rt:105:5
 all-apart-requires : tie.Need-all-apart-requires
-all-apart-requires c κs = ?
+all-apart-requires c κs =
+    let g = c .before .before .before .before .before .before .before .before .before .before .before .before .before .before .before .before .before .before .before in
+    let m = g .args .m in
+    let most = pow-mono (g .pre .0 .small) in
+    let placed = c .before .before .before .before .put-places in (
+      omega (arith, shifted m (g .pre .0 .small), most, c .before .before .before .before .before .before .before .before .before .put-images .kept .1 .1 .0, g .pre .1),
+      omega (arith, placed .kept .1 .1 .0, g .pre .2),
+      placed .ensures,
+    )
 
--- src/images.rt:84:1
 same-length : tie.Need-same-length
 same-length c = search needs
 
--- src/images.rt:84:1
 same-length-2 : tie.Need-same-length-2
 same-length-2 c = search needs
 
--- src/images.rt:84:1
 returns-3 : tie.Need-returns-3
-returns-3 c = ?
+returns-3 c =
+    let g = c .before .before .before .before .before .before .before .before .before .before .before .before .before .before .before .before .before .before .before .before in
+    let s = g .args in
+    let table : length (s .table .now) ≤ firstBadBit (s .table .now) = omega (arith, c .before .before .before .before .before .before .before .before .before .before .before .before .before .before .if1 .left, c .before .before .before .before .before .before .before .before .before .before .before .before .before .before .before .first-bad-bit .ensures) in
+    let row : length (s .row .now) ≤ firstBadBit (s .row .now) = omega (arith, c .before .before .before .before .before .before .before .before .before .before .before .before .if2 .left, c .before .before .before .before .before .before .before .before .before .before .before .before .before .first-bad-bit2 .ensures) in
+    taken (s .m) (s .table .now) (s .row .now) _ _ (c .all-apart .result) _ (shifted (s .m) (g .pre .0 .small)) table row (c .before .before .before .before .before .before .before .before .before .before .put-images .ensures)
+    (c .before .before .before .before .before .put-places .ensures) (c .all-apart .ensures)
 
 pub take-map-spec : {M : Type 1} → statement M
 take-map-spec =

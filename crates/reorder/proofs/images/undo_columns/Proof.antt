@@ -43,7 +43,7 @@ loop-again c =
     let places = g .args .places .now in (
       omega arith,
       shows-more (λ k. getD places (2 ^ k) 0) (l .q) (l .columns) _ (omega (arith, g .pre .2, l .inv .2))
-      (ap (λ (i : ℕ). getD places i 0) (shifted (l .q) (omega arith))) (l .inv .1),
+          (ap (λ (i : ℕ). getD places i 0) (shifted (l .q) (omega arith))) (l .inv .1),
       length-set (l .columns) _ _ ∙ l .inv .2,
     )
 
