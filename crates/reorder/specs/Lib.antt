@@ -1,9 +1,9 @@
--- Definitions: what each call tells and leaves; inside, what the tests on lengths give, and what the arrays of images and places hold
+-- Definitions: what each call tells and leaves; what C-20 says of the calls; inside, what the tests on lengths give
 pub mod Outcome
+pub mod Turned
 pub mod Work
-pub mod Images
+-- That it holds, and that no second outcome meets a promise
+pub mod TurnedMet
+pub mod OnlyOutcome
 -- Laws
-pub mod ImagesLaws
-pub mod ArrayLaws
 pub mod OutcomeLaws
-pub mod WorkLaws

@@ -9,7 +9,8 @@ use Rattle.code.specs.declared.Refusal.{Refusal}
 use Rattle.code.specs.declared.Refusal.the-variants.{Parameters, InputLength, OutputLength, Entry, Map}
 use Rattle.code.specs.Sound.{largestM, largestReading, numberOf, placeOf}
 use Rattle.code.specs.Entries.{firstBadBit, firstBadReading}
-use Rattle.maps.specs.Maps.{reordered, productTable, productRow, canUndo, undoTable, undoRow}
+use Rattle.maps.specs.Maps.{reordered, productTable, productRow, undoTable, undoRow}
+use Rattle.images.specs.Images.{isMap}
 use Rattle.reorder.specs.declared.Answer.{Answer}
 use Rattle.reorder.specs.declared.Answer.the-variants.{Done, Refused}
 
@@ -37,13 +38,6 @@ told (Refused why) lent = refused lent why
 -- a table of this many bytes is m by m, and a row of this many m long
 abbrev pub isLong : ℕ → ℕ → ℕ → Bool
 isLong m table row = eqb table (m * m) && eqb row m
-
-abbrev pub areBits : List ℕ → Bool
-areBits l = not (ltb (firstBadBit l) (length l))
-
--- table and row have bits only, and an undo map exists
-abbrev pub isMap : ℕ → List ℕ → List ℕ → Bool
-isMap m A b = areBits A && (areBits b && canUndo m A)
 
 -- 1, 2 and 3 in their order, by whether the inputs' and the outputs' lengths are right; `rest` where no test applies
 abbrev pub sized : {B : Type 0} → B → ℕ → Bool → Bool → Outcome B → Outcome B

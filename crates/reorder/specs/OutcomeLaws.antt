@@ -9,18 +9,14 @@ use lib.ListN.{length}
 use lib.Dec.{ltb, eqb}
 use borrow.Author.Tests.{eqb-true, lt-ltb, le-ltb}
 use Rattle.numbers.specs.Choice.{lt-or-le}
-use Rattle.words.specs.Bits.{Bits}
 use Rattle.code.specs.declared.Refusal.{Refusal}
 use Rattle.code.specs.declared.Refusal.the-variants.{Parameters, InputLength, OutputLength, Entry, Map}
 use Rattle.code.specs.Sound.{largestM}
-use Rattle.code.specs.Entries.{firstBadBit}
-use Rattle.code.specs.EntriesLaws.{good-bits}
-use Rattle.maps.specs.Maps.{canUndo}
 use Rattle.reorder.specs.declared.Sizes.{Sizes}
 use Rattle.reorder.specs.declared.Sizes.the-variants.{Right, Wrong}
-use Rattle.reorder.specs.Outcome.{Outcome, done, refused, isLong, isMap, sized, mapTested, entryTested}
+use Rattle.reorder.specs.Outcome.{Outcome, done, refused, isLong, sized, mapTested, entryTested}
 use Rattle.reorder.specs.Work.{lengthOf, sizesOf}
-use Rattle.reorder.specs.Images.{Mapped}
+use Rattle.images.specs.Images.{Mapped}
 
 pub both-true : (x y : Bool) → x && y ≡ true → (x ≡ true) × (y ≡ true)
 both-true true y e = (refl, e)
@@ -50,37 +46,6 @@ module _ (x y good : Bool) where
 
   pub both-maps : (good′ : Bool) → good ≡ x → good′ ≡ y → good′ ≡ true → good ≡ x && y
   both-maps good′ e f g = rw (← f, g) (e ∙ sym (and-true x))
-
--- ---- a map by the test
-pub record BitsMap (m : ℕ) (A b : List ℕ) : Type 0 where
-  pub table-bits : Bits A
-  pub row-bits : Bits b
-  pub can : canUndo m A ≡ true
-
-module _ (m : ℕ) (A b : List ℕ) where
-  pub table-bad : firstBadBit A < length A → isMap m A b ≡ false
-  table-bad h = rw (lt-ltb (firstBadBit A) (length A) h)
-
-  module _ (good : length A ≤ firstBadBit A) where
-    pub row-bad : firstBadBit b < length b → isMap m A b ≡ false
-    row-bad h = rw (le-ltb (firstBadBit A) (length A) good, lt-ltb (firstBadBit b) (length b) h)
-
-    pub both-good : length b ≤ firstBadBit b → isMap m A b ≡ canUndo m A
-    both-good h = rw (le-ltb (firstBadBit A) (length A) good, le-ltb (firstBadBit b) (length b) h)
-
-  not-both : (x : Bool) → x ≡ false → x ≡ true → BitsMap m A b
-  not-both x e f = let z : _≡_ {A = ℕ} 0 1 = cc in absurd (omega arith)
-
-  pub bits-map : isMap m A b ≡ true → BitsMap m A b
-  bits-map e =
-      ⊎-elim
-      (λ h. not-both (isMap m A b) (table-bad h) e)
-      (λ h.
-      ⊎-elim
-      (λ k. not-both (isMap m A b) (row-bad h k) e)
-      (λ k. record { table-bits = good-bits A h; row-bits = good-bits b k; can = sym (both-good h k) ∙ e })
-      (lt-or-le (firstBadBit b) (length b)))
-      (lt-or-le (firstBadBit A) (length A))
 
 -- ---- 1, 2 and 3
 by-tests : {B : Type 0} (lent : B) (rest : Outcome B) (large inputs outputs : Bool) (why : Refusal)

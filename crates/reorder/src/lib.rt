@@ -1,7 +1,5 @@
 // Turned position orders: reordering by a map of positions, the map that undoes it, and the product
 // of two maps. A map is an m by m table of bits, row by row, and a row of m bits.
-mod images;
-
 use code::Code;
 use code::Refusal;
 ghost use mathlib.Core.Path.{_≡_};
@@ -12,7 +10,7 @@ ghost use Rattle.reorder.specs.Outcome.{told, isLong};
 ghost use Rattle.reorder.specs.Outcome.{reordering, reorderingWord, undoing, multiplying};
 ghost use Rattle.reorder.specs.Outcome.{reorderingLong, reorderingWordLong, undoingLong, multiplyingLong};
 ghost use Rattle.reorder.specs.Work.{lengthOf, sizesOf};
-ghost use Rattle.reorder.specs.Images.{Mapped};
+ghost use Rattle.images.specs.Images.{Mapped};
 
 pub enum Answer {
     Done,

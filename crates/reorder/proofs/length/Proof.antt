@@ -3,7 +3,7 @@ use mathlib.Core.Path.{_≡_, refl}
 use borrow.Author.Needs.{needs}
 use native.Mathlib.Omega.{arith}
 use borrow.Author.Tests.{lt-ltb, le-ltb}
-use Rattle.reorder.specs.ArrayLaws.{shifted}
+use Rattle.images.specs.ArrayLaws.{shifted}
 use Rattle.reorder.proofs.length.Statement.{statement}
 use Rattle.reorder.proofs.length.Tie as tie
 

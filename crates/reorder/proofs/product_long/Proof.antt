@@ -6,9 +6,10 @@ use Prim.Native.Nat.{ℕ}
 use native.Mathlib.Omega.{arith}
 use borrow.Author.Needs.{needs}
 use borrow.Author.Tests.{not-true, not-false}
-use Rattle.reorder.specs.Outcome.{Outcome, done, isMap}
-use Rattle.reorder.specs.OutcomeLaws.{bits-map, second-not, first-not, both-maps, map-refused, map-allowed}
-use Rattle.reorder.specs.WorkLaws.{row-number, product-put}
+use Rattle.reorder.specs.Outcome.{done}
+use Rattle.images.specs.Images.{isMap}
+use Rattle.reorder.specs.OutcomeLaws.{second-not, first-not, both-maps, map-refused, map-allowed}
+use Rattle.images.specs.WorkLaws.{bits-map, row-number, product-put}
 use Rattle.reorder.proofs.product_long.Statement.{statement}
 use Rattle.reorder.proofs.product_long.Tie as tie
 

@@ -10,9 +10,9 @@ use borrow.Author.Tests.{not-true, not-false}
 use Rattle.code.specs.Sound.{largestReading}
 use Rattle.code.specs.Entries.{firstBadReading}
 use Rattle.maps.specs.Maps.{number}
-use Rattle.reorder.specs.Outcome.{done, isMap}
-use Rattle.reorder.specs.OutcomeLaws.{BitsMap, bits-map, map-refused, map-allowed, entry-refused, entry-allowed}
-use Rattle.reorder.specs.WorkLaws.{row-number, moves-map, moved-map}
+use Rattle.reorder.specs.Outcome.{done}
+use Rattle.reorder.specs.OutcomeLaws.{map-refused, map-allowed, entry-refused, entry-allowed}
+use Rattle.images.specs.WorkLaws.{bits-map, row-number, moves-map, moved-map}
 use Rattle.reorder.proofs.reorder_long.Statement.{statement}
 use Rattle.reorder.proofs.reorder_long.Tie as tie
 

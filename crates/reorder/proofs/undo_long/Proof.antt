@@ -6,9 +6,9 @@ use native.Mathlib.Omega.{arith}
 use lib.ListN.{getD-replicate}
 use borrow.Author.Needs.{needs}
 use borrow.Author.Tests.{not-true, not-false}
-use Rattle.reorder.specs.Outcome.{Outcome, done}
-use Rattle.reorder.specs.OutcomeLaws.{bits-map, map-refused, map-allowed}
-use Rattle.reorder.specs.WorkLaws.{undone-map}
+use Rattle.reorder.specs.Outcome.{done}
+use Rattle.reorder.specs.OutcomeLaws.{map-refused, map-allowed}
+use Rattle.images.specs.WorkLaws.{bits-map, undone-map}
 use Rattle.reorder.proofs.undo_long.Statement.{statement}
 use Rattle.reorder.proofs.undo_long.Tie as tie
 
