@@ -69,7 +69,7 @@ static double library_encode(work w) {
     size_t k = dimension(w.r, w.m);
     for (int i = 0; i < w.repeats; i++)
         for (int t = 0; t < SETS; t++) {
-            cinorbis_encode(w.r, w.m, information[t], k, word, (size_t)1 << w.m, &n);
+            sum_library += cinorbis_encode(w.r, w.m, information[t], k, word, (size_t)1 << w.m, &n);
             sum_library += word[t & ((1 << w.m) - 1)];
         }
     return (double)w.repeats * SETS;
@@ -92,7 +92,7 @@ static double library_quick(work w) {
     size_t k = dimension(w.r, w.m), l = (size_t)1 << w.m;
     for (int i = 0; i < w.repeats; i++)
         for (int t = 0; t < SETS; t++) {
-            cinorbis_quick(w.r, w.m, readings[t], l, bits, k, word, l, &n);
+            sum_library += cinorbis_quick(w.r, w.m, readings[t], l, bits, k, word, l, &n);
             sum_library += n.penalty + bits[0];
         }
     return (double)w.repeats * SETS;

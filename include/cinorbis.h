@@ -1,14 +1,23 @@
-/* Cinorbis: a Reed-Muller decoder whose every function is proved. The C calls of libpumpbox.a (`rt staticlib pumpbox`, x86-64 Linux).
+/* Cinorbis: a Reed-Muller decoder whose every function is proved. The C calls of libpumpbox.a (`rt staticlib pumpbox` for x86-64 Linux,
+ * `tools/archive CPU` for others). docs/RULES.md has the rules, by the sections (§) that are named here; docs/PROMISES.md says, under the name
+ * given as a call's promise, where it is stated and proved.
  *
- * Argument order: the code r, m first; then an allowance where there is one; then the inputs; then the outputs. Each buffer is a
- * pointer and, right after it, its length in elements. A pointer is never null, also where the length is 0. Inputs and outputs must
- * not overlap.
+ * The code: RM(r,m) with 0 <= r <= m <= 8 has words of n = 2^m bits and k information bits,
+ * k = (m choose 0) + (m choose 1) + .. + (m choose r). cinorbis_length and cinorbis_dimension give n and k.
  *
- * RM(r,m), 0 <= r <= m <= 8: length n = 2^m, k information bits. Bits stand one per byte, 0 or 1. Readings are from -2047 to 2047;
- * a positive reading speaks for bit 0, a negative one for bit 1.
+ * Readings: one signed number for each bit. A positive reading speaks for bit 0, a negative one for bit 1; its size says how sure it is.
+ * Bits stand one per byte, 0 or 1.
  *
- * Every call takes any numbers at all and ends. A refused call leaves all buffers as they were. What is promised of each call is named
- * beside it; docs/PROMISES.md says where it is stated and proved. */
+ * Arguments: the code r, m first; then an allowance where there is one; then the inputs; then the outputs. Each buffer is a pointer and, right
+ * after it, its length in elements. Lengths must be exact: a longer buffer is refused like a shorter one. A pointer is never null, also where
+ * the length is 0, and what a call writes overlaps nothing else that it is given: these two are not tested. All else is: any numbers may be
+ * handed in.
+ *
+ * Answers: a call returns 0 when it is done, or the number of its refusal. A refused call leaves every buffer as it was. The struct of
+ * numbers is written by every call, with 0 in what the call or its refusal does not carry.
+ *
+ * Every call ends. None keeps anything from one call to the next, so any number of threads may call at once, each with its own buffers. There is
+ * no heap; the archive asks for memcpy and memset alone. */
 #ifndef CINORBIS_H
 #define CINORBIS_H
 
@@ -19,6 +28,9 @@
 extern "C" {
 #endif
 
+/* Raised when a call is added or changed. */
+#define CINORBIS_VERSION 2
+
 #define CINORBIS_LARGEST_M 8u
 #define CINORBIS_LARGEST_READING 2047
 #define CINORBIS_DEFAULT_ALLOWANCE 1000000u
@@ -27,8 +39,14 @@ extern "C" {
 /* The bytes of the longest record: its first, and 256 readings of 12 bits. */
 #define CINORBIS_LARGEST_RECORD 385u
 
-/* Why a call refused. Where several apply the call gives the one that it checks first: 1, 2, 3, 4, 5, 6, 7 for calls on plain
- * arguments, and 1, 8, 9, 3, 4, 6, 7 for calls on a record. */
+/* A call's pointers are never null, and its refusal is to be looked at. */
+#if defined(__GNUC__)
+#define CINORBIS_CALL __attribute__((nonnull, warn_unused_result))
+#else
+#define CINORBIS_CALL
+#endif
+
+/* Why a call refused (§6). Where several apply a call gives the one that it checks first: the order beside each call. */
 enum cinorbis_refusal {
     CINORBIS_DONE = 0,
     CINORBIS_PARAMETERS = 1,    /* m > 8 or r > m */
@@ -41,6 +59,23 @@ enum cinorbis_refusal {
     CINORBIS_TORN = 8,          /* record: it ends before its last byte */
     CINORBIS_PAD = 9            /* record: a pad bit is 1 */
 };
+
+/* A refusal in words. */
+static inline const char *cinorbis_refusal_text(uint32_t refusal) {
+    switch (refusal) {
+    case CINORBIS_DONE: return "done";
+    case CINORBIS_PARAMETERS: return "no such code: m is above 8, or r above m";
+    case CINORBIS_INPUT_LENGTH: return "an input has the wrong length";
+    case CINORBIS_OUTPUT_LENGTH: return "an output has the wrong length";
+    case CINORBIS_ENTRY: return "a reading is beyond the largest, or a bit above 1";
+    case CINORBIS_NOT_A_WORD: return "no information bits give this word";
+    case CINORBIS_OUT_OF_VISITS: return "out of visits";
+    case CINORBIS_TIED: return "tied: two words share the least penalty";
+    case CINORBIS_TORN: return "the record ends before its last byte";
+    case CINORBIS_PAD: return "a pad bit of the record is 1";
+    default: return "no refusal has this number";
+    }
+}
 
 /* The numbers of an answer, written by every call, refused ones too. Those that the call or its refusal does not carry are 0. */
 typedef struct {
@@ -58,35 +93,42 @@ typedef struct {
     uint64_t place;  /* under 4: the number of the reading */
 } cinorbis_part;
 
-/* Each call returns 0 when done, or the number of its refusal. */
+/* ---- Words (§1) */
 
-/* The word of k information bits. Done: word holds it. Refuses 1, 2, 3, 4. Promise: encode. */
-uint32_t cinorbis_encode(uint32_t r, uint32_t m, const uint8_t *bits, size_t bits_length, uint8_t *word, size_t word_length,
-                         cinorbis_numbers *numbers);
+/* In: k information bits. Out: word, n bits. Refuses 1, 2, 3, 4. Promise: encode. */
+CINORBIS_CALL uint32_t cinorbis_encode(uint32_t r, uint32_t m, const uint8_t *bits, size_t bits_length, uint8_t *word,
+                                       size_t word_length, cinorbis_numbers *numbers);
 
-/* The information bits of a word. Done: bits holds them. Refuses 1, 2, 3, 4, 5. Promise: inverse. */
-uint32_t cinorbis_inverse(uint32_t r, uint32_t m, const uint8_t *word, size_t word_length, uint8_t *bits, size_t bits_length,
-                          cinorbis_numbers *numbers);
+/* In: a word of n bits. Out: its k information bits. Refuses 1, 2, 3, 4, 5. Promise: inverse. */
+CINORBIS_CALL uint32_t cinorbis_inverse(uint32_t r, uint32_t m, const uint8_t *word, size_t word_length, uint8_t *bits,
+                                        size_t bits_length, cinorbis_numbers *numbers);
 
-/* The quick reading, which may miss the best word. Done: bits, word and penalty. Refuses 1, 2, 3, 4. Promise: quick. */
-uint32_t cinorbis_quick(uint32_t r, uint32_t m, const int16_t *readings, size_t readings_length, uint8_t *bits, size_t bits_length,
-                        uint8_t *word, size_t word_length, cinorbis_numbers *numbers);
+/* ---- From readings to words (§3 to §5) */
 
-/* The search for the best word with the default allowance. Done: bits, word, penalty, gap (above 0) and visits.
- * Refuses 1, 2, 3, 4, 6, 7. Promise: search. */
-uint32_t cinorbis_search(uint32_t r, uint32_t m, const int16_t *readings, size_t readings_length, uint8_t *bits, size_t bits_length,
-                         uint8_t *word, size_t word_length, cinorbis_numbers *numbers);
+/* The quick reading, which may miss the best word. In: n readings. Out: k bits, a word of n bits, its penalty.
+ * Refuses 1, 2, 3, 4. Promise: quick. */
+CINORBIS_CALL uint32_t cinorbis_quick(uint32_t r, uint32_t m, const int16_t *readings, size_t readings_length, uint8_t *bits,
+                                      size_t bits_length, uint8_t *word, size_t word_length, cinorbis_numbers *numbers);
+
+/* The search for the best word with the default allowance. In: n readings. Out: the k bits and the word of least penalty, that penalty,
+ * the gap (above 0) and the visits. Refuses 1, 2, 3, 4, then 6 or 7. Promise: search. */
+CINORBIS_CALL uint32_t cinorbis_search(uint32_t r, uint32_t m, const int16_t *readings, size_t readings_length, uint8_t *bits,
+                                       size_t bits_length, uint8_t *word, size_t word_length, cinorbis_numbers *numbers);
 
 /* The same with an allowance of visits, any number. Promise: search_within. */
-uint32_t cinorbis_search_within(uint32_t r, uint32_t m, uint32_t allowed, const int16_t *readings, size_t readings_length,
-                                uint8_t *bits, size_t bits_length, uint8_t *word, size_t word_length, cinorbis_numbers *numbers);
+CINORBIS_CALL uint32_t cinorbis_search_within(uint32_t r, uint32_t m, uint32_t allowed, const int16_t *readings,
+                                              size_t readings_length, uint8_t *bits, size_t bits_length, uint8_t *word,
+                                              size_t word_length, cinorbis_numbers *numbers);
 
-/* The record that the bytes begin with: its code and its packed part. Refuses 1, 8, 9, 4. Promise: header, packed. */
-uint32_t cinorbis_record(const uint8_t *bytes, size_t bytes_length, cinorbis_part *part);
+/* ---- Packed records (§7) */
 
-/* The search of the record that the bytes begin with. Refuses 1, 8, 9, 3, 4, 6, 7. Promise: search_record. */
-uint32_t cinorbis_search_record(uint32_t allowed, const uint8_t *bytes, size_t bytes_length, uint8_t *bits, size_t bits_length,
-                                uint8_t *word, size_t word_length, cinorbis_numbers *numbers);
+/* The record that the bytes begin with: its code and its packed part. Refuses 1, 8, 9, 4. Promise: header_of, packed. */
+CINORBIS_CALL uint32_t cinorbis_record(const uint8_t *bytes, size_t bytes_length, cinorbis_part *part);
+
+/* The search of the record that the bytes begin with. Out as cinorbis_search_within. Refuses 1, 8, 9, 3, 4, then 6 or 7.
+ * Promise: search_record. */
+CINORBIS_CALL uint32_t cinorbis_search_record(uint32_t allowed, const uint8_t *bytes, size_t bytes_length, uint8_t *bits,
+                                              size_t bits_length, uint8_t *word, size_t word_length, cinorbis_numbers *numbers);
 
 #ifdef __cplusplus
 }

@@ -79,7 +79,20 @@ static void refusals_by_name(void) {
     named("a pad bit", cinorbis_record(pad, 3, &part), 9, CINORBIS_PAD);
 }
 
+/* every refusal has a text of its own, and no other number has */
+static void texts(void) {
+    begin("texts");
+    for (uint32_t a = 0; a < 40; a++)
+        for (uint32_t b = 0; b < a; b++) {
+            int same = strcmp(cinorbis_refusal_text(a), cinorbis_refusal_text(b)) == 0;
+            CHECK(!same || strcmp(cinorbis_refusal_text(b), cinorbis_refusal_text(UINT32_MAX)) == 0, "%u and %u: %s", a, b, cinorbis_refusal_text(a));
+        }
+    CHECK(strcmp(cinorbis_refusal_text(CINORBIS_PAD), cinorbis_refusal_text(UINT32_MAX)) != 0, "a refusal without a text");
+    end();
+}
+
 int main(void) {
+    texts();
     limits_of_the_code();
     largest_reading();
     default_allowance();

@@ -1,8 +1,12 @@
 pub mod Line
 pub mod LineLaws
 pub mod Program
+pub mod OutputLaws
 pub mod Example
 pub mod Step
 pub mod StepLaws
 pub mod State
 pub mod StateLaws
+pub mod Turns
+pub mod TurnsLaws
+pub mod EndLaws

@@ -13,14 +13,14 @@ unfoldable pub bytesOf : Text.String → List ℕ
 bytesOf Text.[] = []
 bytesOf (Text._∷_ c t) = code c ∷ bytesOf t
 
--- a digit from 0 to 9, or a bit
-abbrev pub digit : ℕ → ℕ
-digit d = 48 + d
+-- the byte of a digit from 0 to 9, or of a bit
+abbrev pub digitByte : ℕ → ℕ
+digitByte d = 48 + d
 
 -- a number in decimal: the text of n / 10 where that is above 0, then the last digit; k digits at most
 unfoldable pub decimalWithin : ℕ → ℕ → List ℕ
 decimalWithin zero n = []
-decimalWithin (suc k) n = cond (ltb n 10) (digit n ∷ []) (decimalWithin k (n / 10) ++ digit (n % 10) ∷ [])
+decimalWithin (suc k) n = cond (ltb n 10) (digitByte n ∷ []) (decimalWithin k (n / 10) ++ digitByte (n % 10) ∷ [])
 
 -- twenty digits hold every number of 64 bits
 abbrev pub decimal : ℕ → List ℕ
@@ -28,7 +28,7 @@ decimal n = decimalWithin 20 n
 
 -- the line of record w that was answered: which one and its bits, then penalty, gap and visits
 unfoldable pub infoText : ℕ → List ℕ → List ℕ
-infoText w bits = decimal w ++ bytesOf " info " ++ map digit bits
+infoText w bits = decimal w ++ bytesOf " info " ++ map digitByte bits
 
 unfoldable pub figuresText : ℕ → ℕ → ℕ → List ℕ
 figuresText penalty gap visits =

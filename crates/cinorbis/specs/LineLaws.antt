@@ -10,7 +10,7 @@ use lib.Seq.{paste, take-length, take-paste, drop-paste, drop-drop}
 use borrow.Author.Tests.{lt-ltb, le-ltb}
 use Rattle.io.specs.Digits.{digits, Fewest}
 use Rattle.numbers.specs.Choice.{lt-or-le}
-use Rattle.cinorbis.specs.Line.{bytesOf, digit, decimalWithin, decimal, infoText, figuresText, answerLine, refusedLine, totalLine, written, Put}
+use Rattle.cinorbis.specs.Line.{bytesOf, digitByte, decimalWithin, decimal, infoText, figuresText, answerLine, refusedLine, totalLine, written, Put}
 
 -- 01's two lines, and a refused one
 pub record Lines : Type 0 where
@@ -58,7 +58,7 @@ digits-decimal zero (suc j) n h u l =
 digits-decimal (suc k) (suc j) n h u l =
     let large : 10 ≤ n = omega (arith, l (omega arith), pow-suc 10 k, one-le-pow k 10 (omega arith)) in
     rw (le-ltb n 10 large, lt-ltb (n % 10) 10 (omega arith))
-    (ap (λ (t : List ℕ). t ++ digit (n % 10) ∷ [])
+    (ap (λ (t : List ℕ). t ++ digitByte (n % 10) ∷ [])
     (digits-decimal k j (n / 10) (omega arith) (omega (arith, pow-suc 10 (suc k))) (λ z. omega (arith, l (omega arith), pow-suc 10 k))))
 
 decimal-digits : (n k : ℕ) → k ≤ 20 → Fewest 10 1 n k → digits 10 k n ≡ decimal n
@@ -85,7 +85,7 @@ unfolding decimalWithin
 length-decimal zero n = omega arith
 length-decimal (suc k) n =
     ⊎-elim (λ h. rw (lt-ltb n 10 h) (omega arith))
-    (λ h. rw (le-ltb n 10 h) (omega (arith, length-append (decimalWithin k (n / 10)) (digit (n % 10) ∷ []), length-decimal k (n / 10))))
+    (λ h. rw (le-ltb n 10 h) (omega (arith, length-append (decimalWithin k (n / 10)) (digitByte (n % 10) ∷ []), length-decimal k (n / 10))))
     (lt-or-le n 10)
 
 pub put-short : (d : List ℕ) (at n end : ℕ) (d′ : List ℕ) → Put d at (decimal n) end d′ → end ≤ at + 20
@@ -94,7 +94,7 @@ put-short d at n end d′ p = omega (arith, p .end-is, length-decimal 20 n)
 -- the lines, piece by piece
 module _ (d : List ℕ) (at : ℕ) (h : at ≤ length d) where
   pub info-put : (w : ℕ) (bits : List ℕ) (e₁ e₂ e₃ : ℕ) (d₁ d₂ d₃ : List ℕ)
-      → Put d at (decimal w) e₁ d₁ → Put d₁ e₁ (bytesOf " info ") e₂ d₂ → Put d₂ e₂ (map digit bits) e₃ d₃ → Put d at (infoText w bits) e₃ d₃
+      → Put d at (decimal w) e₁ d₁ → Put d₁ e₁ (bytesOf " info ") e₂ d₂ → Put d₂ e₂ (map digitByte bits) e₃ d₃ → Put d at (infoText w bits) e₃ d₃
   unfolding infoText
   info-put w bits e₁ e₂ e₃ d₁ d₂ d₃ p q r = put-then d at _ e₂ d₂ _ e₃ d₃ h (put-then d at _ e₁ d₁ _ e₂ d₂ h p q) r
 

@@ -1,16 +1,29 @@
--- Where the program stands between two turns, and what a turn does to it.
+-- Where the program stands between two turns, and what each kind of turn does to it. Its own functions are equal to these.
 use mathlib.Core.Path.{_≡_}
 use mathlib.Core.List.{List}
-use mathlib.Core.Logic.{_⊎_}
-use mathlib.Core.Bool.{Bool, true, false, cond}
-use Prim.Native.Nat.{ℕ, _+_, _-_, _≤_}
+use mathlib.Core.Bool.{Bool, true, false, cond, not}
+use Prim.Native.Nat.{ℕ, zero, suc, _+_, _-_, _≤_, min}
+use lib.IntN.{ℤ, pos, negsuc}
 use lib.ListN.{length, getD, take, drop}
-use lib.Dec.{leb, eqb}
+use lib.Dec.{ltb, leb, eqb}
 use Rattle.record.specs.Reader.{codeOf, lengthBy}
 use Rattle.cinorbis.specs.declared.state.State.{State}
+use Rattle.cinorbis.specs.declared.state.Next.{Next}
+use Rattle.cinorbis.specs.declared.state.Next.the-variants.{Write, Take, Total, Read}
 use Rattle.cinorbis.specs.declared.step.Step.{Step}
-use Rattle.cinorbis.specs.Line.{Put}
+use Rattle.cinorbis.specs.Line.{totalLine, Put}
 use Rattle.cinorbis.specs.Program.{Result, answered, refused, resultOf, lineOf, stops, nextStart}
+
+-- the longest line fits into so many bytes, and the longest record into these
+abbrev pub room : ℕ
+room = 512
+
+abbrev pub longest : ℕ
+longest = 385
+
+-- nothing is read yet, and nothing waits
+abbrev pub starting : State
+starting = record { at = 0; «end» = 0; ended = false; text = 0; read = 0; refused = 0; closed = false; going = true; failed = false }
 
 -- the parts that are in use lie within their buffers
 pub record Ready (s : State) (input output : List ℕ) : Type 0 where
@@ -27,50 +40,98 @@ abbrev pub isThere : State → List ℕ → Bool
 isThere s input =
     cond (eqb (s .at) (s .«end»)) false (cond (s .ended) true (leb (lengthBy (codeOf (getD input (s .at) 0))) (s .«end» - s .at)))
 
--- after a record with this result, whose line ends at text and after which the next one starts at at: counted, and the last one where no next start is known
+-- What waits is written after the total, and where the longest line might not fit into the output's n bytes. Else a record that is there is taken; after
+-- the last one comes the total; and what waits is written before the program waits for input.
+abbrev pub nextOf : State → List ℕ → ℕ → Next
+nextOf s input n =
+    cond (s .closed) Write (cond (ltb (n - s .text) room) Write
+    (cond (isThere s input) Take (cond (s .ended) Total (cond (ltb 0 (s .text)) Write Read))))
+
+-- s with the bytes from at on to be used, maybe the last, and with this text and these counts
+abbrev pub counted : State → ℕ → Bool → ℕ → ℕ → ℕ → State
+counted s at ended text answers refusals =
+    record {
+      at = at;
+      «end» = s .«end»;
+      ended = ended;
+      text = text;
+      read = answers;
+      refused = refusals;
+      closed = s .closed;
+      going = s .going;
+      failed = s .failed;
+    }
+
+-- after a record with this result, whose line ends at text and after which the next one starts at at: no byte is used where no next start is known
 abbrev pub after : State → Result → ℕ → ℕ → State
-after s (answered bits penalty gap visits) text at =
-    record { at = at; «end» = s .«end»; ended = s .ended; text = text; read = s .read + 1; refused = s .refused; going = s .going; failed = s .failed }
+after s (answered bits penalty gap visits) text at = counted s at (s .ended) text (s .read + 1) (s .refused)
 after s (refused why) text at =
-    cond (stops (refused why))
-    (record { at = s .at; «end» = s .«end»; ended = s .ended; text = text; read = s .read; refused = s .refused + 1; going = false; failed = s .failed })
-    (record { at = at; «end» = s .«end»; ended = s .ended; text = text; read = s .read; refused = s .refused + 1; going = s .going; failed = s .failed })
+    cond (stops (refused why)) (counted s (s .«end») true text (s .read) (s .refused + 1)) (counted s at (s .ended) text (s .read) (s .refused + 1))
 
 -- the same by what the work on the record tells
 abbrev pub countedBy : State → Step → State
 countedBy s step =
-    cond (step .answered)
-    (record { at = s .at + step .taken; «end» = s .«end»; ended = s .ended; text = step .«end»; read = s .read + 1; refused = s .refused; going = s .going; failed = s .failed })
-    (cond (step .stop)
-    (record { at = s .at; «end» = s .«end»; ended = s .ended; text = step .«end»; read = s .read; refused = s .refused + 1; going = false; failed = s .failed })
-    (record { at = s .at + step .taken; «end» = s .«end»; ended = s .ended; text = step .«end»; read = s .read; refused = s .refused + 1; going = s .going; failed = s .failed }))
+    cond (step .answered) (counted s (s .at + step .taken) (s .ended) (step .«end») (s .read + 1) (s .refused))
+    (cond (step .stop) (counted s (s .«end») true (step .«end») (s .read) (s .refused + 1))
+    (counted s (s .at + step .taken) (s .ended) (step .«end») (s .read) (s .refused + 1)))
 
--- the next record is taken: its line is written, and it is counted
+-- the next record is taken: its line stands behind the text, and it is counted
 pub record Took (s : State) (input output : List ℕ) (t : State) (output′ : List ℕ) : Type 0 where
   pub line : Put output (s .text) (lineOf (s .read + s .refused) (resultOf (unread s input))) (t .text) output′
-  pub counted : t ≡ after s (resultOf (unread s input)) (t .text) (s .at + nextStart (unread s input))
+  pub counts : t ≡ after s (resultOf (unread s input)) (t .text) (s .at + nextStart (unread s input))
 
--- the text that waited is written, or the operating system reported an error and the program ends
-abbrev pub Flushed : State → State → Type 0
-Flushed s t =
-    (t ≡ record { at = s .at; «end» = s .«end»; ended = s .ended; text = 0; read = s .read; refused = s .refused; going = s .going; failed = s .failed })
-    ⊎ (t ≡ record { at = s .at; «end» = s .«end»; ended = s .ended; text = 0; read = s .read; refused = s .refused; going = false; failed = true })
+-- s with this text, ..
+abbrev pub texted : State → ℕ → Bool → Bool → Bool → State
+texted s text closed going failed =
+    record {
+      at = s .at;
+      «end» = s .«end»;
+      ended = s .ended;
+      text = text;
+      read = s .read;
+      refused = s .refused;
+      closed = closed;
+      going = going;
+      failed = failed;
+    }
 
--- more bytes are read behind those that are not yet used, which stand in front now; or there are no more; or the operating system reported an error
+-- the total stands behind the text
+pub record Finished (s : State) (output : List ℕ) (t : State) (output′ : List ℕ) : Type 0 where
+  pub line : Put output (s .text) (totalLine (s .read) (s .refused)) (t .text) output′
+  pub closes : t ≡ texted s (t .text) true (s .going) (s .failed)
+
+-- after the text was handed to the writer, by whether all was written: after the total that is the end, and so is an error
+abbrev pub afterWrite : Bool → State → State
+afterWrite true s = texted s 0 (s .closed) (not (s .closed)) (s .failed)
+afterWrite false s = texted s 0 (s .closed) false true
+
+pub record Flushed (s : State) (t : State) : Type 0 where
+  pub done : Bool
+  pub is : t ≡ afterWrite done s
+
+-- s with its unread bytes at the front, and those behind them, up to n
+abbrev pub moved : State → ℕ → Bool → Bool → Bool → State
+moved s n ended going failed =
+    record {
+      at = 0;
+      «end» = n;
+      ended = ended;
+      text = s .text;
+      read = s .read;
+      refused = s .refused;
+      closed = s .closed;
+      going = going;
+      failed = failed;
+    }
+
+-- after a read into n bytes, by what it returned: below 0 an error, 0 exactly at the end of the input, else the number of bytes that came
+abbrev pub afterRead : ℤ → ℕ → State → State
+afterRead (negsuc k) n s = moved s (s .«end» - s .at) (s .ended) false true
+afterRead (pos zero) n s = moved s (s .«end» - s .at) true (s .going) (s .failed)
+afterRead (pos (suc k)) n s = moved s (s .«end» - s .at + min (suc k) n) (s .ended) (s .going) (s .failed)
+
+-- the unread bytes stand at the front, and behind them what the read put there
 pub record Refilled (s : State) (input : List ℕ) (t : State) (input′ : List ℕ) : Type 0 where
+  pub got : ℤ
   pub kept : take (s .«end» - s .at) input′ ≡ unread s input
-  pub more : s .«end» - s .at ≤ t .«end»
-  pub within : t .«end» ≤ length input
-  pub is :
-      (t ≡ record { at = 0; «end» = t .«end»; ended = s .ended; text = s .text; read = s .read; refused = s .refused; going = s .going; failed = s .failed })
-      ⊎ (t ≡ record { at = 0; «end» = s .«end» - s .at; ended = true; text = s .text; read = s .read; refused = s .refused; going = s .going; failed = s .failed })
-      ⊎ (t ≡ record { at = 0; «end» = s .«end» - s .at; ended = s .ended; text = s .text; read = s .read; refused = s .refused; going = false; failed = true })
-
--- a turn takes a record, writes what waits, ends the program, or reads
-pub data Turned (s : State) (input output : List ℕ) (t : State) (input′ output′ : List ℕ) : Type 0 where
-  takes : isThere s input ≡ true → Took s input output t output′ → input′ ≡ input → Turned s input output t input′ output′
-  writes : Flushed s t → input′ ≡ input → output′ ≡ output → Turned s input output t input′ output′
-  ends : isThere s input ≡ false → s .ended ≡ true
-      → t ≡ record { at = s .at; «end» = s .«end»; ended = s .ended; text = s .text; read = s .read; refused = s .refused; going = false; failed = s .failed }
-      → input′ ≡ input → output′ ≡ output → Turned s input output t input′ output′
-  reads : isThere s input ≡ false → s .ended ≡ false → Refilled s input t input′ → output′ ≡ output → Turned s input output t input′ output′
+  pub is : t ≡ afterRead got (length input - (s .«end» - s .at)) s

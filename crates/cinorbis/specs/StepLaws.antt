@@ -7,7 +7,6 @@ use lib.IntN.{ℤ}
 use lib.Dec.{ltb, eqb}
 use lib.ListN.{length, take, replicate}
 use lib.Seq.{length-take-le}
-use Rattle.code.specs.Sound.{Sound}
 use mathlib.Core.Bool.{cond}
 use Rattle.numbers.specs.Choice.{cond-by}
 use Rattle.words.specs.Bits.{Bits}
@@ -22,8 +21,8 @@ use Rattle.search.specs.declared.Searched.the-variants as searched
 use Rattle.code.specs.declared.Refusal.the-variants.{OutOfVisits, Tied}
 use Rattle.search.specs.Outcome as Outcome
 use Rattle.search.specs.OnlyOutcome.{search-only}
-use Rattle.search.specs.Demands.{Admitted}
-use Rattle.search.specs.DemandsMet.{admitted-answered}
+use Rattle.search.specs.Demands.{SoundSearch}
+use Rattle.search.specs.DemandsMet.{sound-answered}
 use Rattle.record.specs.declared.Header.{Header}
 use Rattle.record.specs.declared.Header.the-variants.{Record, Refused}
 use Rattle.record.specs.Reader.{readingsOf, headerOf}
@@ -39,7 +38,7 @@ resultIn (searched.Found penalty gap visits) bits = answered bits penalty gap vi
 resultIn (searched.Refused why) bits = refused why
 
 told-result : (a : Searched) (bits word bits₀ word₀ : List ℕ) (x : Answer)
-    → Outcome.told a bits word ≡ Outcome.answered allowance bits₀ word₀ x → resultIn a bits ≡ program.searched x
+    → Outcome.told a bits word ≡ Outcome.byAnswer allowance bits₀ word₀ x → resultIn a bits ≡ program.searched x
 told-result a bits word bits₀ word₀ (found b y p g v) e =
     let o = search-only (Outcome.told (searched.Found p g v) b y) a (searched.Found p g v) bits word b y e refl in
     ap (λ (a : Searched). resultIn a bits) (o .0) ∙ ap (λ (c : List ℕ). answered c p g v) (o .1)
@@ -54,16 +53,14 @@ told-result a bits word bits₀ word₀ outOfVisits e =
 
 module _ (s : List ℕ) (c : Code) (bits word bits₀ word₀ : List ℕ) (h : headerOf s ≡ Record c)
     (long-bits : length bits₀ ≡ dimension (c .r) (c .m)) (long-word : length word₀ ≡ 2 ^ c .m) where
-  admitted : Admitted (c .r) (c .m) (readingsOf c s) bits₀ word₀
-  admitted =
+  is-sound : SoundSearch (c .r) (c .m) (readingsOf c s) bits₀ word₀
+  is-sound =
       let f = framed-record s c (header-framed s c h) in
       record {
-        r-small = f .sound .r-small;
-        m-small = f .sound .m-small;
-        long = length-readings-of c s (f .whole);
-        within = accepted-within s c h;
+        sound = f .sound;
         long-bits = long-bits;
         long-word = long-word;
+        entries = record { long = length-readings-of c s (f .whole); within = accepted-within s c h };
       }
 
   -- the search of an accepted record says what becomes of it
@@ -71,7 +68,7 @@ module _ (s : List ℕ) (c : Code) (bits word bits₀ word₀ : List ℕ) (h : h
   unfolding searchingRecord resultOf
   searched-result a e =
       told-result a bits word bits₀ word₀ (answer (c .m) (kinds (c .r) (c .m)) (readingsOf c s) allowance)
-      (e ∙ ap (λ (k : Header). searchingBy k allowance s bits₀ word₀) (header-framed s c h) ∙ admitted-answered admitted allowance)
+      (e ∙ ap (λ (k : Header). searchingBy k allowance s bits₀ word₀) (header-framed s c h) ∙ sound-answered bits₀ word₀ is-sound allowance)
       ∙ ap (λ (k : Header). headed k s) (sym h)
 
 -- the bits of an answer are bits
@@ -96,9 +93,6 @@ headed-bits (Record c) s = answer-bits (c .m) (kinds (c .r) (c .m)) (readingsOf 
 pub found-bits : (s bits : List ℕ) (penalty gap visits : ℕ) → answered bits penalty gap visits ≡ resultOf s → Bits bits
 unfolding resultOf
 found-bits s bits penalty gap visits e = subst BitsIn (sym e) (headed-bits (headerOf s) s)
-
-pub accepted-sound : (s : List ℕ) (c : Code) → headerOf s ≡ Record c → Sound c
-accepted-sound s c h = framed-record s c (header-framed s c h) .sound
 
 -- the first k of 256 zeros
 pub zeros-front : (k : ℕ) → k ≤ 256 → length {A = ℕ} (take (k - 0) (replicate 256 0)) ≡ k

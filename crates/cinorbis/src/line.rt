@@ -1,10 +1,11 @@
 // The program's lines, written into a lent buffer from a place on. Each function gives the place
 // after what it wrote.
+ghost use mathlib.Core.Path.{_≡_};
 ghost use mathlib.Core.List.{map, _++_};
-ghost use Prim.Native.Nat.{_+_, _≤_};
+ghost use Prim.Native.Nat.{_+_, _≤_, _<_};
 ghost use lib.ListN.{length};
 ghost use Rattle.words.specs.Bits.{Bits};
-ghost use Rattle.cinorbis.specs.Line.{digit, decimal, Put};
+ghost use Rattle.cinorbis.specs.Line.{digitByte, decimal, Put};
 ghost use Rattle.cinorbis.specs.Line.{infoText, figuresText};
 ghost use Rattle.cinorbis.specs.Line.{answerLine, refusedLine, totalLine};
 
@@ -20,14 +21,21 @@ fn put_text(text: &[u8], out: &mut [u8], at: usize) -> usize
     at + i
 }
 
+fn digit_of(bit: u8) -> u8
+    requires { ⌜ bit < 2 ⌝ }
+    ensures { λ r. ⌜ r ≡ digitByte bit ⌝ }
+{
+    if bit == 0 { 48 } else { 49 }
+}
+
 fn put_bits(bits: &[u8], out: &mut [u8], at: usize) -> usize
     requires { ⌜ Bits (now bits) × (at + length (now bits) ≤ length (now out)) ⌝ }
-    ensures { λ end. ⌜ Put (now (out .entry)) at (map digit (now (bits .entry))) end
+    ensures { λ end. ⌜ Put (now (out .entry)) at (map digitByte (now (bits .entry))) end
         (now (out .exit)) ⌝ }
 {
     let mut i = 0;
     while i < bits.len() {
-        out[at + i] = 48 + bits[i];
+        out[at + i] = digit_of(bits[i]);
         i += 1;
     }
     at + i

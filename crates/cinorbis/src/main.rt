@@ -1,5 +1,5 @@
-// The program: records in, lines out. Reading and writing stand here; the work on a record and the
-// text of its line are functions on slices.
+// The program: records in, lines out. Here alone the operating system is called. What it is handed,
+// and what is done with what it gave, is told by functions on slices.
 mod line;
 mod state;
 mod step;
@@ -7,32 +7,26 @@ mod step;
 use libc::STDERR_FILENO;
 use libc::STDIN_FILENO;
 use libc::STDOUT_FILENO;
+use state::Next;
 use state::State;
 ghost use mathlib.Core.Path.{_≡_};
 ghost use mathlib.Core.List.{_++_};
 ghost use Prim.Native.Nat.{_+_, _-_, _^_, _≤_, _<_};
 ghost use lib.ListN.{length, take, drop};
-ghost use Rattle.cinorbis.specs.State.{Ready, Flushed, Refilled, Turned};
+ghost use Rattle.cinorbis.specs.State.{room, longest, Ready, Flushed, Refilled};
+ghost use Rattle.cinorbis.specs.Turns.{Turned, Ran};
 
-// The longest line and the longest record fit.
-const LINE: usize = 512;
-
-// Writes the text that waits.
+// Hands the text that waits to the writer.
 fn flush(output: &[u8], s: State) -> State
     requires { ⌜ s .text ≤ length (now output) ⌝ }
     ensures { λ t. ⌜ Flushed s t ⌝ }
 {
     let text = s.text;
     if io::write_all(STDOUT_FILENO, &output[0..text]) {
-        return State { text: 0, ..s };
+        return state::after_write(true, s);
     }
     io::write_all(STDERR_FILENO, b"cinorbis: cannot write\n");
-    State {
-        text: 0,
-        going: false,
-        failed: true,
-        ..s
-    }
+    state::after_write(false, s)
 }
 
 // Moves the bytes from at to end to the front.
@@ -49,6 +43,12 @@ fn move_to_front(buffer: &mut [u8], at: usize, end: usize)
     }
 }
 
+fn report(got: isize) {
+    if got < 0 {
+        io::write_all(STDERR_FILENO, b"cinorbis: cannot read\n");
+    }
+}
+
 // Reads behind the bytes that are not yet used.
 fn refill(input: &mut [u8], s: State) -> State
     requires { ⌜ (s .at ≤ s .«end») × (s .«end» ≤ length (now input))
@@ -58,86 +58,36 @@ fn refill(input: &mut [u8], s: State) -> State
     let k = s.end - s.at;
     move_to_front(input, s.at, s.end);
     let got = libc::read(STDIN_FILENO, &mut input[k..]);
-    if got < 0 {
-        io::write_all(STDERR_FILENO, b"cinorbis: cannot read\n");
-        return State {
-            at: 0,
-            end: k,
-            going: false,
-            failed: true,
-            ..s
-        };
-    }
-    if got == 0 {
-        return State {
-            at: 0,
-            end: k,
-            ended: true,
-            ..s
-        };
-    }
-    let more = io::count(got, &input[k..]);
-    State {
-        at: 0,
-        end: k + more,
-        ..s
-    }
+    report(got);
+    state::after_read(got, &input[k..], s)
 }
 
 fn turn(input: &mut [u8], output: &mut [u8], s: State) -> State
     requires { ⌜ Ready s (now input) (now output)
-        × (385 ≤ length (now input)) × (512 ≤ length (now output)) × (s .read + s .refused + 1 < 2 ^ 64) ⌝ }
+        × (longest ≤ length (now input)) × (s .read + s .refused + 1 < 2 ^ 64) ⌝ }
     ensures { λ t. ⌜ Turned s (now (input .entry)) (now (output .entry)) t
         (now (input .exit)) (now (output .exit)) ⌝ }
 {
-    if state::is_there(input, s) {
-        if output.len() - s.text < LINE {
-            return flush(output, s);
-        }
-        return state::take_record(input, output, s);
+    match state::next_turn(input, output.len(), s) {
+        Next::Write => flush(output, s),
+        Next::Take => state::take_record(input, output, s),
+        Next::Total => state::finish(output, s),
+        Next::Read => refill(input, s),
     }
-    if s.ended {
-        return State { going: false, ..s };
-    }
-    // what waits is written before the program waits for input
-    if 0 < s.text {
-        return flush(output, s);
-    }
-    refill(input, s)
 }
 
-// The lines that wait, and then the total. After an error there is no total.
-fn finish(output: &mut [u8], s: State)
-    requires { ⌜ (s .text ≤ length (now output)) × (512 ≤ length (now output)) ⌝ }
-{
-    let s = flush(output, s);
-    if s.failed {
-        return;
-    }
-    let end = line::put_total(s.read, s.refused, output, 0);
-    flush(output, State { text: end, ..s });
-}
-
-// Nothing says that the input ends, so the turns are counted down from a number that no run uses up.
+// Nothing says that the input ends, so the turns are counted down, from a number that only more than
+// 2^62 bytes use up.
 fn run(input: &mut [u8], output: &mut [u8])
-    requires { ⌜ (385 ≤ length (now input)) × (512 ≤ length (now output)) ⌝ }
+    requires { ⌜ (longest ≤ length (now input)) × (room ≤ length (now output)) ⌝ }
+    ensures { λ _. ⌜ Ran ⌝ }
 {
-    let mut s = State {
-        at: 0,
-        end: 0,
-        ended: false,
-        text: 0,
-        read: 0,
-        refused: 0,
-        going: true,
-        failed: false,
-    };
+    let mut s = state::start();
     let mut left = u64::MAX;
     while 0 < left && s.going {
         s = turn(input, output, s);
         left -= 1;
     }
-    finish(output, s);
 }
 
 fn main() {

@@ -1,28 +1,60 @@
-// Where the program stands between two turns, and the turn that takes a record.
+// Where the program stands between two turns, and all that it does between two calls of the
+// operating system: functions of the bytes and of what the last call answered.
+use crate::line;
 use crate::step;
 use step::Step;
 ghost use mathlib.Core.Path.{_≡_};
-ghost use Prim.Native.Nat.{_+_, _^_, _≤_, _<_};
+ghost use Prim.Native.Nat.{_+_, _-_, _^_, _≤_, _<_};
 ghost use lib.ListN.{length};
-ghost use Rattle.cinorbis.specs.State.{isThere, countedBy, Took};
+ghost use Rattle.cinorbis.specs.State.{starting, room, isThere, nextOf, countedBy};
+ghost use Rattle.cinorbis.specs.State.{Took, Finished, afterRead, afterWrite};
+
+// The longest line fits, and so does the total.
+const ROOM: usize = 512;
 
 pub struct State {
     // the bytes that are read and not yet used are input[at..end]
     pub at: usize,
     pub end: usize,
-    // no more will come
+    // no byte behind these will be used
     pub ended: bool,
     // output[..text] waits to be written
     pub text: usize,
     pub read: u64,
     pub refused: u64,
+    // the total stands at the end of the text
+    pub closed: bool,
     pub going: bool,
     // the operating system reported an error
     pub failed: bool,
 }
 
+// What a turn does.
+pub enum Next {
+    Write,
+    Take,
+    Total,
+    Read,
+}
+
+pub fn start() -> State
+    ensures { λ s. ⌜ s ≡ starting ⌝ }
+{
+    State {
+        at: 0,
+        end: 0,
+        ended: false,
+        text: 0,
+        read: 0,
+        refused: 0,
+        closed: false,
+        going: true,
+        failed: false,
+    }
+}
+
 // Whether the next record is there, or all that will come of it.
-pub fn is_there(input: &[u8], s: State) -> bool
+fn is_there(input: &[u8], s: State) -> bool
     requires { ⌜ (s .at ≤ s .«end») × (s .«end» ≤ length (now input)) ⌝ }
     ensures { λ r. ⌜ r ≡ isThere s (now (input .entry)) ⌝ }
 {
@@ -35,6 +67,30 @@ pub fn is_there(input: &[u8], s: State) -> bool
         return true;
     }
     record::record_length(input[at]) <= end - at
+}
+
+// Of an output of so many bytes.
+pub fn next_turn(input: &[u8], output: usize, s: State) -> Next
+    requires { ⌜ (s .at ≤ s .«end») × (s .«end» ≤ length (now input)) × (s .text ≤ output) ⌝ }
+    ensures { λ r. ⌜ r ≡ nextOf s (now (input .entry)) output ⌝ }
+{
+    if s.closed {
+        return Next::Write;
+    }
+    if output - s.text < ROOM {
+        return Next::Write;
+    }
+    if is_there(input, s) {
+        return Next::Take;
+    }
+    if s.ended {
+        return Next::Total;
+    }
+    // what waits is written before the program waits for input
+    if 0 < s.text {
+        return Next::Write;
+    }
+    Next::Read
 }
 
 fn count(s: State, step: Step) -> State
@@ -51,9 +107,10 @@ fn count(s: State, step: Step) -> State
     }
     if step.stop {
         return State {
+            at: s.end,
+            ended: true,
             text: step.end,
             refused: s.refused + 1,
-            going: false,
             ..s
         };
     }
@@ -68,11 +125,74 @@ fn count(s: State, step: Step) -> State
 // Takes the next record.
 pub fn take_record(input: &[u8], output: &mut [u8], s: State) -> State
     requires { ⌜ (s .at < s .«end») × (s .«end» ≤ length (now input))
-        × (s .text + 512 ≤ length (now output)) × (s .read + s .refused + 1 < 2 ^ 64) ⌝ }
+        × (s .text + room ≤ length (now output)) × (s .read + s .refused + 1 < 2 ^ 64) ⌝ }
     ensures { λ t. ⌜ Took s (now (input .entry)) (now (output .entry)) t (now (output .exit)) ⌝ }
 {
     let at = s.at;
     let end = s.end;
     let step = step::one(s.read + s.refused, &input[at..end], output, s.text);
     count(s, step)
+}
+
+// Puts the total behind the lines that wait.
+pub fn finish(output: &mut [u8], s: State) -> State
+    requires { ⌜ s .text + room ≤ length (now output) ⌝ }
+    ensures { λ t. ⌜ Finished s (now (output .entry)) t (now (output .exit)) ⌝ }
+{
+    let end = line::put_total(s.read, s.refused, output, s.text);
+    State {
+        text: end,
+        closed: true,
+        ..s
+    }
+}
+
+// After a read into fresh, which stands behind the unread bytes, answered got.
+pub fn after_read(got: isize, fresh: &[u8], s: State) -> State
+    requires { ⌜ (s .at ≤ s .«end») × (s .«end» - s .at + length (now fresh) < 2 ^ 64) ⌝ }
+    ensures { λ t. ⌜ t ≡ afterRead got (length (now (fresh .entry))) s ⌝ }
+{
+    let k = s.end - s.at;
+    if got < 0 {
+        return State {
+            at: 0,
+            end: k,
+            going: false,
+            failed: true,
+            ..s
+        };
+    }
+    if got == 0 {
+        return State {
+            at: 0,
+            end: k,
+            ended: true,
+            ..s
+        };
+    }
+    let more = io::count(got, fresh);
+    State {
+        at: 0,
+        end: k + more,
+        ..s
+    }
+}
+
+// After the text that waits was handed to the writer; done says whether it was written.
+pub fn after_write(done: bool, s: State) -> State
+    ensures { λ t. ⌜ t ≡ afterWrite done s ⌝ }
+{
+    if done {
+        return State {
+            text: 0,
+            going: !s.closed,
+            ..s
+        };
+    }
+    State {
+        text: 0,
+        going: false,
+        failed: true,
+        ..s
+    }
 }

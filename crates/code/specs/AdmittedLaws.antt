@@ -6,7 +6,7 @@ use Prim.Native.Nat.{ℕ, _^_, _≤_, _<_}
 use native.Mathlib.Omega.{arith}
 use native.Mathlib.Decide.{ℕ-discrete}
 use lib.IntN.{ℤ, pos, natAbs}
-use lib.ListN.{length, getD}
+use lib.ListN.{length}
 use borrow.Author.Tests.{eq-eqb, ne-eqb, lt-ltb, le-ltb}
 use Rattle.numbers.specs.Choice.{lt-or-le}
 use Rattle.words.specs.Kinds.{dimension}
@@ -16,8 +16,9 @@ use Rattle.code.specs.declared.Made.the-variants.{Good, Bad}
 use Rattle.code.specs.declared.Refusal.{Refusal}
 use Rattle.code.specs.declared.Refusal.the-variants.{Parameters, InputLength, OutputLength, Entry}
 use Rattle.code.specs.declared.Admitted.the-variants.{Allowed, Refused}
-use Rattle.code.specs.Sound.{made, largestReading, numberOf}
-use Rattle.code.specs.SoundLaws.{MadeOf, made-of, made-good}
+use Rattle.code.specs.Sound.{made, largestReading, numberOf, rm}
+use Rattle.code.specs.SoundLaws.{made-of, made-good}
+use Rattle.code.specs.SoundInput.{GoodReadings, SoundReadings}
 use Rattle.code.specs.Entries.{firstBadReading}
 use Rattle.code.specs.EntriesLaws.{first-none, good-readings}
 use Rattle.code.specs.Admitted.{admitted}
@@ -56,28 +57,23 @@ module _ (r m : ℕ) (l : List ℤ) (k n : ℕ) where
               rw (good, eq-eqb (length l) (2 ^ c .m) long, eq-eqb k (dimension (c .r) (c .m)) bits, eq-eqb n (2 ^ c .m) word, le-ltb place (length l) h)
 
 -- ---- and back
--- none of the tests applies
-pub record Allows (r m : ℕ) (l : List ℤ) (k n : ℕ) (c : Code) : Type 0 where
-  pub code : MadeOf r m c
-  pub long : length l ≡ 2 ^ c .m
-  pub bits : k ≡ dimension (c .r) (c .m)
-  pub word : n ≡ 2 ^ c .m
-  pub within : (i : ℕ) → natAbs (getD l i (pos 0)) ≤ largestReading
-
 pub data Decided (r m : ℕ) (l : List ℤ) (k n : ℕ) : Type 0 where
-  allows : (c : Code) → Allowed c ≡ admitted r m l k n → Allows r m l k n c → Decided r m l k n
+  allows : (c : Code) → Allowed c ≡ admitted r m l k n → c ≡ rm r m → SoundReadings c l k n → Decided r m l k n
   refuses : (why : Refusal) → Refused why ≡ admitted r m l k n → numberOf why < 5 → Decided r m l k n
 
 module _ (r m : ℕ) (l : List ℤ) (k n : ℕ) where
   decided-good : (c : Code) → made r m ≡ Good c → Decided r m l k n
   decided-good c good =
+      let made = made-of r m c good in
       elim (ℕ-discrete (length l) (2 ^ c .m)) [
         | yes e ↦ elim (ℕ-discrete k (dimension (c .r) (c .m))) [
           | yes b ↦ elim (ℕ-discrete n (2 ^ c .m)) [
             | yes w ↦ ⊎-elim
                 (λ h. refuses (Entry (firstBadReading largestReading l)) (refused-entry r m l k n c good e b w h) (omega arith))
-                (λ h. allows c (allowed r m l k n c good e b w h)
-                (record { code = made-of r m c good; long = e; bits = b; word = w; within = good-readings largestReading l h }))
+                (λ h.
+                let entries : GoodReadings c l = record { long = e; within = good-readings largestReading l h } in
+                allows c (allowed r m l k n c good e b w h) (made .same)
+                (record { sound = made .sound; long-bits = b; long-word = w; entries = entries }))
                 (lt-or-le (firstBadReading largestReading l) (length l))
             | no w ↦ refuses OutputLength (refused-word r m l k n c good e b w) (omega arith)
           ]
@@ -93,16 +89,22 @@ module _ (r m : ℕ) (l : List ℤ) (k n : ℕ) where
   pub decided : Decided r m l k n
   decided = decided-by (made r m) refl
 
-  pub allows-all : (c : Code) → Allowed c ≡ admitted r m l k n → Allows r m l k n c
-  allows-all c e =
+  pub allowed-sound : (c : Code) → Allowed c ≡ admitted r m l k n → SoundReadings c l k n
+  allowed-sound c e =
       elim decided [
-        | allows d f a ↦ let same : c ≡ d = cc in rw same a
+        | allows d f is a ↦ let same : c ≡ d = cc in rw same a
         | refuses why f h ↦ let z : _≡_ {A = ℕ} 0 1 = cc in absurd (omega arith)
       ]
 
-  pub all-allowed : (c : Code) → Allows r m l k n c → Allowed c ≡ admitted r m l k n
-  all-allowed c a =
-      let small = a .code .sound in
-      let good : made r m ≡ Good c = rw (a .code .same) (made-good r m (rw (a .code .same) at (small .m-small)) (rw (a .code .same) at (small .r-small))) in
-      let none = first-none (pos 0) natAbs largestReading l (length l) (λ j h. a .within j) refl in
-      allowed r m l k n c good (a .long) (a .bits) (a .word) (omega (arith, none))
+  pub refused-small : (why : Refusal) → Refused why ≡ admitted r m l k n → numberOf why < 5
+  refused-small why e =
+      elim decided [
+        | allows c f is a ↦ let z : _≡_ {A = ℕ} 0 1 = cc in absurd (omega arith)
+        | refuses given f h ↦ let same : why ≡ given = cc in rw same h
+      ]
+
+  pub sound-allowed : SoundReadings (rm r m) l k n → Allowed (rm r m) ≡ admitted r m l k n
+  sound-allowed a =
+      let good = made-good r m (a .sound .m-small) (a .sound .r-small) in
+      let none = first-none (pos 0) natAbs largestReading l (length l) (λ j h. a .entries .within j) refl in
+      allowed r m l k n (rm r m) good (a .entries .long) (a .long-bits) (a .long-word) (omega (arith, none))

@@ -1,27 +1,27 @@
--- A refusal is known by its number and the values that it carries. Only 6 and 7 carry a penalty or visits.
-use mathlib.Core.Path.{_≡_, refl, sym, _∙_}
+-- A refusal is known by its number and the values that it carries. Only 6 and 7 carry more than a place.
+use mathlib.Core.Path.{_≡_, refl, ap, sym, _∙_}
 use mathlib.Core.Bool.{cond}
 use Prim.Native.Nat.{ℕ, _<_}
 use native.Mathlib.Omega.{arith}
 use lib.Dec.{eqb}
 use Rattle.code.specs.declared.Refusal.{Refusal}
 use Rattle.code.specs.declared.Refusal.the-variants.{Parameters, InputLength, OutputLength, Entry, NotAWord, OutOfVisits, Tied, Torn, Pad, Map}
-use Rattle.code.specs.Sound.{numberOf, placeOf, penaltyOf, visitsOf}
+use Rattle.code.specs.Sound.{Carried, carrying, carried, numberOf}
 
 -- the refusal of a number that carries these values
-abbrev refusalOf : ℕ → ℕ → ℕ → ℕ → Refusal
-refusalOf number place penalty visits =
-    cond (eqb number 1) Parameters
-    (cond (eqb number 2) InputLength
-    (cond (eqb number 3) OutputLength
-    (cond (eqb number 4) (Entry place)
-    (cond (eqb number 5) (NotAWord place)
-    (cond (eqb number 6) (OutOfVisits visits)
-    (cond (eqb number 7) (Tied penalty visits)
-    (cond (eqb number 8) Torn
-    (cond (eqb number 9) Pad Map))))))))
+abbrev refusalOf : Carried → Refusal
+refusalOf c =
+    cond (eqb (c .number) 1) Parameters
+    (cond (eqb (c .number) 2) InputLength
+    (cond (eqb (c .number) 3) OutputLength
+    (cond (eqb (c .number) 4) (Entry (c .place))
+    (cond (eqb (c .number) 5) (NotAWord (c .place))
+    (cond (eqb (c .number) 6) (OutOfVisits (c .visits))
+    (cond (eqb (c .number) 7) (Tied (c .penalty) (c .visits))
+    (cond (eqb (c .number) 8) Torn
+    (cond (eqb (c .number) 9) Pad Map))))))))
 
-refusal-is : (why : Refusal) → refusalOf (numberOf why) (placeOf why) (penaltyOf why) (visitsOf why) ≡ why
+refusal-is : (why : Refusal) → refusalOf (carried why) ≡ why
 refusal-is Parameters = refl
 refusal-is InputLength = refl
 refusal-is OutputLength = refl
@@ -33,9 +33,8 @@ refusal-is Torn = refl
 refusal-is Pad = refl
 refusal-is Map = refl
 
-pub refusal-only : (why why′ : Refusal) → numberOf why ≡ numberOf why′ → placeOf why ≡ placeOf why′ → penaltyOf why ≡ penaltyOf why′ → visitsOf why ≡ visitsOf why′
-    → why ≡ why′
-refusal-only why why′ n p q v = sym (refusal-is why) ∙ rw (n, p, q, v) (refusal-is why′)
+pub refusal-only : (why why′ : Refusal) → carried why ≡ carried why′ → why ≡ why′
+refusal-only why why′ e = sym (refusal-is why) ∙ ap refusalOf e ∙ refusal-is why′
 
 -- 0 is no refusal's number
 pub number-above : (why : Refusal) → 0 < numberOf why
@@ -51,14 +50,14 @@ number-above Pad = omega arith
 number-above Map = omega arith
 
 -- no penalty and no visits but under 6 and 7
-pub carries-none : (why : Refusal) → (numberOf why ≡ 6 → ⊥) → (numberOf why ≡ 7 → ⊥) → (penaltyOf why ≡ 0) × (visitsOf why ≡ 0)
-carries-none Parameters f g = (refl, refl)
-carries-none InputLength f g = (refl, refl)
-carries-none OutputLength f g = (refl, refl)
-carries-none (Entry place) f g = (refl, refl)
-carries-none (NotAWord index) f g = (refl, refl)
+pub carries-none : (why : Refusal) → (numberOf why ≡ 6 → ⊥) → (numberOf why ≡ 7 → ⊥) → carried why ≡ carrying (numberOf why) (carried why .place) 0 0
+carries-none Parameters f g = refl
+carries-none InputLength f g = refl
+carries-none OutputLength f g = refl
+carries-none (Entry place) f g = refl
+carries-none (NotAWord index) f g = refl
 carries-none (OutOfVisits allowed) f g = absurd (f refl)
 carries-none (Tied penalty visits) f g = absurd (g refl)
-carries-none Torn f g = (refl, refl)
-carries-none Pad f g = (refl, refl)
-carries-none Map f g = (refl, refl)
+carries-none Torn f g = refl
+carries-none Pad f g = refl
+carries-none Map f g = refl

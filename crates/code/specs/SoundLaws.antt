@@ -1,22 +1,18 @@
--- Laws of the code parameters: what the tests on r and m show, the table of dimensions, and the row of kinds as it is filled.
-use mathlib.Core.Path.{_≡_, ap, _∙_}
+-- Laws of the code parameters: what the tests on r and m show, and the row of kinds as it is filled.
+use mathlib.Core.Path.{_≡_}
 use mathlib.Core.Logic.{⊎-elim}
-use mathlib.Core.List.{List, []}
 use Prim.Native.Nat.{ℕ, _-_, _^_, _≤_, _<_}
 use native.Mathlib.Omega.{arith}
 use lib.Count as Count
-use lib.ListN.{getD}
 use lib.Pow.{pow-mono}
 use borrow.Author.Tests.{le-leb, lt-leb}
 use Rattle.numbers.specs.Choice.{lt-or-le}
-use Rattle.numbers.specs.Sums.{tabulate}
-use Rattle.numbers.specs.SumsLaws.{getD-tabulate}
 use Rattle.words.specs.BitLaws.{ones-counted}
 use Rattle.words.specs.Kinds.{kind, dimension}
 use Rattle.words.specs.KindLaws.{dimension-most}
 use Rattle.code.specs.declared.Code.{Code}
 use Rattle.code.specs.declared.Made.the-variants.{Good, Bad}
-use Rattle.code.specs.Sound.{Sound, made, largestM}
+use Rattle.code.specs.Sound.{Sound, made, largestM, rm}
 
 module _ (r m : ℕ) where
   pub made-large : largestM < m → made r m ≡ Bad
@@ -27,7 +23,7 @@ module _ (r m : ℕ) where
   unfolding made
   made-crossed h k = rw (le-leb m largestM h, lt-leb r m k)
 
-  pub made-good : m ≤ largestM → r ≤ m → made r m ≡ Good (record { r = r; m = m })
+  pub made-good : m ≤ largestM → r ≤ m → made r m ≡ Good (rm r m)
   unfolding made
   made-good h k = rw (le-leb m largestM h, le-leb r m k)
 
@@ -41,17 +37,9 @@ module _ (r m : ℕ) where
     unfolding kind
     kind-zero k = rw (lt-leb (m - r) _ (rw (ones-counted m i h) at k))
 
--- what the constant table of the code holds
-pub dimensions-at : (table : List (List ℕ)) → table ≡ tabulate (λ m. tabulate (λ r. dimension r m) 9) 9
-    → (r m : ℕ) → r ≤ m → m ≤ largestM → getD (getD table m []) r 0 ≡ dimension r m
-dimensions-at table e r m h k =
-    ap (λ (t : List (List ℕ)). getD (getD t m []) r 0) e
-    ∙ ap (λ (t : List ℕ). getD t r 0) (getD-tabulate (λ m. tabulate (λ r. dimension r m) 9) 9 m [] (omega arith))
-    ∙ getD-tabulate (λ r. dimension r m) 9 r 0 (omega arith)
-
 -- what a code that is made shows: it is the code of r and m, and sound
 pub record MadeOf (r m : ℕ) (c : Code) : Type 0 where
-  pub same : c ≡ record { r = r; m = m }
+  pub same : c ≡ rm r m
   pub sound : Sound c
 
 pub made-of : (r m : ℕ) (c : Code) → made r m ≡ Good c → MadeOf r m c
@@ -62,7 +50,7 @@ made-of r m c e =
     ⊎-elim
     (λ crossed. let z : _≡_ {A = ℕ} 0 1 = cc (made-crossed r m small crossed) in absurd (omega arith))
     (λ within.
-    let same : c ≡ record { r = r; m = m } = cc (made-good r m small within) in
+    let same : c ≡ rm r m = cc (made-good r m small within) in
     record { same = same; sound = rw same (record { r-small = within; m-small = small }) })
     (lt-or-le m r))
     (lt-or-le largestM m)

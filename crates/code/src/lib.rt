@@ -1,13 +1,14 @@
 // The code-parameter type: the limits, the tests on r and m, length, dimension and index kind;
 // the refusals and their numbers. This is the one place for all of them.
 ghost use mathlib.Core.Path.{_≡_};
-ghost use Prim.Native.Nat.{_<_, _^_};
+ghost use Prim.Native.Nat.{_≤_, _<_, _^_};
 ghost use lib.ListN.{length};
 ghost use lib.IntN.{natAbs};
 ghost use lib.Dec.{ltb};
+ghost use Rattle.numbers.specs.Sums.{tabulate};
 ghost use Rattle.words.specs.Kinds.{kind, kinds, dimension};
-ghost use Rattle.code.specs.Sound.{Sound, largestReading, made, numberOf, placeOf, penaltyOf, visitsOf};
-ghost use Rattle.code.specs.Entries.{firstBadBit, firstBadReading};
+ghost use Rattle.code.specs.Sound.{Sound, largestM, largestReading, made, carried};
+ghost use Rattle.code.specs.Entries.{someBadBit, firstBadBit, someBadReading, firstBadReading};
 ghost use Rattle.code.specs.Admitted.{admitted};
 
 // The parameters of RM(r,m).
@@ -45,18 +46,24 @@ pub enum Admitted {
     Refused(Refusal),
 }
 
-// The number k of information bits: row m, column r.
-const DIMENSIONS: [[usize; 9]; 9] = [
-    [1, 1, 1, 1, 1, 1, 1, 1, 1],
-    [1, 2, 2, 2, 2, 2, 2, 2, 2],
-    [1, 3, 4, 4, 4, 4, 4, 4, 4],
-    [1, 4, 7, 8, 8, 8, 8, 8, 8],
-    [1, 5, 11, 15, 16, 16, 16, 16, 16],
-    [1, 6, 16, 26, 31, 32, 32, 32, 32],
-    [1, 7, 22, 42, 57, 63, 64, 64, 64],
-    [1, 8, 29, 64, 99, 120, 127, 128, 128],
-    [1, 9, 37, 93, 163, 219, 247, 255, 256],
-];
+// The numbers k of information bits of RM(0,m), RM(1,m), .. RM(8,m). A match, since a constant
+// table would be built on the stack at each use.
+fn dimensions(m: u32) -> [u16; 9]
+    requires { ⌜ m ≤ largestM ⌝ }
+    ensures { λ row. ⌜ row ≡ tabulate (λ r. dimension r m) 9 ⌝ }
+{
+    match m {
+        0 => [1, 1, 1, 1, 1, 1, 1, 1, 1],
+        1 => [1, 2, 2, 2, 2, 2, 2, 2, 2],
+        2 => [1, 3, 4, 4, 4, 4, 4, 4, 4],
+        3 => [1, 4, 7, 8, 8, 8, 8, 8, 8],
+        4 => [1, 5, 11, 15, 16, 16, 16, 16, 16],
+        5 => [1, 6, 16, 26, 31, 32, 32, 32, 32],
+        6 => [1, 7, 22, 42, 57, 63, 64, 64, 64],
+        7 => [1, 8, 29, 64, 99, 120, 127, 128, 128],
+        _ => [1, 9, 37, 93, 163, 219, 247, 255, 256],
+    }
+}
 
 impl Code {
     pub const LARGEST_M: u32 = 8;
@@ -90,9 +97,9 @@ impl Code {
         requires { ⌜ Sound self ⌝ }
         ensures { λ k. ⌜ k ≡ dimension (self .r) (self .m) ⌝ }
     {
-        let m = self.m as usize;
+        let row = dimensions(self.m);
         let r = self.r as usize;
-        DIMENSIONS[m][r]
+        row[r] as usize
     }
 
     // 1 at an information index, 0 at a frozen one.
@@ -120,10 +127,26 @@ pub fn put_kinds(code: Code, row: &mut [u8])
     }
 }
 
+// Whether some byte is above 1: without an early end, so that many bytes are tested at once.
+fn some_bad_bit(bits: &[u8]) -> bool
+    ensures { λ some. ⌜ some ≡ someBadBit (now (bits .entry)) ⌝ }
+{
+    let mut some = false;
+    let mut i = 0;
+    while i < bits.len() {
+        some = some | (1 < bits[i]);
+        i += 1;
+    }
+    some
+}
+
 // The lowest place of a byte above 1, or the length where there is none.
 pub fn first_bad_bit(bits: &[u8]) -> usize
     ensures { λ place. ⌜ place ≡ firstBadBit (now (bits .entry)) ⌝ }
 {
+    if !some_bad_bit(bits) {
+        return bits.len();
+    }
     let mut i = 0;
     while i < bits.len() {
         if 1 < bits[i] {
@@ -144,10 +167,26 @@ fn beyond(reading: i16) -> bool
     Code::LARGEST_READING < reading
 }
 
+// Whether some reading is beyond the largest.
+fn some_bad_reading(readings: &[i16]) -> bool
+    ensures { λ some. ⌜ some ≡ someBadReading largestReading (now (readings .entry)) ⌝ }
+{
+    let mut some = false;
+    let mut i = 0;
+    while i < readings.len() {
+        some = some | beyond(readings[i]);
+        i += 1;
+    }
+    some
+}
+
 // The lowest place of a reading beyond the largest, or the length where there is none.
 pub fn first_bad_reading(readings: &[i16]) -> usize
     ensures { λ place. ⌜ place ≡ firstBadReading largestReading (now (readings .entry)) ⌝ }
 {
+    if !some_bad_reading(readings) {
+        return readings.len();
+    }
     let mut i = 0;
     while i < readings.len() {
         if beyond(readings[i]) {
@@ -185,7 +224,7 @@ pub fn admit(r: u32, m: u32, readings: &[i16], bits: usize, word: usize) -> Admi
 impl Refusal {
     // The rules' number.
     pub fn number(self) -> u32
-        ensures { λ r. ⌜ r ≡ numberOf self ⌝ }
+        ensures { λ r. ⌜ r ≡ carried self .number ⌝ }
     {
         match self {
             Refusal::Parameters => 1,
@@ -206,7 +245,7 @@ impl Refusal {
 
     // The place that 4 and 5 carry, else 0.
     pub fn place(self) -> usize
-        ensures { λ r. ⌜ r ≡ placeOf self ⌝ }
+        ensures { λ r. ⌜ r ≡ carried self .place ⌝ }
     {
         match self {
             Refusal::Entry(place) => place,
@@ -227,7 +266,7 @@ impl Refusal {
 
     // The least penalty under 7, else 0.
     pub fn penalty(self) -> u32
-        ensures { λ r. ⌜ r ≡ penaltyOf self ⌝ }
+        ensures { λ r. ⌜ r ≡ carried self .penalty ⌝ }
     {
         match self {
             Refusal::Tied { penalty, visits: _ } => penalty,
@@ -245,7 +284,7 @@ impl Refusal {
 
     // The allowance under 6, the walk's visits under 7, else 0.
     pub fn visits(self) -> u32
-        ensures { λ r. ⌜ r ≡ visitsOf self ⌝ }
+        ensures { λ r. ⌜ r ≡ carried self .visits ⌝ }
     {
         match self {
             Refusal::OutOfVisits(allowed) => allowed,

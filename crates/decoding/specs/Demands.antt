@@ -19,7 +19,8 @@ use Rattle.decoding.specs.Answer.{Answer, found, tied, outOfVisits, answ
 
 -- ---- Demand 1
 -- Any numbers at all may be handed in. Wrong parameters, lengths or entries get the refusal that the rules name; every refusal leaves the lent buffers
--- unchanged; every call ends. This is said by the contract of each public call: it asks nothing, and one equation fixes answer and buffers for all input.
+-- unchanged; every call ends. The contract of each public call asks nothing and fixes answer and buffers for all input by one equation; that the refusals are
+-- those that the rules name is `Demand1` of the crate `code`, which the outcomes of each call meet.
 
 -- ---- Demand 2
 -- Encoding and taking the information back follow the published definition.

@@ -1,7 +1,6 @@
 -- Laws of the two combining steps and of the rows they make: sizes, signs, lengths, entries, penalties.
 -- The sum of sizes never grows by a step, so one bound serves all rows.
 use mathlib.Core.Path.{_≡_, refl, ap, ap₂, sym, _∙_}
-use mathlib.Core.Bool.{not, true≢false}
 use mathlib.Core.List.{List, [], _∷_, _++_}
 use Prim.Native.Nat.{ℕ, zero, suc, _+_, _*_, _^_, _%_, _≤_, _<_, zero-le, min}
 use native.Mathlib.Omega.{arith}
@@ -9,11 +8,9 @@ use native.Mathlib.Nat.{suc-inj, suc-ne-zero, not-suc-le-zero, le-of-suc-le-suc,
 use lib.ListN.{length, getD, take, drop, take-append-drop}
 use lib.Seq.{getD-take, getD-drop}
 use lib.IntN.{ℤ, pos, negsuc, natAbs, _+ℤ_, _-ℤ_, negℤ, negℤ-negℤ}
-use lib.Signed.{ltZ}
-use borrow.Author.Tests.{ltb-true, le-ltb}
 use Rattle.numbers.specs.Parts.{up, down}
 use Rattle.numbers.specs.Halves.{length-first-half, equal-halves}
-use Rattle.numbers.specs.PartsLaws.{parts, sum-parts, negated, by-signs, less-parts}
+use Rattle.numbers.specs.PartsLaws.{parts, sum-parts, negated, by-signs}
 use Rattle.words.specs.Bits.{Bits, xors}
 use Rattle.decoding.specs.Readings.{loss, penalty, sizes, Within}
 use Rattle.decoding.specs.Quick.{lower, upper, lowers, uppers, lowerRow, upperRow}
@@ -42,19 +39,6 @@ lower-negated (pos (suc x)) (pos y) = refl
 lower-negated (pos (suc x)) (negsuc y) = sym (negℤ-negℤ _)
 lower-negated (negsuc x) (pos y) = sym (negℤ-negℤ _)
 lower-negated (negsuc x) (negsuc y) = refl
-
--- by the signs, as code tests them
-pub lower-same : (x y : ℤ) → ltZ x (pos 0) ≡ ltZ y (pos 0) → lower x y ≡ pos (min (natAbs x) (natAbs y))
-lower-same (pos x) (pos y) e = refl
-lower-same (pos x) (negsuc y) e = absurd (omega (arith, less-parts (negsuc y) (pos 0) refl, less-parts (pos x) (pos 0) e))
-lower-same (negsuc x) (pos y) e = absurd (omega (arith, less-parts (pos y) (pos 0) (sym e)))
-lower-same (negsuc x) (negsuc y) e = refl
-
-pub lower-differ : (x y : ℤ) → ltZ x (pos 0) ≡ not (ltZ y (pos 0)) → lower x y ≡ negℤ (pos (min (natAbs x) (natAbs y)))
-lower-differ (pos x) (pos y) e = absurd (omega (arith, ltb-true x 0 (e ∙ ap not (le-ltb y 0 zero-le))))
-lower-differ (pos x) (negsuc y) e = refl
-lower-differ (negsuc x) (pos y) e = refl
-lower-differ (negsuc x) (negsuc y) e = absurd (true≢false e)
 
 pub record LowerParts (x y : ℤ) : Type 0 where
   pub up-lower : up (lower x y) ≡ min (up x) (up y) + min (down x) (down y)

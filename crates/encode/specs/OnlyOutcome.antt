@@ -5,27 +5,31 @@ use Prim.Native.Nat.{ℕ, _^_, _<_}
 use native.Mathlib.Omega.{arith}
 use Rattle.words.specs.Kinds.{kinds, dimension, encoded}
 use Rattle.words.specs.Inverse.{TakenBack, taken, frozenOne, takenBack}
-use Rattle.code.specs.RefusalLaws.{refusal-only, number-above, carries-none}
+use Rattle.code.specs.Sound.{carrying}
+use Rattle.code.specs.RefusalLaws.{refusal-only, carries-none, number-above}
 use Rattle.encode.specs.declared.Encoded.{Encoded}
 use Rattle.encode.specs.declared.Encoded.the-variants.{Done, Refused}
-use Rattle.encode.specs.Outcome.{Outcome, numberIn, placeIn, told, done, encoding, inverting, takingBack}
+use Rattle.encode.specs.Outcome.{Outcome, told, done, encoding, inverting, takingBack}
 use Rattle.encode.specs.OutcomeLaws.{tested-small}
 
--- what is told tells every answer apart whose number is below 6
-answer-only : (a b : Encoded) → numberIn a < 6 → numberIn a ≡ numberIn b → placeIn a ≡ placeIn b → a ≡ b
-answer-only Done Done h e f = refl
-answer-only Done (Refused why) h e f = absurd (omega (arith, number-above why))
-answer-only (Refused why) Done h e f = absurd (omega (arith, number-above why))
-answer-only (Refused why) (Refused why′) h e f =
-    let none = carries-none why (λ k. omega arith) (λ k. omega arith) in
-    let none′ = carries-none why′ (λ k. omega arith) (λ k. omega arith) in
-    ap Refused (refusal-only why why′ e f (none .0 ∙ sym (none′ .0)) (none .1 ∙ sym (none′ .1)))
+-- two answers that tell the same, below number 6
+same-answer : (a b : Encoded) (x y : List ℕ) → told a x ≡ told b y → told a x .number < 6 → a ≡ b
+same-answer Done Done x y e h = refl
+same-answer Done (Refused why) x y e h = absurd (omega (arith, number-above why, ap (λ (o : Outcome). o .number) e))
+same-answer (Refused why) Done x y e h = absurd (omega (arith, number-above why, ap (λ (o : Outcome). o .number) e))
+same-answer (Refused why) (Refused why′) x y e h =
+    let number = ap (λ (o : Outcome). o .number) e in
+    let carry = ap (λ (o : Outcome). carrying (o .number) (o .place) 0 0) e in
+    ap Refused (refusal-only why why′ (carries-none why (λ k. omega arith) (λ k. omega arith) ∙ carry ∙ sym (carries-none why′ (λ k. omega arith) (λ k. omega arith))))
+
+buffer-told : (a : Encoded) (x : List ℕ) → told a x .buffer ≡ x
+buffer-told Done x = refl
+buffer-told (Refused why) x = refl
 
 only : (o : Outcome) → o .number < 6 → (a b : Encoded) (x y : List ℕ) → told a x ≡ o → told b y ≡ o → (a ≡ b) × (x ≡ y)
 only o small a b x y e f =
-    let same : told a x ≡ told b y = e ∙ sym f in
-    let less : numberIn a < 6 = omega (arith, ap (λ (p : Outcome). p .number) e) in
-    (answer-only a b less (ap (λ (p : Outcome). p .number) same) (ap (λ (p : Outcome). p .place) same), ap (λ (p : Outcome). p .buffer) same)
+    let same = e ∙ sym f in
+    (same-answer a b x y same (rw e small), sym (buffer-told a x) ∙ ap (λ (p : Outcome). p .buffer) same ∙ buffer-told b y)
 
 -- every outcome has such a number
 taking-small : (t : TakenBack) (bits : List ℕ) → takingBack t bits .number < 6

@@ -1,5 +1,5 @@
 -- The outcome at each place where a call returns, and what an outcome says of the tests 1 to 4.
-use mathlib.Core.Path.{_≡_, refl, ap, sym, _∙_}
+use mathlib.Core.Path.{_≡_, refl, ap, sym, _∙_, subst}
 use mathlib.Core.List.{List}
 use mathlib.Core.Logic.{_⊎_, inl, inr, ⊎-elim}
 use mathlib.Core.Bool.{true, false, cond}
@@ -12,35 +12,40 @@ use borrow.Author.Tests.{eq-eqb, ne-eqb, lt-ltb, le-ltb}
 use Rattle.numbers.specs.Choice.{lt-or-le}
 use Rattle.words.specs.Bits.{Bits}
 use Rattle.words.specs.Word.{transform}
-use Rattle.words.specs.Kinds.{dimension, pick}
+use Rattle.words.specs.Kinds.{kinds, dimension, pick, encoded}
 use Rattle.words.specs.Inverse.{taken, frozenOne, firstFrozenOne, takenBack}
 use Rattle.code.specs.declared.Code.{Code}
 use Rattle.code.specs.declared.Made.{Made}
 use Rattle.code.specs.declared.Made.the-variants.{Good, Bad}
-use Rattle.code.specs.Sound.{made}
-use Rattle.code.specs.SoundLaws.{made-of}
+use Rattle.code.specs.declared.Refusal.{Refusal}
+use Rattle.code.specs.declared.Refusal.the-variants.{Parameters, InputLength, OutputLength, Entry, NotAWord}
+use Rattle.code.specs.Sound.{Sound, made, numberOf, rm}
+use Rattle.code.specs.SoundInput.{SoundInput}
+use Rattle.code.specs.SoundLaws.{made-of, made-good}
+use Rattle.code.specs.RefusalLaws.{number-above}
 use Rattle.code.specs.Entries.{firstBadBit}
 use Rattle.code.specs.EntriesLaws.{first-none, good-bits}
-use Rattle.encode.specs.Outcome.{Outcome, Passes, done, refused, tested, takingRow, takingBack}
+use Rattle.encode.specs.Outcome.{Outcome, done, refused, tested, encoding, inverting, takingBack}
+use Rattle.encode.specs.Work.{takingRow}
 
 -- ---- the tests, one after the other, with the numbers k and n that the code compares
 module _ (r m : ℕ) (input : List ℕ) (long : ℕ) (output : List ℕ) (room : ℕ) (rest : Outcome) where
-  pub tested-parameters : made r m ≡ Bad → refused 1 0 output ≡ tested r m input long output room rest
+  pub tested-parameters : made r m ≡ Bad → refused Parameters output ≡ tested r m input long output room rest
   unfolding tested
   tested-parameters e = rw e
 
   module _ {c : Code} (good : made r m ≡ Good c) {k : ℕ} (e : k ≡ long) where
-    pub tested-input : (length input ≡ k → ⊥) → refused 2 0 output ≡ tested r m input long output room rest
+    pub tested-input : (length input ≡ k → ⊥) → refused InputLength output ≡ tested r m input long output room rest
     unfolding tested
     tested-input wrong = rw (good, ne-eqb (length input) long (λ h. wrong (h ∙ sym e)))
 
     module _ (a : length input ≡ k) {n : ℕ} (f : n ≡ room) where
-      pub tested-output : (length output ≡ n → ⊥) → refused 3 0 output ≡ tested r m input long output room rest
+      pub tested-output : (length output ≡ n → ⊥) → refused OutputLength output ≡ tested r m input long output room rest
       unfolding tested
       tested-output wrong = rw (good, eq-eqb (length input) long (a ∙ e), ne-eqb (length output) room (λ h. wrong (h ∙ sym f)))
 
       module _ (b : length output ≡ n) {i : ℕ} (place : i ≡ firstBadBit input) where
-        pub tested-entry : i < length input → refused 4 i output ≡ tested r m input long output room rest
+        pub tested-entry : i < length input → refused (Entry i) output ≡ tested r m input long output room rest
         unfolding tested
         tested-entry h =
             rw (good, eq-eqb (length input) long (a ∙ e), eq-eqb (length output) room (b ∙ f), ← place, lt-ltb i (length input) h)
@@ -62,51 +67,72 @@ good-or-bad : (x : Made) → ((c : Code) × (x ≡ Good c)) ⊎ (x ≡ Bad)
 good-or-bad (Good c) = inl (c, refl)
 good-or-bad Bad = inr refl
 
-all-bits : (l : List ℕ) → Bits l → length l ≡ firstBadBit l
-all-bits l h = first-none 0 (λ b. b) 1 l (length l) (λ j k. omega (arith, h j)) refl
-
 module _ (r m : ℕ) (input : List ℕ) (long : ℕ) (output : List ℕ) (room : ℕ) (rest : Outcome) where
-  pub passes-all : Passes r m input long output room → tested r m input long output room rest ≡ rest
-  passes-all p =
-      let place = all-bits input (p .are-bits) in
-      sym (tested-all r m input long output room rest (p .is-made) refl (p .input-long) refl (p .output-long) place (omega arith))
+  passes-all : Sound (rm r m) → length input ≡ long → length output ≡ room → Bits input → tested r m input long output room rest ≡ rest
+  passes-all s i o b =
+      let place = first-none 0 (λ x. x) 1 input (length input) (λ j k. omega (arith, b j)) refl in
+      sym (tested-all r m input long output room rest (made-good r m (s .m-small) (s .r-small)) refl i refl o place (omega arith))
+
+  refuses : {A : Type 0} (why : Refusal) → numberOf why < 5 → refused why output ≡ tested r m input long output room rest
+      → A ⊎ ((0 < tested r m input long output room rest .number) × (tested r m input long output room rest .number < 5))
+  refuses why h e = inr (rw (← e) (number-above why, h))
 
   -- either none applies, or the outcome has the number of one
-  Decided : Type 0
-  Decided = Passes r m input long output room ⊎ ((0 < tested r m input long output room rest .number) × (tested r m input long output room rest .number < 5))
-
-  refuses : (n place : ℕ) → 0 < n → n < 5 → tested r m input long output room rest ≡ refused n place output → Decided
-  unfolding Decided
-  refuses n place a b e = inr (rw e (a, b))
-
-  decided : Decided
-  unfolding Decided
+  decided : (Sound (rm r m) × (length input ≡ long) × (length output ≡ room) × Bits input)
+      ⊎ ((0 < tested r m input long output room rest .number) × (tested r m input long output room rest .number < 5))
   decided =
       ⊎-elim
       (λ g. elim (ℕ-discrete (length input) long) [
         | yes i ↦ elim (ℕ-discrete (length output) room) [
           | yes o ↦ ⊎-elim
-              (λ h. refuses 4 (firstBadBit input) (omega arith) (omega arith) (sym (tested-entry r m input long output room rest (g .1) refl i refl o refl h)))
-              (λ h. inl (record { code = g .0; is-made = g .1; input-long = i; output-long = o; are-bits = good-bits input h }))
+              (λ h. refuses (Entry (firstBadBit input)) (omega arith) (tested-entry r m input long output room rest (g .1) refl i refl o refl h))
+              (λ h.
+              let made = made-of r m (g .0) (g .1) in
+              inl (subst Sound (made .same) (made .sound), i, o, good-bits input h))
               (lt-or-le (firstBadBit input) (length input))
-          | no o ↦ refuses 3 0 (omega arith) (omega arith) (sym (tested-output r m input long output room rest (g .1) refl i refl o))
+          | no o ↦ refuses OutputLength (omega arith) (tested-output r m input long output room rest (g .1) refl i refl o)
         ]
-        | no i ↦ refuses 2 0 (omega arith) (omega arith) (sym (tested-input r m input long output room rest (g .1) refl i))
+        | no i ↦ refuses InputLength (omega arith) (tested-input r m input long output room rest (g .1) refl i)
       ])
-      (λ e. refuses 1 0 (omega arith) (omega arith) (sym (tested-parameters r m input long output room rest e)))
+      (λ e. refuses Parameters (omega arith) (tested-parameters r m input long output room rest e))
       (good-or-bad (made r m))
 
   pub tested-small : rest .number < 6 → tested r m input long output room rest .number < 6
-  unfolding Decided
-  tested-small h = ⊎-elim (λ p. rw (passes-all p) h) (λ n. omega arith) decided
+  tested-small h = ⊎-elim (λ p. rw (passes-all (p .0) (p .1) (p .2) (p .3)) h) (λ n. omega arith) decided
 
-  pub passes : (tested r m input long output room rest .number ≡ 0) ⊎ (5 ≤ tested r m input long output room rest .number) → Passes r m input long output room
-  unfolding Decided
+  passes : (tested r m input long output room rest .number ≡ 0) ⊎ (5 ≤ tested r m input long output room rest .number)
+      → Sound (rm r m) × (length input ≡ long) × (length output ≡ room) × Bits input
   passes h = ⊎-elim (λ p. p) (λ n. absurd (⊎-elim (λ e. omega arith) (λ e. omega arith) h)) decided
+
+-- ---- sound input is what the tests 1 to 4 let through
+module _ (r m : ℕ) (bits word : List ℕ) where
+  pub sound-encoding : SoundInput (rm r m) (length bits) (length word) (Bits bits) → encoding r m bits word ≡ done (encoded m (kinds r m) bits)
+  unfolding encoding
+  sound-encoding s =
+      passes-all r m bits (dimension r m) word (2 ^ m) (done (encoded m (kinds r m) bits)) (s .sound) (s .long-bits) (s .long-word) (s .entries)
+
+  pub encoding-sound : encoding r m bits word .number ≡ 0 → SoundInput (rm r m) (length bits) (length word) (Bits bits)
+  unfolding encoding
+  encoding-sound z =
+      let p = passes r m bits (dimension r m) word (2 ^ m) (done (encoded m (kinds r m) bits)) (inl z) in
+      record { sound = p .0; long-bits = p .1; long-word = p .2; entries = p .3 }
+
+  pub sound-inverting : SoundInput (rm r m) (length bits) (length word) (Bits word)
+      → inverting r m word bits ≡ takingBack (takenBack m (kinds r m) word) bits
+  unfolding inverting
+  sound-inverting s =
+      passes-all r m word (2 ^ m) bits (dimension r m) (takingBack (takenBack m (kinds r m) word) bits) (s .sound) (s .long-word) (s .long-bits) (s .entries)
+
+  pub inverting-sound : (inverting r m word bits .number ≡ 0) ⊎ (5 ≤ inverting r m word bits .number)
+      → SoundInput (rm r m) (length bits) (length word) (Bits word)
+  unfolding inverting
+  inverting-sound z =
+      let p = passes r m word (2 ^ m) bits (dimension r m) (takingBack (takenBack m (kinds r m) word) bits) z in
+      record { sound = p .0; long-bits = p .2; long-word = p .1; entries = p .3 }
 
 -- ---- what is taken back
 module _ (ks u bits : List ℕ) {i : ℕ} (index : i ≡ firstFrozenOne ks u) where
-  pub taking-refused : i < length ks → refused 5 i bits ≡ takingRow ks u bits
+  pub taking-refused : i < length ks → refused (NotAWord i) bits ≡ takingRow ks u bits
   taking-refused h = rw (← index, lt-ltb i (length ks) h)
 
   pub taking-done : length ks ≤ i → done (pick ks u) ≡ takingRow ks u bits
@@ -118,5 +144,5 @@ unfolding takenBack
 taking-word m ks x bits =
     let u = transform m x in
     let i = firstFrozenOne ks u in
-    elim (ltb i (length ks)) as (λ t. cond t (refused 5 i bits) (done (pick ks u)) ≡ takingBack (cond t (frozenOne i) (taken (pick ks u))) bits)
+    elim (ltb i (length ks)) as (λ t. cond t (refused (NotAWord i) bits) (done (pick ks u)) ≡ takingBack (cond t (frozenOne i) (taken (pick ks u))) bits)
     [ true ↦ refl | false ↦ refl ]

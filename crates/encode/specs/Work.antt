@@ -1,14 +1,14 @@
--- What the work asks once no test refuses.
-use mathlib.Core.Path.{_≡_}
+-- A step of `inverse`.
 use mathlib.Core.List.{List}
-use Prim.Native.Nat.{ℕ, _^_}
+use mathlib.Core.Bool.{cond}
+use Prim.Native.Nat.{ℕ}
 use lib.ListN.{length}
-use Rattle.words.specs.Kinds.{dimension}
-use Rattle.code.specs.declared.Code.{Code}
-use Rattle.code.specs.Sound.{Sound}
+use lib.Dec.{ltb}
+use Rattle.words.specs.Kinds.{pick}
+use Rattle.words.specs.Inverse.{firstFrozenOne}
+use Rattle.code.specs.declared.Refusal.the-variants.{NotAWord}
+use Rattle.encode.specs.Outcome.{Outcome, done, refused}
 
--- sound parameters, k information bits and a word of n
-pub record Sized (c : Code) (bits word : List ℕ) : Type 0 where
-  pub sound : Sound c
-  pub bits-long : length bits ≡ dimension (c .r) (c .m)
-  pub word-long : length word ≡ 2 ^ (c .m)
+-- what is taken back from a row u
+abbrev pub takingRow : List ℕ → List ℕ → List ℕ → Outcome
+takingRow ks u bits = cond (ltb (firstFrozenOne ks u) (length ks)) (refused (NotAWord (firstFrozenOne ks u)) bits) (done (pick ks u))

@@ -14,7 +14,8 @@ use Rattle.words.specs.Inverse.{takenBack}
 use Rattle.words.specs.TransformLaws.{length-transform}
 use Rattle.words.specs.KindLaws.{length-kinds, sum-kinds, bits-kinds}
 use Rattle.words.specs.FillLaws.{length-fill, bits-fill}
-use Rattle.encode.specs.Outcome.{Outcome, takingRow, takingBack}
+use Rattle.encode.specs.Outcome.{Outcome, takingBack}
+use Rattle.encode.specs.Work.{takingRow}
 use Rattle.encode.specs.OutcomeLaws.{taking-word}
 
 module _ (n : ℕ) (z k : List ℕ) (long : length k ≡ length (midOf 0 (n - 0) z)) where

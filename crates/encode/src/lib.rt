@@ -8,8 +8,9 @@ ghost use Rattle.numbers.specs.Sums.{sum};
 ghost use Rattle.words.specs.Bits.{Bits};
 ghost use Rattle.words.specs.Kinds.{kinds, encoded};
 ghost use Rattle.words.specs.Inverse.{takenBack};
-ghost use Rattle.encode.specs.Outcome.{told, encoding, inverting, takingBack, takingRow};
-ghost use Rattle.encode.specs.Work.{Sized};
+ghost use Rattle.code.specs.SoundInput.{SoundInput};
+ghost use Rattle.encode.specs.Outcome.{told, encoding, inverting, takingBack};
+ghost use Rattle.encode.specs.Work.{takingRow};
 
 pub enum Encoded {
     Done,
@@ -61,7 +62,7 @@ pub fn inverse(r: u32, m: u32, word: &[u8], bits: &mut [u8]) -> Encoded
 
 // The row u goes into the buffer, whatever it held, and is transformed there.
 fn put_word(code: Code, bits: &[u8], word: &mut [u8])
-    requires { ⌜ Sized code (now bits) (now word) × Bits (now bits) ⌝ }
+    requires { ⌜ SoundInput code (length (now bits)) (length (now word)) (Bits (now bits)) ⌝ }
     ensures { λ _. ⌜ now (word .exit)
         ≡ encoded (code .m) (kinds (code .r) (code .m)) (now (bits .entry)) ⌝ }
 {
@@ -73,7 +74,7 @@ fn put_word(code: Code, bits: &[u8], word: &mut [u8])
 }
 
 fn take_back(code: Code, word: &[u8], bits: &mut [u8]) -> Encoded
-    requires { ⌜ Sized code (now bits) (now word) × Bits (now word) ⌝ }
+    requires { ⌜ SoundInput code (length (now bits)) (length (now word)) (Bits (now word)) ⌝ }
     ensures { λ answer. ⌜ told answer (now (bits .exit))
         ≡ takingBack (takenBack (code .m) (kinds (code .r) (code .m)) (now (word .entry)))
         (now (bits .entry)) ⌝ }

@@ -1,4 +1,9 @@
 pub mod Fold
 pub mod FoldLaws
+pub mod Layers
+pub mod BlockLaws
+pub mod LayerLaws
+pub mod Eight
+pub mod EightLaws
 pub mod FillLaws
 pub mod Takeable

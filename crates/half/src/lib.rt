@@ -1,20 +1,24 @@
 // On lent bytes: fold, the in-place transform, filling a row with information bits and taking
 // them back.
 ghost use mathlib.Core.Path.{_≡_};
-ghost use Prim.Native.Nat.{_+_, _^_, _≤_};
-ghost use lib.ListN.{length};
+ghost use Prim.Native.Nat.{_+_, _*_, _^_, _≤_, _<_};
+ghost use mathlib.Core.List.{_++_};
+ghost use lib.ListN.{length, drop};
 ghost use Rattle.numbers.specs.Sums.{sum};
 ghost use Rattle.words.specs.Bits.{Bits};
 ghost use Rattle.words.specs.Word.{transform};
 ghost use Rattle.words.specs.Kinds.{fill, pick};
 ghost use Rattle.words.specs.Inverse.{firstFrozenOne};
+ghost use Rattle.code.specs.Sound.{largestM};
 ghost use Rattle.half.specs.Fold.{folded};
+ghost use Rattle.half.specs.Layers.{onFront, blocks, Steps, layer, layers};
+ghost use Rattle.half.specs.Eight.{packed, unpacked, bytesAdded, pairsAdded, foursAdded};
 ghost use Rattle.half.specs.Takeable.{Takeable};
 
-// Adds the second half of a word of 2h bits into the first, modulo 2.
-pub fn fold(word: &mut [u8], h: usize)
-    requires { ⌜ (length (now word) ≡ h + h) × Bits (now word) ⌝ }
-    ensures { λ _. ⌜ now (word .exit) ≡ folded h (now (word .entry)) ⌝ }
+// Adds the second h bits of a word into its first h, modulo 2; the word may go on after them.
+fn fold_front(word: &mut [u8], h: usize)
+    requires { ⌜ (h + h ≤ length (now word)) × Bits (now word) ⌝ }
+    ensures { λ _. ⌜ now (word .exit) ≡ onFront (folded h) (h + h) (now (word .entry)) ⌝ }
 {
     let mut j = 0;
     while j < h {
@@ -23,19 +27,138 @@ pub fn fold(word: &mut [u8], h: usize)
     }
 }
 
-// The transform of 2^m bits, in place: the first half, the second half of the same bytes, then
-// their sum.
+// Adds the second half of a word of 2h bits into the first, modulo 2.
+pub fn fold(word: &mut [u8], h: usize)
+    requires { ⌜ (length (now word) ≡ h + h) × Bits (now word) ⌝ }
+    ensures { λ _. ⌜ now (word .exit) ≡ folded h (now (word .entry)) ⌝ }
+{
+    fold_front(word, h);
+}
+
+// Folds each whole block of 2h bits: the word from the block's start on is lent to be folded.
+fn fold_blocks(word: &mut [u8], h: usize)
+    requires { ⌜ Steps h (now word) ⌝ }
+    ensures { λ _. ⌜ now (word .exit) ≡ layer h (now (word .entry)) ⌝ }
+{
+    let n = word.len();
+    let b = h + h;
+    let mut start = 0;
+    while b <= n - start {
+        fold_front(&mut word[start..], h);
+        start += b;
+    }
+}
+
+// One layer. The compiler unrolls the fold of a block where its step is a constant.
+fn layer(word: &mut [u8], h: usize)
+    requires { ⌜ Steps h (now word) ⌝ }
+    ensures { λ _. ⌜ now (word .exit) ≡ layer h (now (word .entry)) ⌝ }
+{
+    match h {
+        1 => fold_blocks(word, 1),
+        2 => fold_blocks(word, 2),
+        8 => fold_blocks(word, 8),
+        16 => fold_blocks(word, 16),
+        32 => fold_blocks(word, 32),
+        64 => fold_blocks(word, 64),
+        128 => fold_blocks(word, 128),
+        _ => fold_blocks(word, h),
+    }
+}
+
+// So many layers, of which the first has step `first`; each step is twice the one before.
+fn layers(word: &mut [u8], first: usize, count: usize)
+    requires { ⌜ (0 < first) × (first * 2 ^ count ≤ length (now word)) × Bits (now word) ⌝ }
+    ensures { λ _. ⌜ now (word .exit) ≡ layers count first (now (word .entry)) ⌝ }
+{
+    let mut h = first;
+    let mut left = count;
+    while 0 < left {
+        layer(word, h);
+        h = h + h;
+        left -= 1;
+    }
+}
+
+fn wide(x: u8) -> u64
+    ensures { λ r. ⌜ (r ≡ x) × (r < 256) ⌝ }
+{
+    x as u64
+}
+
+// The first eight bytes as one number, the first byte lowest. The compiler makes one load of it.
+fn load(word: &[u8]) -> u64
+    requires { ⌜ 8 ≤ length (now word) ⌝ }
+    ensures { λ x. ⌜ x ≡ packed (now (word .entry)) ⌝ }
+{
+    wide(word[0])
+        + wide(word[1]) * 0x100
+        + wide(word[2]) * 0x10000
+        + wide(word[3]) * 0x1000000
+        + wide(word[4]) * 0x100000000
+        + wide(word[5]) * 0x10000000000
+        + wide(word[6]) * 0x1000000000000
+        + wide(word[7]) * 0x100000000000000
+}
+
+// Puts the eight bytes of a number in front. The compiler makes one store of it.
+fn store(word: &mut [u8], x: u64)
+    requires { ⌜ 8 ≤ length (now word) ⌝ }
+    ensures { λ _. ⌜ now (word .exit) ≡ unpacked x ++ drop 8 (now (word .entry)) ⌝ }
+{
+    word[0] = (x % 256) as u8;
+    word[1] = (x / 0x100 % 256) as u8;
+    word[2] = (x / 0x10000 % 256) as u8;
+    word[3] = (x / 0x1000000 % 256) as u8;
+    word[4] = (x / 0x100000000 % 256) as u8;
+    word[5] = (x / 0x10000000000 % 256) as u8;
+    word[6] = (x / 0x1000000000000 % 256) as u8;
+    word[7] = (x / 0x100000000000000 % 256) as u8;
+}
+
+// Eight bits, one in each byte of a number: the first three layers, by bytes, pairs and fours.
+fn three_layers(x: u64) -> u64
+    ensures { λ y. ⌜ y ≡ foursAdded (pairsAdded (bytesAdded x)) ⌝ }
+{
+    let bytes = x ^ ((x >> 8) & 0x00ff00ff00ff00ff);
+    let pairs = bytes ^ ((bytes >> 16) & 0x0000ffff0000ffff);
+    pairs ^ (pairs >> 32)
+}
+
+// The transform of the first eight bits of a word.
+fn eight(word: &mut [u8])
+    requires { ⌜ (8 ≤ length (now word)) × Bits (now word) ⌝ }
+    ensures { λ _. ⌜ now (word .exit) ≡ onFront (transform 3) 8 (now (word .entry)) ⌝ }
+{
+    let x = load(word);
+    store(word, three_layers(x));
+}
+
+// The transform of each block of eight bits.
+fn eights(word: &mut [u8])
+    requires { ⌜ Bits (now word) ⌝ }
+    ensures { λ _. ⌜ now (word .exit) ≡ blocks (transform 3) 8 (now (word .entry)) ⌝ }
+{
+    let n = word.len();
+    let mut at = 0;
+    while 8 <= n - at {
+        eight(&mut word[at..]);
+        at += 8;
+    }
+}
+
+// The transform of 2^m bits, in place, layer by layer; from eight bits on the first three layers
+// are made at once.
 pub fn transform(word: &mut [u8], m: usize)
     requires { ⌜ (length (now word) ≡ 2 ^ m) × Bits (now word) ⌝ }
     ensures { λ _. ⌜ now (word .exit) ≡ transform m (now (word .entry)) ⌝ }
 {
-    if m == 0 {
+    if m < 3 {
+        layers(word, 1, m);
         return;
     }
-    let h = word.len() / 2;
-    transform(&mut word[0..h], m - 1);
-    transform(&mut word[h..], m - 1);
-    fold(word, h);
+    eights(word);
+    layers(word, 8, m - 3);
 }
 
 pub fn copy(from: &[u8], to: &mut [u8])
@@ -110,7 +233,7 @@ pub fn put_row(word: &[u8], row: &mut [u8], m: usize)
 
 // The information bits of a word of at most 256 bits.
 pub fn take_bits(kinds: &[u8], word: &[u8], bits: &mut [u8], m: usize)
-    requires { ⌜ (m ≤ 8) × Takeable m (now kinds) (now word) (now bits) ⌝ }
+    requires { ⌜ (m ≤ largestM) × Takeable m (now kinds) (now word) (now bits) ⌝ }
     ensures { λ _. ⌜ now (bits .exit)
         ≡ pick (now (kinds .entry)) (transform m (now (word .entry))) ⌝ }
 {

@@ -1,2 +1,5 @@
+-- What the exports tell
 pub mod Told
+-- The parts of the answers, and laws
+pub mod Answers
 pub mod ToldLaws

@@ -4,6 +4,7 @@ use mathlib.Core.List.{List, [], _∷_}
 use Prim.Native.Nat.{ℕ}
 use lib.ListN.{length}
 use Rattle.encode.specs.declared.Encoded.{Encoded}
+use Rattle.encode.specs.declared.Encoded.the-variants as encoded
 use Rattle.encode.specs.Outcome as Encode
 use Rattle.quick.specs.declared.Read.{Read}
 use Rattle.quick.specs.declared.Read.the-variants as read
@@ -14,13 +15,19 @@ use Rattle.search.specs.declared.Searched.{Searched}
 use Rattle.search.specs.declared.Searched.the-variants.{Found, Refused}
 use Rattle.search.specs.Outcome as Search
 use Rattle.pumpbox.specs.Told.{numbers, told, shown, shownQuick, shownSearch, shownPart}
-use Rattle.pumpbox.specs.Told.{headerNumber, headerR, headerM, headerPlace, readNumber, readPenalty, readPlace, searchedNumber, searchedNumbers}
+use Rattle.pumpbox.specs.Answers.{encodedNumber, encodedPlace, headerNumber, headerR, headerM, headerPlace}
+use Rattle.pumpbox.specs.Answers.{readNumber, readPenalty, readPlace, searchedNumber, searchedNumbers}
+
+by-encoded : (answer : Encoded) (buffer : List ℕ)
+    → told (encodedNumber answer) (numbers 0 0 0 (encodedPlace answer)) (buffer ∷ []) ≡ shown (Encode.told answer buffer)
+by-encoded encoded.Done buffer = refl
+by-encoded (encoded.Refused why) buffer = refl
 
 pub told-encoded : (answer : Encoded) (buffer : List ℕ) (o : Encode.Outcome) (returned place : ℕ) (out : List ℕ)
-    → Encode.told answer buffer ≡ o → returned ≡ Encode.numberIn answer → place ≡ Encode.placeIn answer → out ≡ numbers 0 0 0 place
+    → Encode.told answer buffer ≡ o → returned ≡ encodedNumber answer → place ≡ encodedPlace answer → out ≡ numbers 0 0 0 place
     → told returned out (buffer ∷ []) ≡ shown o
 told-encoded answer buffer o returned place out e f g h =
-    ap₂ (λ (n : ℕ) (l : List ℕ). told n l (buffer ∷ [])) f (h ∙ ap (numbers 0 0 0) g) ∙ ap shown e
+    ap₂ (λ (n : ℕ) (l : List ℕ). told n l (buffer ∷ [])) f (h ∙ ap (numbers 0 0 0) g) ∙ by-encoded answer buffer ∙ ap shown e
 
 by-read : (answer : Read) (bits word : List ℕ)
     → told (readNumber answer) (numbers (readPenalty answer) 0 0 (readPlace answer)) (bits ∷ word ∷ []) ≡ shownQuick (Quick.told answer bits word)
@@ -56,8 +63,8 @@ told-part answer header given part out returned r m place e f n a b p o =
       a,
       b,
       p,
-      ap (λ (t : Reader.Told). t .number) e,
-      ap (λ (t : Reader.Told). t .place) e,
-      ap (λ (t : Reader.Told). t .r) e,
-      ap (λ (t : Reader.Told). t .m) e,
+      ap (λ (t : Reader.HeaderOutcome). t .carry .number) e,
+      ap (λ (t : Reader.HeaderOutcome). t .carry .place) e,
+      ap (λ (t : Reader.HeaderOutcome). t .r) e,
+      ap (λ (t : Reader.HeaderOutcome). t .m) e,
     )

@@ -6,16 +6,16 @@ use record::Header;
 use search::Searched;
 ghost use mathlib.Core.Path.{_≡_};
 ghost use mathlib.Core.List.{[], _∷_};
-ghost use Rattle.encode.specs.Outcome.{numberIn, placeIn, encoding, inverting};
-ghost use Rattle.quick.specs.Outcome.{reading};
+ghost use Rattle.encode.specs.Outcome.{encoding, inverting};
+ghost use Rattle.quick.specs.Outcome.{quickReading};
 ghost use Rattle.record.specs.Reader.{headerOf, partBy};
 ghost use Rattle.record.specs.Searching.{searchingRecord};
 ghost use Rattle.search.specs.Outcome.{searching};
 ghost use Rattle.code.specs.Sound.{defaultAllowance};
 ghost use Rattle.pumpbox.specs.Told.{numbers, told, shown, shownQuick, shownSearch, shownPart};
-ghost use Rattle.pumpbox.specs.Told.{headerNumber, headerR, headerM, headerPlace};
-ghost use Rattle.pumpbox.specs.Told.{readNumber, readPenalty, readPlace};
-ghost use Rattle.pumpbox.specs.Told.{searchedNumber, searchedPenalty, searchedGap, searchedVisits, searchedPlace, searchedNumbers};
+ghost use Rattle.pumpbox.specs.Answers.{headerNumber, headerR, headerM, headerPlace};
+ghost use Rattle.pumpbox.specs.Answers.{encodedNumber, encodedPlace, readNumber, readPenalty, readPlace};
+ghost use Rattle.pumpbox.specs.Answers.{searchedNumber, searchedPenalty, searchedGap, searchedVisits, searchedPlace, searchedNumbers};
 
 // Penalty, gap, visits and place, in the order of the header's struct.
 fn put_numbers(out: &mut [u64; 4], penalty: u32, gap: u32, visits: u32, place: usize)
@@ -26,7 +26,7 @@ fn put_numbers(out: &mut [u64; 4], penalty: u32, gap: u32, visits: u32, place: u
 
 // The number of an answer of encode or inverse.
 fn number_of(answer: Encoded) -> u32
-    ensures { λ number. ⌜ number ≡ numberIn answer ⌝ }
+    ensures { λ number. ⌜ number ≡ encodedNumber answer ⌝ }
 {
     match answer {
         Encoded::Done => 0,
@@ -35,7 +35,7 @@ fn number_of(answer: Encoded) -> u32
 }
 
 fn place_of(answer: Encoded) -> usize
-    ensures { λ place. ⌜ place ≡ placeIn answer ⌝ }
+    ensures { λ place. ⌜ place ≡ encodedPlace answer ⌝ }
 {
     match answer {
         Encoded::Done => 0,
@@ -113,7 +113,7 @@ pub extern "C" fn cinorbis_quick(
     out: &mut [u64; 4],
 ) -> u32
     ensures { λ number. ⌜ told number (now (out .exit)) (now (bits .exit) ∷ now (word .exit) ∷ [])
-        ≡ shownQuick (reading r m (now (readings .entry)) (now (bits .entry)) (now (word .entry))) ⌝ }
+        ≡ shownQuick (quickReading r m (now (readings .entry)) (now (bits .entry)) (now (word .entry))) ⌝ }
 {
     let answer = quick::quick(r, m, readings, bits, word);
     put_numbers(out, read_penalty(answer), 0, 0, read_place(answer));

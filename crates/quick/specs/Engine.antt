@@ -4,19 +4,8 @@ use mathlib.Core.List.{List}
 use Prim.Native.Nat.{ℕ, _+_, _-_, _^_, _≤_, _<_}
 use lib.IntN.{ℤ}
 use lib.ListN.{length}
-use Rattle.words.specs.Kinds.{dimension}
 use Rattle.decoding.specs.Readings.{sizes}
-use Rattle.code.specs.declared.Code.{Code}
-use Rattle.code.specs.Sound.{Sound}
 use Rattle.rows.specs.Rows.{rowOf}
-
--- an input that no test refuses
-pub record Given (c : Code) (l : List ℤ) (bits word : List ℕ) : Type 0 where
-  pub sound : Sound c
-  pub long-bits : length bits ≡ dimension (c .r) (c .m)
-  pub long-word : length word ≡ 2 ^ c .m
-  pub long-row : length l ≡ 2 ^ c .m
-  pub small : sizes l < 2 ^ 31
 
 -- a row l of 2^m, with as many kinds and room for as many bits
 pub record Sized (m : ℕ) (kinds word : List ℕ) (l : List ℤ) : Type 0 where

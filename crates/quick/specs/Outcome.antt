@@ -9,7 +9,7 @@ use Rattle.code.specs.declared.Code.{Code}
 use Rattle.code.specs.declared.Refusal.{Refusal}
 use Rattle.code.specs.declared.Admitted.{Admitted}
 use Rattle.code.specs.declared.Admitted.the-variants as admission
-use Rattle.code.specs.Sound.{numberOf, placeOf, penaltyOf}
+use Rattle.code.specs.Sound.{carried}
 use Rattle.code.specs.Admitted.{admitted}
 use Rattle.quick.specs.declared.Read.{Read}
 use Rattle.quick.specs.declared.Read.the-variants.{Done, Refused}
@@ -30,7 +30,7 @@ done penalty bits word = record { number = 0; place = 0; penalty = penalty; bits
 
 -- the buffers keep their contents
 abbrev pub refused : Refusal → List ℕ → List ℕ → Outcome
-refused why bits word = record { number = numberOf why; place = placeOf why; penalty = penaltyOf why; bits = bits; word = word }
+refused why bits word = let c = carried why in record { number = c .number; place = c .place; penalty = c .penalty; bits = bits; word = word }
 
 -- the answer in 01's numbers
 abbrev pub told : Read → List ℕ → List ℕ → Outcome
@@ -46,5 +46,5 @@ afterTests (admission.Allowed c) l bits word = readingBy c l
 afterTests (admission.Refused why) l bits word = refused why bits word
 
 -- of r, m, the readings, and the buffers for the information bits and the word
-unfoldable pub reading : ℕ → ℕ → List ℤ → List ℕ → List ℕ → Outcome
-reading r m l bits word = afterTests (admitted r m l (length bits) (length word)) l bits word
+unfoldable pub quickReading : ℕ → ℕ → List ℤ → List ℕ → List ℕ → Outcome
+quickReading r m l bits word = afterTests (admitted r m l (length bits) (length word)) l bits word

@@ -1,7 +1,7 @@
 -- The outcome at each place where `quick` returns, and what the work between asks.
 use mathlib.Core.Path.{_≡_, ap, sym, _∙_}
 use mathlib.Core.List.{List}
-use Prim.Native.Nat.{ℕ, _-_, _^_}
+use Prim.Native.Nat.{ℕ, _-_, _^_, _<_}
 use native.Mathlib.Omega.{arith}
 use lib.IntN.{ℤ}
 use lib.ListN.{length}
@@ -10,7 +10,7 @@ use Rattle.numbers.specs.Lent.{lent-again}
 use Rattle.words.specs.Word.{transform}
 use Rattle.words.specs.Kinds.{kinds, pick}
 use Rattle.words.specs.KindLaws.{length-kinds, sum-kinds, bits-kinds}
-use Rattle.decoding.specs.Readings.{penalty}
+use Rattle.decoding.specs.Readings.{penalty, sizes}
 use Rattle.decoding.specs.Quick.{quickWord, quickBits, quickPenalty}
 use Rattle.decoding.specs.QuickLaws.{length-quick, bits-quick}
 use Rattle.code.specs.declared.Code.{Code}
@@ -18,32 +18,25 @@ use Rattle.code.specs.declared.Refusal.{Refusal}
 use Rattle.code.specs.declared.Admitted.the-variants.{Allowed, Refused}
 use Rattle.code.specs.SoundLaws.{length-most}
 use Rattle.code.specs.Admitted.{admitted}
-use Rattle.code.specs.AdmittedLaws.{Allows}
+use Rattle.code.specs.SoundInput.{SoundReadings}
 use Rattle.half.specs.Takeable.{Takeable}
-use Rattle.quick.specs.Engine.{Given}
 use Rattle.quick.specs.RunningSums.{sums-most}
-use Rattle.quick.specs.Outcome.{Outcome, done, refused, readingBy, reading}
+use Rattle.quick.specs.Outcome.{Outcome, done, refused, readingBy, quickReading}
 
 -- ---- the tests
 module _ (r m : ℕ) (l : List ℤ) (bits word : List ℕ) where
-  pub reading-refused : (why : Refusal) → Refused why ≡ admitted r m l (length bits) (length word) → refused why bits word ≡ reading r m l bits word
-  unfolding reading
+  pub reading-refused : (why : Refusal) → Refused why ≡ admitted r m l (length bits) (length word) → refused why bits word ≡ quickReading r m l bits word
+  unfolding quickReading
   reading-refused why e = rw (← e)
 
-  pub reading-done : (c : Code) (o : Outcome) → Allowed c ≡ admitted r m l (length bits) (length word) → o ≡ readingBy c l → o ≡ reading r m l bits word
-  unfolding reading
+  pub reading-done : (c : Code) (o : Outcome) → Allowed c ≡ admitted r m l (length bits) (length word) → o ≡ readingBy c l → o ≡ quickReading r m l bits word
+  unfolding quickReading
   reading-done c o e f = rw (← e) f
 
-  pub given : (c : Code) → Allows r m l (length bits) (length word) c → Given c l bits word
-  given c a =
-      let most = sums-most l (omega (arith, a .long, length-most (a .code .sound))) (a .within) in
-      record {
-        sound = a .code .sound;
-        long-bits = a .bits;
-        long-word = a .word;
-        long-row = a .long;
-        small = omega (arith, most);
-      }
+-- the running sums of sound readings are small
+pub sums-small : {c : Code} {l : List ℤ} {k n : ℕ} → SoundReadings c l k n → sizes l < 2 ^ 31
+sums-small {l = l} a =
+    omega (arith, sums-most l (omega (arith, a .entries .long, length-most (a .sound))) (a .entries .within))
 
 -- ---- the work: a scratch array z whose front, of n bytes, came back as the kinds k
 module _ (c : Code) (l : List ℤ) (n : ℕ) (e : n ≡ 2 ^ c .m) (z k : List ℕ) (is : k ≡ kinds (c .r) (c .m)) where
@@ -54,7 +47,7 @@ module _ (c : Code) (l : List ℤ) (n : ℕ) (e : n ≡ 2 ^ c .m) (z k : List �
     word-is : w ≡ quickWord (c .m) (kinds (c .r) (c .m)) l
     word-is = quick ∙ ap (λ (ks : List ℕ). quickWord (c .m) ks l) kinds-read
 
-    pub take-asked : (bits word : List ℕ) → Given c l bits word → Takeable (c .m) (midOf 0 (n - 0) (putMid 0 (n - 0) z k)) w bits
+    pub take-asked : (bits word : List ℕ) → SoundReadings c l (length bits) (length word) → Takeable (c .m) (midOf 0 (n - 0) (putMid 0 (n - 0) z k)) w bits
     take-asked bits word g =
         let ks = kinds (c .r) (c .m) in
         rw (kinds-read, word-is)

@@ -12,10 +12,11 @@ use Rattle.decoding.specs.Readings.{penalty}
 use Rattle.decoding.specs.Best.{leastPenalty}
 use Rattle.decoding.specs.Quick.{quickPenalty}
 use Rattle.decoding.specs.QuickLaws.{encoded-quick, quick-word, quick-least}
-use Rattle.code.specs.declared.Code.{Code}
-use Rattle.code.specs.RefusalLaws.{number-above, carries-none}
-use Rattle.code.specs.AdmittedLaws.{Allows, allows, refuses, decided, all-allowed}
-use Rattle.quick.specs.Outcome.{Outcome, readingBy, reading}
+use Rattle.code.specs.Sound.{Carried, rm}
+use Rattle.code.specs.SoundInput.{SoundReadings}
+use Rattle.code.specs.AdmittedLaws.{allows, refuses, decided, sound-allowed}
+use Rattle.code.specs.RefusalLaws.{carries-none, number-above}
+use Rattle.quick.specs.Outcome.{Outcome, readingBy, quickReading}
 use Rattle.quick.specs.OutcomeLaws.{reading-refused, reading-done}
 
 pub record QuickDone (r m : ℕ) (l : List ℤ) (o : Outcome) : Type 0 where
@@ -30,7 +31,7 @@ pub record QuickRefused (bits word : List ℕ) (o : Outcome) : Type 0 where
   pub kept-bits : o .bits ≡ bits
   pub kept-word : o .word ≡ word
 
-done-by : (r m : ℕ) (l : List ℤ) → QuickDone r m l (readingBy (record { r = r; m = m }) l)
+done-by : (r m : ℕ) (l : List ℤ) → QuickDone r m l (readingBy (rm r m) l)
 unfolding quickPenalty
 done-by r m l =
     let ks = kinds r m in
@@ -43,23 +44,23 @@ done-by r m l =
 
 module _ (r m : ℕ) (l : List ℤ) (bits word : List ℕ) where
   -- done exactly if none of the tests applies
-  pub quick-done : reading r m l bits word .number ≡ 0
-      → Allows r m l (length bits) (length word) (record { r = r; m = m }) × QuickDone r m l (reading r m l bits word)
+  pub quick-done : quickReading r m l bits word .number ≡ 0
+      → SoundReadings (rm r m) l (length bits) (length word) × QuickDone r m l (quickReading r m l bits word)
   quick-done z =
       elim (decided r m l (length bits) (length word)) [
-        | allows c e a ↦ (rw (a .code .same) at a, rw (← reading-done r m l bits word c (readingBy c l) e refl, a .code .same) (done-by r m l))
+        | allows c e is a ↦ (rw is at a, rw (← reading-done r m l bits word c (readingBy c l) e refl, is) (done-by r m l))
         | refuses why e h ↦ absurd (omega (arith, number-above why, ap (λ (o : Outcome). o .number) (reading-refused r m l bits word why e)))
       ]
 
-  pub quick-answers : (c : Code) → Allows r m l (length bits) (length word) c → reading r m l bits word .number ≡ 0
-  quick-answers c a =
-      let is = reading-done r m l bits word c (readingBy c l) (all-allowed r m l (length bits) (length word) c a) refl in
+  pub quick-answers : SoundReadings (rm r m) l (length bits) (length word) → quickReading r m l bits word .number ≡ 0
+  quick-answers a =
+      let is = reading-done r m l bits word (rm r m) (readingBy (rm r m) l) (sound-allowed r m l (length bits) (length word) a) refl in
       ap (λ (o : Outcome). o .number) (sym is)
 
-  pub quick-refused : 0 < reading r m l bits word .number → QuickRefused bits word (reading r m l bits word)
+  pub quick-refused : 0 < quickReading r m l bits word .number → QuickRefused bits word (quickReading r m l bits word)
   quick-refused z =
       elim (decided r m l (length bits) (length word)) [
-        | allows c e a ↦ absurd (omega (arith, ap (λ (o : Outcome). o .number) (reading-done r m l bits word c (readingBy c l) e refl)))
+        | allows c e is a ↦ absurd (omega (arith, ap (λ (o : Outcome). o .number) (reading-done r m l bits word c (readingBy c l) e refl)))
         | refuses why e h ↦ rw (← reading-refused r m l bits word why e)
-            (record { first-tests = h; no-penalty = carries-none why (λ k. omega arith) (λ k. omega arith) .0; kept-bits = refl; kept-word = refl })
+            (record { first-tests = h; no-penalty = ap (λ (c : Carried). c .penalty) (carries-none why (λ k. omega arith) (λ k. omega arith)); kept-bits = refl; kept-word = refl })
       ]

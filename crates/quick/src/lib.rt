@@ -8,9 +8,11 @@ ghost use Prim.Native.Nat.{_-_, _^_, _≤_, _<_};
 ghost use lib.ListN.{length, take, drop};
 ghost use Rattle.decoding.specs.Readings.{penalty, sizes};
 ghost use Rattle.decoding.specs.Quick.{decide, quickWord};
+ghost use Rattle.code.specs.Sound.{largestM};
+ghost use Rattle.code.specs.SoundInput.{SoundReadings};
 ghost use Rattle.rows.specs.Rows.{rowOf};
-ghost use Rattle.quick.specs.Outcome.{done, told, readingBy, reading};
-ghost use Rattle.quick.specs.Engine.{Given, Sized, Ready, HalfReady};
+ghost use Rattle.quick.specs.Outcome.{done, told, readingBy, quickReading};
+ghost use Rattle.quick.specs.Engine.{Sized, Ready, HalfReady};
 
 pub enum Read {
     Done { penalty: u32 },
@@ -20,7 +22,7 @@ pub enum Read {
 // Reads the readings by halves: writes the information bits and the word, and tells the penalty.
 pub fn quick(r: u32, m: u32, readings: &[i16], bits: &mut [u8], word: &mut [u8]) -> Read
     ensures { λ answer. ⌜ told answer (now (bits .exit)) (now (word .exit))
-        ≡ reading r m (now (readings .entry)) (now (bits .entry)) (now (word .entry)) ⌝ }
+        ≡ quickReading r m (now (readings .entry)) (now (bits .entry)) (now (word .entry)) ⌝ }
 {
     match code::admit(r, m, readings, bits.len(), word.len()) {
         Admitted::Refused(why) => Read::Refused(why),
@@ -33,7 +35,7 @@ pub fn quick(r: u32, m: u32, readings: &[i16], bits: &mut [u8], word: &mut [u8])
 
 // The work, once no test refuses.
 fn take_reading(code: Code, readings: &[i16], bits: &mut [u8], word: &mut [u8]) -> u32
-    requires { ⌜ Given code (now readings) (now bits) (now word) ⌝ }
+    requires { ⌜ SoundReadings code (now readings) (length (now bits)) (length (now word)) ⌝ }
     ensures { λ penalty. ⌜ done penalty (now (bits .exit)) (now (word .exit))
         ≡ readingBy code (now (readings .entry)) ⌝ }
 {
@@ -115,7 +117,7 @@ fn second_half(rows: &mut [i32], kinds: &[u8], word: &mut [u8], m: usize)
 
 // The word of 2^m readings. The running sums of all rows stand in one array.
 fn quick_word(readings: &[i16], kinds: &[u8], word: &mut [u8], m: usize)
-    requires { ⌜ (m ≤ 8) × Sized m (now kinds) (now word) (now readings) ⌝ }
+    requires { ⌜ (m ≤ largestM) × Sized m (now kinds) (now word) (now readings) ⌝ }
     ensures { λ _. ⌜ now (word .exit)
         ≡ quickWord m (now (kinds .entry)) (now (readings .entry)) ⌝ }
 {

@@ -5,7 +5,7 @@ use Prim.Native.Nat.{ℕ, suc, _-_, _/_, _%_}
 use lib.IntN.{ℤ}
 use lib.ListN.{length, take, drop}
 use lib.Dec.{ltb, eqb}
-use Rattle.code.specs.Sound.{largestReading, made, numberOf, placeOf, penaltyOf, visitsOf}
+use Rattle.code.specs.Sound.{largestReading, made, Carried, carrying, carried}
 use Rattle.code.specs.Entries.{firstBadReading}
 use Rattle.code.specs.declared.Code.{Code}
 use Rattle.code.specs.declared.Made.{Made}
@@ -56,17 +56,14 @@ unfoldable pub headerOf : List ℕ → Header
 headerOf s = railedBy (frameOf s) s
 
 -- the answer in 01's numbers: 0 for a record and the refusal's number else, the values that it carries, and r and m of a record
-pub record Told : Type 0 where
-  pub number : ℕ
-  pub place : ℕ
-  pub penalty : ℕ
-  pub visits : ℕ
+pub record HeaderOutcome : Type 0 where
+  pub carry : Carried
   pub r : ℕ
   pub m : ℕ
 
-abbrev pub told : Header → Told
-told (Record c) = record { number = 0; place = 0; penalty = 0; visits = 0; r = c .r; m = c .m }
-told (Refused why) = record { number = numberOf why; place = placeOf why; penalty = penaltyOf why; visits = visitsOf why; r = 0; m = 0 }
+abbrev pub told : Header → HeaderOutcome
+told (Record c) = record { carry = carrying 0 0 0 0; r = c .r; m = c .m }
+told (Refused why) = record { carry = carried why; r = 0; m = 0 }
 
 -- the part handed back: empty on refusal
 abbrev pub partBy : Header → List ℕ → List ℕ

@@ -8,7 +8,7 @@ use native.Mathlib.Omega.{arith}
 use lib.IntN.{ℤ}
 use lib.ListN.{length}
 use lib.Dec.{ltb, eqb}
-use Rattle.code.specs.Sound.{largestM, largestReading, numberOf}
+use Rattle.code.specs.Sound.{largestM, largestReading, carrying, numberOf}
 use Rattle.code.specs.Entries.{firstBadBit, firstBadReading}
 use Rattle.code.specs.RefusalLaws.{refusal-only, number-above, carries-none}
 use Rattle.images.specs.Images.{isMap}
@@ -23,18 +23,19 @@ Given n = (n < 5) ⊎ (n ≡ 11)
 
 -- ---- what is told tells every answer apart whose number is such
 module _ {B : Type 0} where
-  answer-only : (a b : Answer) (x y : B) → Given (told a x .number) → told a x ≡ told b y → a ≡ b
-  answer-only Done Done x y h e = refl
-  answer-only Done (Refused why) x y h e = absurd (omega (arith, number-above why, ap (λ (o : Outcome B). o .number) e))
-  answer-only (Refused why) Done x y h e = absurd (omega (arith, number-above why, ap (λ (o : Outcome B). o .number) e))
-  answer-only (Refused why) (Refused why′) x y h e =
+  same-answer : (a b : Answer) (x y : B) → told a x ≡ told b y → Given (told a x .number) → a ≡ b
+  same-answer Done Done x y e h = refl
+  same-answer Done (Refused why) x y e h = absurd (omega (arith, number-above why, ap (λ (o : Outcome B). o .number) e))
+  same-answer (Refused why) Done x y e h = absurd (omega (arith, number-above why, ap (λ (o : Outcome B). o .number) e))
+  same-answer (Refused why) (Refused why′) x y e h =
       let same : numberOf why ≡ numberOf why′ = ap (λ (o : Outcome B). o .number) e in
+      let carry = ap (λ (o : Outcome B). carrying (o .number) (o .place) 0 0) e in
       let other : (n : ℕ) → Given n → (n ≡ 6 → ⊥) × (n ≡ 7 → ⊥) = λ n g.
       ⊎-elim (λ l. (λ k. omega arith, λ k. omega arith)) (λ l. (λ k. omega arith, λ k. omega arith)) g in
       let two = other (numberOf why) h in
-      let none = carries-none why (two .0) (two .1) in
-      let none′ = carries-none why′ (λ k. two .0 (same ∙ k)) (λ k. two .1 (same ∙ k)) in
-      ap Refused (refusal-only why why′ same (ap (λ (o : Outcome B). o .place) e) (none .0 ∙ sym (none′ .0)) (none .1 ∙ sym (none′ .1)))
+      ap Refused
+      (refusal-only why why′
+      (carries-none why (two .0) (two .1) ∙ carry ∙ sym (carries-none why′ (λ k. two .0 (same ∙ k)) (λ k. two .1 (same ∙ k)))))
 
   lent-told : (a : Answer) (x : B) → told a x .lent ≡ x
   lent-told Done x = refl
@@ -43,7 +44,7 @@ module _ {B : Type 0} where
   only : (o : Outcome B) → Given (o .number) → (a b : Answer) (x y : B) → told a x ≡ o → told b y ≡ o → (a ≡ b) × (x ≡ y)
   only o given a b x y e f =
       let same : told a x ≡ told b y = e ∙ sym f in
-      (answer-only a b x y (rw e given) same, sym (lent-told a x) ∙ ap (λ (p : Outcome B). p .lent) same ∙ lent-told b y)
+      (same-answer a b x y same (rw e given), sym (lent-told a x) ∙ ap (λ (p : Outcome B). p .lent) same ∙ lent-told b y)
 
   -- ---- every outcome has such a number
   either : (z : Bool) (o p : Outcome B) → Given (o .number) → Given (p .number) → Given (cond z o p .number)

@@ -7,7 +7,7 @@ use lib.ListN.{length}
 use lib.Dec.{ltb, eqb}
 use Rattle.code.specs.declared.Refusal.{Refusal}
 use Rattle.code.specs.declared.Refusal.the-variants.{Parameters, InputLength, OutputLength, Entry, Map}
-use Rattle.code.specs.Sound.{largestM, largestReading, numberOf, placeOf}
+use Rattle.code.specs.Sound.{largestM, largestReading, carried}
 use Rattle.code.specs.Entries.{firstBadBit, firstBadReading}
 use Rattle.maps.specs.Maps.{reordered, productTable, productRow, undoTable, undoRow}
 use Rattle.images.specs.Images.{isMap}
@@ -27,7 +27,7 @@ done lent = record { number = 0; place = 0; lent = lent }
 
 -- what is lent keeps its contents
 abbrev pub refused : {B : Type 0} → B → Refusal → Outcome B
-refused lent why = record { number = numberOf why; place = placeOf why; lent = lent }
+refused lent why = record { number = carried why .number; place = carried why .place; lent = lent }
 
 -- the answer in numbers
 abbrev pub told : {B : Type 0} → Answer → B → Outcome B

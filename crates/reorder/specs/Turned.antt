@@ -9,7 +9,7 @@ use Rattle.words.specs.Kinds.{dimension}
 use Rattle.maps.specs.Maps.{Map, reordered, Undoes, Undoable}
 use Rattle.images.specs.Images.{Mapped}
 use Rattle.search.specs.Outcome as Search
-use Rattle.search.specs.Demands.{Admitted}
+use Rattle.search.specs.Demands.{SoundSearch}
 use Rattle.reorder.specs.Outcome.{reordering, reorderingWord, undoing, multiplying}
 
 -- whole bits, and some table and row, of any kind, undo the map
@@ -33,10 +33,10 @@ pub record WordReordered (m : ℕ) (A b : List ℕ) (o o′ : Search.Outcome) : 
   pub same-gap : o′ .gap ≡ o .gap
   pub word-reordered : o .number ≡ 0 → o′ .word ≡ reordered 0 m A b (o .word)
 
--- where `reorder` is done: its readings l′ are admitted as the given ones are, and if neither search is refused as 6, their outcomes go together
+-- where `reorder` is done: its readings l′ are sound input of the search as the given ones are, and if neither search is refused as 6, their outcomes go together
 pub record SearchReordered (r m : ℕ) (A b : List ℕ) (l l′ : List ℤ) (bits word bits′ word′ : List ℕ) : Type 0 where
-  pub admitted : Admitted r m l bits word
-  pub admitted′ : Admitted r m l′ bits′ word′
+  pub sound : SoundSearch r m l bits word
+  pub sound′ : SoundSearch r m l′ bits′ word′
   pub together : (allowed allowed′ : ℕ)
       → (Search.searching r m allowed l bits word .number ≡ 6 → ⊥) → (Search.searching r m allowed′ l′ bits′ word′ .number ≡ 6 → ⊥)
       → WordReordered m A b (Search.searching r m allowed l bits word) (Search.searching r m allowed′ l′ bits′ word′)

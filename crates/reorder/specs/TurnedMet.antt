@@ -14,7 +14,7 @@ use Rattle.words.specs.Bits.{Bits}
 use Rattle.decoding.specs.Readings.{Within}
 use Rattle.decoding.specs.Answer.{Answer}
 use Rattle.code.specs.declared.Refusal.the-variants.{InputLength, OutputLength}
-use Rattle.code.specs.Sound.{largestM, largestReading}
+use Rattle.code.specs.Sound.{Sound, largestM, largestReading, rm}
 use Rattle.code.specs.Entries.{firstBadBit, firstBadReading}
 use Rattle.code.specs.EntriesLaws.{first-none, good-readings}
 use Rattle.maps.specs.Maps.{Map, reordered, Undoes, Apart, undoTable, undoRow, Alongside, both-tied, both-found}
@@ -25,8 +25,8 @@ use Rattle.maps.specs.ReorderedBest.{within-reordered, answers-alongside}
 use Rattle.images.specs.Images.{isMap, Mapped}
 use Rattle.images.specs.WorkLaws.{both-good, bits-map}
 use Rattle.search.specs.Outcome as Search
-use Rattle.search.specs.Demands.{Admitted}
-use Rattle.search.specs.DemandsMet.{admitted-answered}
+use Rattle.search.specs.Demands.{SoundSearch}
+use Rattle.search.specs.DemandsMet.{sound-answered}
 use Rattle.reorder.specs.Outcome.{Outcome, done, refused, isLong, sized, mapTested, entryTested, reordering, reorderingWord, undoing, multiplying}
 use Rattle.reorder.specs.Outcome.{reorderingLong, reorderingWordLong, undoingLong, multiplyingLong}
 use Rattle.reorder.specs.OutcomeLaws.{both-true, AllRight, sized-right, map-allowed, entry-allowed, mapped}
@@ -189,7 +189,7 @@ reorder-done m A b l out e =
 
 -- ---- two searches
 reordered-outcomes : {m : ℕ} {A b : List ℕ} {a a′ : Answer} (allowed allowed′ : ℕ) (bits word bits′ word′ : List ℕ) → Alongside m A b a a′
-    → WordReordered m A b (Search.answered allowed bits word a) (Search.answered allowed′ bits′ word′ a′)
+    → WordReordered m A b (Search.byAnswer allowed bits word a) (Search.byAnswer allowed′ bits′ word′ a′)
 reordered-outcomes allowed allowed′ bits word bits′ word′ (both-tied p v v′) =
     record { same-number = refl; same-penalty = refl; same-gap = refl; word-reordered = λ z. absurd (omega arith) }
 reordered-outcomes allowed allowed′ bits word bits′ word′ (both-found b b′ x p g v v′) =
@@ -201,31 +201,28 @@ module _ (r m : ℕ) (r-small : r ≤ m) (A b : List ℕ) (l out : List ℤ) (is
   by-done d =
       let l′ = reordered (pos 0) m A b l in
       let undoable = d .good .1 in
-      let x : Admitted r m l bits word = record {
-        r-small = r-small;
-        m-small = d .map-long .small;
-        long = d .long;
-        within = d .within;
+      let sound : Sound (rm r m) = record { r-small = r-small; m-small = d .map-long .small } in
+      let x : SoundSearch r m l bits word = record {
+        sound = sound;
         long-bits = buffers .long-bits;
         long-word = buffers .long-word;
+        entries = record { long = d .long; within = d .within };
       } in
-      let x′ : Admitted r m l′ bits′ word′ = record {
-        r-small = r-small;
-        m-small = d .map-long .small;
-        long = length-reordered (pos 0) m A b l;
-        within = within-reordered largestReading m A b l (d .within);
+      let x′ : SoundSearch r m l′ bits′ word′ = record {
+        sound = sound;
         long-bits = buffers′ .long-bits;
         long-word = buffers′ .long-word;
+        entries = record { long = length-reordered (pos 0) m A b l; within = within-reordered largestReading m A b l (d .within) };
       } in
       record {
-        admitted = x;
-        admitted′ = x′;
+        sound = x;
+        sound′ = x′;
         together = λ allowed allowed′ n n′.
-            rw (admitted-answered x allowed, admitted-answered x′ allowed′)
+            rw (sound-answered bits word x allowed, sound-answered bits′ word′ x′ allowed′)
             (reordered-outcomes allowed allowed′ bits word bits′ word′
             (answers-alongside r m l (d .long) A b (undoable .table) (undoable .row) (undoable .undoes) allowed allowed′
-            (λ e. n (ap (λ (o : Search.Outcome). o .number) (admitted-answered x allowed ∙ ap (Search.answered allowed bits word) e)))
-            (λ e. n′ (ap (λ (o : Search.Outcome). o .number) (admitted-answered x′ allowed′ ∙ ap (Search.answered allowed′ bits′ word′) e)))));
+            (λ e. n (ap (λ (o : Search.Outcome). o .number) (sound-answered bits word x allowed ∙ ap (Search.byAnswer allowed bits word) e)))
+            (λ e. n′ (ap (λ (o : Search.Outcome). o .number) (sound-answered bits′ word′ x′ allowed′ ∙ ap (Search.byAnswer allowed′ bits′ word′) e)))));
       }
 
   pub search-reordered : SearchReordered r m A b l (reordering m A b l out .lent) bits word bits′ word′

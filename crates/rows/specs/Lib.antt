@@ -1,3 +1,5 @@
+pub mod Order
+pub mod OrderLaws
 pub mod Rows
 pub mod RowLaws
 pub mod PlaceLaws

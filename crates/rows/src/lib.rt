@@ -2,32 +2,33 @@
 // Rows of running sums stand in one scratch array, the row of n sums at [n .. 2n].
 ghost use mathlib.Core.Path.{_≡_};
 ghost use Prim.Native.Nat.{_+_, _^_, _≤_, _<_};
-ghost use lib.IntN.{pos, natAbs};
+ghost use lib.IntN.{natAbs};
 ghost use lib.ListN.{length, take};
 ghost use Rattle.decoding.specs.Readings.{loss, sizes};
 ghost use Rattle.decoding.specs.Quick.{lower, upper, lowerRow, upperRow};
+ghost use Rattle.rows.specs.Order.{lesser, greater};
 ghost use Rattle.rows.specs.Rows.{rowOf, withRow};
 
-fn size(x: i32) -> i32
-    requires { ⌜ natAbs x < 2 ^ 31 ⌝ }
-    ensures { λ s. ⌜ s ≡ pos (natAbs x) ⌝ }
+fn lesser(x: i32, y: i32) -> i32
+    ensures { λ r. ⌜ r ≡ lesser x y ⌝ }
 {
-    if x < 0 { -x } else { x }
+    if x < y { x } else { y }
 }
 
-// The smaller of |x| and |y|, with the sign of their product.
+fn greater(x: i32, y: i32) -> i32
+    ensures { λ r. ⌜ r ≡ greater x y ⌝ }
+{
+    if x < y { y } else { x }
+}
+
+// The smaller of |x| and |y|, with the sign of their product: the greater of their lesser and of
+// minus their greater, which needs no branch.
 pub fn lower(x: i32, y: i32) -> i32
     requires { ⌜ (natAbs x < 2 ^ 31) × (natAbs y < 2 ^ 31) ⌝ }
     ensures { λ r. ⌜ r ≡ lower x y ⌝ }
 {
-    let p = size(x);
-    let q = size(y);
-    let least = if q < p { q } else { p };
-    if x < 0 {
-        if y < 0 { least } else { -least }
-    } else {
-        if y < 0 { -least } else { least }
-    }
+    let turned = -greater(x, y);
+    greater(lesser(x, y), turned)
 }
 
 // y + x where a is 0, else y - x.

@@ -1,21 +1,56 @@
 -- `cinorbis::turn` meets its contract: each way out is one kind of turn.
-use mathlib.Core.Bool.{true, false}
-use mathlib.Core.Path.{_≡_, refl, sym, _∙_}
+use mathlib.Core.Path.{_≡_, refl}
+use Prim.Native.Nat.{_-_}
 use native.Mathlib.Omega.{arith}
-use Rattle.cinorbis.specs.State.{isThere, takes, writes, ends, reads}
-use Rattle.cinorbis.specs.StateLaws.{there-first, absent-short}
+use borrow.Author.Tests.{ltb-false}
+use lib.ListN.{length}
+use Rattle.cinorbis.specs.declared.state.Next.the-variants.{Take, Total, Read}
+use Rattle.cinorbis.specs.State.{nextOf}
+use Rattle.cinorbis.specs.StateLaws.{next-shown, there-first, absent-short}
+use Rattle.cinorbis.specs.Turns.{writes, takes, totals, reads}
 use borrow.Author.Needs.{needs}
 use Rattle.cinorbis.proofs.turn.Statement.{statement}
 use Rattle.cinorbis.proofs.turn.Tie as tie
 
-is-there-requires : tie.Need-is-there-requires
-is-there-requires c κs = search needs
+next-turn-requires : tie.Need-next-turn-requires
+next-turn-requires c κs = search needs
 
-sub-if2 : tie.Need-sub-if2
-sub-if2 c = search needs
+enum-told : tie.Need-enum-told
+enum-told c = search needs
 
 flush-requires : tie.Need-flush-requires
 flush-requires c κs = search needs
+
+enum-told-2 : tie.Need-enum-told-2
+enum-told-2 c = search needs
+
+take-record-requires : tie.Need-take-record-requires
+take-record-requires c κs =
+    let g = c .before .before .before .before .before .before .before .before in
+    let is : nextOf (g .args .s) (g .args .input .now) (length (g .args .output .now)) ≡ Take = cc in
+    let t = next-shown (g .args .s) (g .args .input .now) (length (g .args .output .now)) Take is in
+    let fits = ltb-false (length (g .args .output .now) - g .args .s .text) 512 (t .1) in
+    (there-first (g .args .s) (g .args .input .now) (t .2) (g .pre .0 .order), g .pre .0 .within, omega (arith, fits), g .pre .2)
+
+enum-told-3 : tie.Need-enum-told-3
+enum-told-3 c = search needs
+
+finish-requires : tie.Need-finish-requires
+finish-requires c κs =
+    let g = c .before .before .before .before .before .before .before in
+    let is : nextOf (g .args .s) (g .args .input .now) (length (g .args .output .now)) ≡ Total = cc in
+    let t = next-shown (g .args .s) (g .args .input .now) (length (g .args .output .now)) Total is in
+    omega (arith, ltb-false (length (g .args .output .now) - g .args .s .text) 512 (t .1))
+
+enum-told-4 : tie.Need-enum-told-4
+enum-told-4 c = search needs
+
+refill-requires : tie.Need-refill-requires
+refill-requires c κs =
+    let g = c .before .before .before .before .before .before .before in
+    let is : nextOf (g .args .s) (g .args .input .now) (length (g .args .output .now)) ≡ Read = cc in
+    let t = next-shown (g .args .s) (g .args .input .now) (length (g .args .output .now)) Read is in
+    (g .pre .0 .order, g .pre .0 .within, omega (arith, absent-short (g .args .s) (g .args .input .now) (t .2) (t .3), g .pre .1))
 
 same-length : tie.Need-same-length
 same-length c = search needs
@@ -24,19 +59,7 @@ same-length-2 : tie.Need-same-length-2
 same-length-2 c = search needs
 
 returns : tie.Need-returns
-returns c = writes (c .flush .ensures) refl refl
-
--- the test for the next record
-there : (c : tie.Then1) → isThere (c .before .before .before .before .before .args .s) (c .before .before .before .before .before .args .input .now) ≡ true
-there c = sym (c .before .is-there .ensures) ∙ c .if1 .taken
-
-absent : (c : tie.Else1) → isThere (c .before .before .before .before .before .args .s) (c .before .before .before .before .before .args .input .now) ≡ false
-absent c = sym (c .before .is-there .ensures) ∙ c .if1 .left
-
-take-record-requires : tie.Need-take-record-requires
-take-record-requires c κs =
-    let g = c .before .before .before .before .before .before .before .before .before in
-    (there-first (g .args .s) (g .args .input .now) (there (c .before .before .before .before)) (g .pre .0 .order), g .pre .0 .within, omega arith, g .pre .3)
+returns c = writes (cc) (c .flush .ensures) refl refl
 
 same-length-3 : tie.Need-same-length-3
 same-length-3 c = search needs
@@ -45,58 +68,44 @@ same-length-4 : tie.Need-same-length-4
 same-length-4 c = search needs
 
 returns-2 : tie.Need-returns-2
-returns-2 c = takes (there (c .before .before .before .before .before .before .before)) (c .before .before .take-record .ensures) refl
+returns-2 c = takes (cc) (c .before .before .take-record .ensures) refl
 
 same-length-5 : tie.Need-same-length-5
 same-length-5 c = search needs
 
-returns-3 : tie.Need-returns-3
-returns-3 c = ends (absent (c .before)) (c .if3 .taken) refl refl refl
-
-flush-requires-2 : tie.Need-flush-requires-2
-flush-requires-2 c κs = search needs
-
 same-length-6 : tie.Need-same-length-6
 same-length-6 c = search needs
+
+returns-3 : tie.Need-returns-3
+returns-3 c = totals (cc) (c .before .before .finish .ensures) refl
 
 same-length-7 : tie.Need-same-length-7
 same-length-7 c = search needs
 
 returns-4 : tie.Need-returns-4
-returns-4 c = writes (c .flush2 .ensures) refl refl
-
-refill-requires : tie.Need-refill-requires
-refill-requires c κs =
-    let g = c .before .before .before .before .before .before .before .before .before in
-    let short = absent-short (g .args .s) (g .args .input .now) (absent (c .before .before .before .before)) (c .before .before .before .if3 .left) in
-    (g .pre .0 .order, g .pre .0 .within, omega (arith, short, g .pre .1))
-
-same-length-8 : tie.Need-same-length-8
-same-length-8 c = search needs
-
-returns-5 : tie.Need-returns-5
-returns-5 c = reads (absent (c .before .before .before .before .before .before .before)) (c .before .before .before .before .before .before .if3 .left) (c .before .before .refill .ensures) refl
+returns-4 c = reads (cc) (c .before .before .refill .ensures) refl
 
 pub turn-spec : {M : Type 1} → statement M
 turn-spec =
     tie.close
     (tie.spec
-    is-there-requires
-    sub-if2
+    next-turn-requires
+    enum-told
     flush-requires
+    enum-told-2
+    take-record-requires
+    enum-told-3
+    finish-requires
+    enum-told-4
+    refill-requires
     same-length
     same-length-2
     returns
-    take-record-requires
     same-length-3
     same-length-4
     returns-2
     same-length-5
-    returns-3
-    flush-requires-2
     same-length-6
+    returns-3
     same-length-7
-    returns-4
-    refill-requires
-    same-length-8
-    returns-5)
+    returns-4)

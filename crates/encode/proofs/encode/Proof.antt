@@ -9,7 +9,6 @@ use Rattle.code.specs.SoundLaws.{MadeOf, made-of}
 use Rattle.code.specs.EntriesLaws.{good-bits}
 use Rattle.encode.specs.Outcome.{encoding, done}
 use Rattle.encode.specs.OutcomeLaws.{tested-parameters, tested-input, tested-output, tested-entry, tested-all, its-length, its-dimension}
-use Rattle.encode.specs.Work.{Sized}
 use Rattle.encode.proofs.encode.Statement.{statement}
 use Rattle.encode.proofs.encode.Tie as tie
 
@@ -81,9 +80,12 @@ put-word-requires c κs =
     let first = c5 .if1 .left ∙ c6 .dimension .ensures in
     let second = c3 .if2 .left ∙ c4 .length .ensures in
     let place = c .before .before .first-bad-bit .ensures in
-    let sized : Sized (c8 .code .given .0 .0) (c13 .args .bits .now) (c13 .args .word .now) =
-    record { sound = is-made c7 .sound; bits-long = first; word-long = second } in
-    (sized, good-bits (c13 .args .bits .now) (rw place at (c .before .if3 .left)))
+    record {
+      sound = is-made c7 .sound;
+      long-bits = first;
+      long-word = second;
+      entries = good-bits (c13 .args .bits .now) (rw place at (c .before .if3 .left));
+    }
 
 same-length : tie.Need-same-length
 same-length c = search needs

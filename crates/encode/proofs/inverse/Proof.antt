@@ -10,7 +10,6 @@ use Rattle.code.specs.SoundLaws.{MadeOf, made-of}
 use Rattle.code.specs.EntriesLaws.{good-bits}
 use Rattle.encode.specs.Outcome.{inverting, takingBack}
 use Rattle.encode.specs.OutcomeLaws.{tested-parameters, tested-input, tested-output, tested-entry, tested-all, its-length, its-dimension}
-use Rattle.encode.specs.Work.{Sized}
 use Rattle.encode.proofs.inverse.Statement.{statement}
 use Rattle.encode.proofs.inverse.Tie as tie
 
@@ -82,9 +81,12 @@ take-back-requires c κs =
     let first = c5 .if1 .left ∙ c6 .length .ensures in
     let second = c3 .if2 .left ∙ c4 .dimension .ensures in
     let place = c .before .before .first-bad-bit .ensures in
-    let sized : Sized (c8 .code .given .0 .0) (c13 .args .bits .now) (c13 .args .word .now) =
-    record { sound = is-made c7 .sound; bits-long = second; word-long = first } in
-    (sized, good-bits (c13 .args .word .now) (rw place at (c .before .if3 .left)))
+    record {
+      sound = is-made c7 .sound;
+      long-bits = second;
+      long-word = first;
+      entries = good-bits (c13 .args .word .now) (rw place at (c .before .if3 .left));
+    }
 
 same-length : tie.Need-same-length
 same-length c = search needs

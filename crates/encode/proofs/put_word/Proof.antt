@@ -22,7 +22,7 @@ part-kinds-start : tie.Need-part-kinds-start
 part-kinds-start c = search needs
 
 part-kinds-end : tie.Need-part-kinds-end
-part-kinds-end c = omega (arith, length-most (c .before .before .before .pre .0 .sound), c .length .ensures)
+part-kinds-end c = omega (arith, length-most (c .before .before .before .pre .sound), c .length .ensures)
 
 put-kinds-requires : tie.Need-put-kinds-requires
 put-kinds-requires c κs = search needs
@@ -39,15 +39,15 @@ part-fill-end c =
     let c7 = c4 .before .before .before in
     let n = c4 .length in
     let put = c .before .before .put-kinds in
-    still-within (n .result) zeros (put .last .1 .0) (put .kept .1 .0) (omega (arith, length-most (c7 .pre .0 .sound), n .ensures))
+    still-within (n .result) zeros (put .last .1 .0) (put .kept .1 .0) (omega (arith, length-most (c7 .pre .sound), n .ensures))
 
 fill-requires : tie.Need-fill-requires
 fill-requires c κs =
     let c4 = c .before .before .before .before in
     let c6 = c4 .before .before in
     let s = c6 .before .before .before in
-    fill-asked _ _ _ zeros _ (c4 .put-kinds .ensures) (c6 .length .ensures) (s .args .bits .now) (s .args .word .now) (s .pre .0 .bits-long)
-    (s .pre .0 .word-long)
+    fill-asked _ _ _ zeros _ (c4 .put-kinds .ensures) (c6 .length .ensures) (s .args .bits .now) (s .args .word .now) (s .pre .long-bits)
+    (s .pre .long-word)
 
 cast-transform : tie.Need-cast-transform
 cast-transform c = search needs
@@ -59,7 +59,7 @@ transform-requires c κs =
     let c11 = c9 .before .before in
     let c14 = c11 .before .before .before in
     let fill = c4 .fill in
-    filled-asked _ _ _ zeros _ (c9 .put-kinds .ensures) (c11 .length .ensures) _ _ (fill .ensures) (c14 .pre .1)
+    filled-asked _ _ _ zeros _ (c9 .put-kinds .ensures) (c11 .length .ensures) _ _ (fill .ensures) (c14 .pre .entries)
 
 same-length : tie.Need-same-length
 same-length c = search needs

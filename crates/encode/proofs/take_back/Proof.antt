@@ -22,7 +22,7 @@ part-kinds-start : tie.Need-part-kinds-start
 part-kinds-start c = search needs
 
 part-kinds-end : tie.Need-part-kinds-end
-part-kinds-end c = omega (arith, length-most (c .before .before .before .pre .0 .sound), c .length .ensures)
+part-kinds-end c = omega (arith, length-most (c .before .before .before .pre .sound), c .length .ensures)
 
 put-kinds-requires : tie.Need-put-kinds-requires
 put-kinds-requires c κs = search needs
@@ -34,7 +34,7 @@ part-row-start : tie.Need-part-row-start
 part-row-start c = search needs
 
 part-row-end : tie.Need-part-row-end
-part-row-end c = omega (arith, length-most (c .before .before .before .before .before .before .pre .0 .sound), c .before .before .before .length .ensures)
+part-row-end c = omega (arith, length-most (c .before .before .before .before .before .before .pre .sound), c .before .before .before .length .ensures)
 
 cast-put-row : tie.Need-cast-put-row
 cast-put-row c = search needs
@@ -55,7 +55,7 @@ part-take-row-end c =
     let c11 = c8 .before .before .before in
     let n = c8 .length in
     let put = c6 .put-kinds in
-    still-within (n .result) zeros (put .last .1 .0) (put .kept .1 .0) (omega (arith, length-most (c11 .pre .0 .sound), n .ensures))
+    still-within (n .result) zeros (put .last .1 .0) (put .kept .1 .0) (omega (arith, length-most (c11 .pre .sound), n .ensures))
 
 sub-take-row-2 : tie.Need-sub-take-row-2
 sub-take-row-2 c = search needs
@@ -70,7 +70,7 @@ part-take-row-end-2 c =
     let c13 = c10 .before .before .before in
     let n = c10 .length in
     let put = c4 .put-row in
-    still-within (n .result) zeros (put .last .1 .0) (put .kept .1 .0) (omega (arith, length-most (c13 .pre .0 .sound), n .ensures))
+    still-within (n .result) zeros (put .last .1 .0) (put .kept .1 .0) (omega (arith, length-most (c13 .pre .sound), n .ensures))
 
 take-row-requires : tie.Need-take-row-requires
 take-row-requires c κs =
@@ -79,8 +79,8 @@ take-row-requires c κs =
     let c12 = c10 .before .before in
     let s = c12 .before .before .before in
     let row = c6 .put-row in
-    take-asked _ _ _ zeros _ (c10 .put-kinds .ensures) (c12 .length .ensures) _ _ (s .pre .0 .word-long) (row .ensures) (s .args .bits .now)
-    (s .pre .0 .bits-long)
+    take-asked _ _ _ zeros _ (c10 .put-kinds .ensures) (c12 .length .ensures) _ _ (s .pre .long-word) (row .ensures) (s .args .bits .now)
+    (s .pre .long-bits)
 
 same-length : tie.Need-same-length
 same-length c = search needs
@@ -93,7 +93,7 @@ returns c =
     let s = c15 .before .before .before in
     let row = c9 .put-row in
     let took = c .before .before .take-row in
-    taken-word _ _ _ zeros _ (c13 .put-kinds .ensures) (c15 .length .ensures) _ _ (s .pre .0 .word-long) (row .ensures) (s .args .bits .now) _ (took .ensures)
+    taken-word _ _ _ zeros _ (c13 .put-kinds .ensures) (c15 .length .ensures) _ _ (s .pre .long-word) (row .ensures) (s .args .bits .now) _ (took .ensures)
 
 pub take-back-spec : {M : Type 1} → statement M
 take-back-spec =

@@ -2,8 +2,8 @@
 use borrow.Author.Needs.{needs}
 use mathlib.Core.Path.{sym, _∙_}
 use lib.ListN.{length}
-use Rattle.code.specs.AdmittedLaws.{allows-all}
-use Rattle.quick.specs.OutcomeLaws.{reading-refused, reading-done, given}
+use Rattle.code.specs.AdmittedLaws.{allowed-sound}
+use Rattle.quick.specs.OutcomeLaws.{reading-refused, reading-done}
 use Rattle.quick.proofs.quick.Statement.{statement}
 use Rattle.quick.proofs.quick.Tie as tie
 
@@ -25,7 +25,7 @@ take-reading-requires c κs =
     let bits = g .bits .now in
     let word = g .word .now in
     let is = sym (code .1) ∙ c .before .before .before .before .before .admit .ensures in
-    given r (g .m) l bits word (code .0 .0) (allows-all r (g .m) l (length bits) (length word) (code .0 .0) is)
+    allowed-sound r (g .m) l (length bits) (length word) (code .0 .0) is
 
 returns : tie.Need-returns
 returns c =

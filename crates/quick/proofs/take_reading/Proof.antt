@@ -1,11 +1,12 @@
 -- The kinds stand in the front of the scratch array; word, bits and penalty are those of the written steps.
 use borrow.Author.Needs.{needs}
+use mathlib.Core.Path.{sym, _∙_}
 use Prim.Native.Nat.{_-_, _≤_}
 use native.Mathlib.Omega.{arith}
 use lib.ListN.{length, replicate}
 use borrow.Rule.Slice.PartMut.{putMid, same-len-mid}
 use Rattle.code.specs.SoundLaws.{length-most}
-use Rattle.quick.specs.OutcomeLaws.{take-asked, all-read}
+use Rattle.quick.specs.OutcomeLaws.{sums-small, take-asked, all-read}
 use Rattle.quick.proofs.take_reading.Statement.{statement}
 use Rattle.quick.proofs.take_reading.Tie as tie
 
@@ -55,7 +56,9 @@ part-quick-word-end : tie.Need-part-quick-word-end
 part-quick-word-end c = still-within (c .before .before)
 
 quick-word-requires : tie.Need-quick-word-requires
-quick-word-requires c κs = search needs
+quick-word-requires c κs =
+    let small = sums-small (entry (c .before .before .before .before) .pre) in
+    search (needs, small)
 
 sub-take-bits : tie.Need-sub-take-bits
 sub-take-bits c = search needs
@@ -78,7 +81,10 @@ take-bits-requires c κs =
     )
 
 penalty-requires : tie.Need-penalty-requires
-penalty-requires c κs = search needs
+penalty-requires c κs =
+    let w = c .before .before .before .before .before .before .before .before .before .before in
+    let g = entry (filled w) in
+    (w .quick-word .kept .1 .1 .0 ∙ g .pre .long-word ∙ sym (g .pre .entries .long), sums-small (g .pre))
 
 same-length : tie.Need-same-length
 same-length c = search needs

@@ -1,7 +1,7 @@
 -- `cinorbis::line::put_info` meets its contract.
 use native.Mathlib.Omega.{arith}
 use lib.ListN.{length-map}
-use Rattle.cinorbis.specs.Line.{bytesOf, digit}
+use Rattle.cinorbis.specs.Line.{bytesOf, digitByte}
 use Rattle.cinorbis.specs.LineLaws.{info-put}
 use borrow.Author.Needs.{needs}
 use Rattle.cinorbis.proofs.line.put_info.Statement.{statement}
@@ -30,7 +30,7 @@ returns c =
     let g = a .before .before .before .before .args in
     let last = c .before .before .put-bits .ensures in (
       info-put (g .out .now) (g .at) (omega arith) (g .w) (g .bits .now) _ _ _ _ _ _ (a .put-number .ensures .0) (b .put-text .ensures) last,
-      omega (arith, last .end-is, length-map (g .bits .now) digit),
+      omega (arith, last .end-is, length-map (g .bits .now) digitByte),
     )
 
 pub put-info-spec : {M : Type 1} → statement M

@@ -12,20 +12,20 @@ add-t5 c = search needs
 returns : tie.Need-returns
 returns c = rw (c .before .before .before .if1 .taken)
 
-add-t11 : tie.Need-add-t11
-add-t11 c = search needs
+add-t12 : tie.Need-add-t12
+add-t12 c = search needs
 
 returns-2 : tie.Need-returns-2
 returns-2 c = rw (c .before .before .if1 .left, c .before .if2 .taken)
 
-add-t17 : tie.Need-add-t17
-add-t17 c = search needs
-
 add-t18 : tie.Need-add-t18
 add-t18 c = search needs
+
+add-t19 : tie.Need-add-t19
+add-t19 c = search needs
 
 returns-3 : tie.Need-returns-3
 returns-3 c = rw (c .before .before .before .before .if1 .left, c .before .before .before .if2 .left)
 
 pub count-spec : {M : Type 1} → statement M
-count-spec = tie.close (tie.spec add-t4 add-t5 returns add-t11 returns-2 add-t17 add-t18 returns-3)
+count-spec = tie.close (tie.spec add-t4 add-t5 returns add-t12 returns-2 add-t18 add-t19 returns-3)

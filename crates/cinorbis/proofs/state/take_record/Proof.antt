@@ -1,8 +1,9 @@
 -- `cinorbis::state::take_record` meets its contract.
 use native.Mathlib.Omega.{arith}
 use lib.ListN.{getD}
+use Rattle.record.specs.HeaderLaws.{record-small}
 use Rattle.cinorbis.specs.State.{unread}
-use Rattle.cinorbis.specs.StateLaws.{next-small, took}
+use Rattle.cinorbis.specs.StateLaws.{took}
 use borrow.Author.Needs.{needs}
 use Rattle.cinorbis.proofs.state.take_record.Statement.{statement}
 use Rattle.cinorbis.proofs.state.take_record.Tie as tie
@@ -25,7 +26,7 @@ one-requires c κs = search needs
 count-requires : tie.Need-count-requires
 count-requires c κs =
     let g = c .before .before .before .before .before .before .before .before in
-    omega (arith, c .before .before .one .ensures .next, next-small (getD (unread (g .args .s) (g .args .input .now)) 0 0))
+    omega (arith, c .before .before .one .ensures .next, record-small (getD (unread (g .args .s) (g .args .input .now)) 0 0))
 
 same-length : tie.Need-same-length
 same-length c = search needs

@@ -2,18 +2,18 @@
 use mathlib.Core.Path.{_∙_}
 use Prim.Native.Nat.{_≤_}
 use native.Mathlib.Omega.{arith}
-use Rattle.code.specs.SoundLaws.{length-most}
-use Rattle.code.specs.SoundLaws.{dimension-largest}
-use Rattle.cinorbis.specs.StepLaws.{accepted-sound, zeros-front}
+use Rattle.code.specs.SoundLaws.{length-most, dimension-largest}
+use Rattle.record.specs.HeaderLaws.{header-sound}
+use Rattle.cinorbis.specs.StepLaws.{zeros-front}
 use borrow.Author.Needs.{needs}
 use Rattle.cinorbis.proofs.step.search.Statement.{statement}
 use Rattle.cinorbis.proofs.step.search.Tie as tie
 
 dimension-requires : tie.Need-dimension-requires
-dimension-requires c κs = accepted-sound _ _ (c .before .before .pre .0)
+dimension-requires c κs = header-sound _ _ (c .before .before .pre .0)
 
 length-requires : tie.Need-length-requires
-length-requires c κs = accepted-sound _ _ (c .before .before .before .pre .0)
+length-requires c κs = header-sound _ _ (c .before .before .before .pre .0)
 
 sub-search-into : tie.Need-sub-search-into
 sub-search-into c = search needs
@@ -22,7 +22,7 @@ part-bits-start : tie.Need-part-bits-start
 part-bits-start c = search needs
 
 part-bits-end : tie.Need-part-bits-end
-part-bits-end c = omega (arith, dimension-largest _ (accepted-sound _ _ (c .before .before .before .before .pre .0)), c .before .dimension .ensures)
+part-bits-end c = omega (arith, dimension-largest _ (header-sound _ _ (c .before .before .before .before .pre .0)), c .before .dimension .ensures)
 
 sub-search-into-2 : tie.Need-sub-search-into-2
 sub-search-into-2 c = search needs
@@ -31,12 +31,12 @@ part-word-start : tie.Need-part-word-start
 part-word-start c = search needs
 
 part-word-end : tie.Need-part-word-end
-part-word-end c = omega (arith, length-most (accepted-sound _ _ (c .before .before .before .before .before .pre .0)), c .before .length .ensures)
+part-word-end c = omega (arith, length-most (header-sound _ _ (c .before .before .before .before .before .pre .0)), c .before .length .ensures)
 
 search-into-requires : tie.Need-search-into-requires
 search-into-requires c κs =
     let g = c .before .before .before .before .before .before .before in
-    let sound = accepted-sound (g .args .s .now) (g .args .code) (g .pre .0) in
+    let sound = header-sound (g .args .s .now) (g .args .code) (g .pre .0) in
     let k = c .before .before .before .before .dimension in
     let n = c .before .before .before .length in
     let few : k .result ≤ 256 = omega (arith, k .ensures, dimension-largest (g .args .code) sound) in

@@ -1,14 +1,17 @@
--- `Code::dimension`: the table's rule is one computed equation.
+-- `Code::dimension`: the entry r of the row of m.
 use borrow.Author.Needs.{needs}
-use mathlib.Core.Path.{refl}
-use Rattle.numbers.specs.Sums.{total, tabulate}
-use Rattle.words.specs.Kinds.{choose, dimension}
-use Rattle.code.specs.SoundLaws.{dimensions-at}
+use mathlib.Core.Path.{ap, _∙_}
+use mathlib.Core.List.{List}
+use Prim.Native.Nat.{ℕ, _<_}
+use native.Mathlib.Omega.{arith}
+use lib.ListN.{getD}
+use Rattle.numbers.specs.SumsLaws.{getD-tabulate}
+use Rattle.words.specs.Kinds.{dimension}
 use Rattle.code.proofs.Code.dimension.Statement.{statement}
 use Rattle.code.proofs.Code.dimension.Tie as tie
 
-cast-m : tie.Need-cast-m
-cast-m c = search needs
+dimensions-requires : tie.Need-dimensions-requires
+dimensions-requires c κs = search needs
 
 cast-r : tie.Need-cast-r
 cast-r c = search needs
@@ -16,22 +19,19 @@ cast-r c = search needs
 mul-result : tie.Need-mul-result
 mul-result c = search needs
 
-mul-result-2 : tie.Need-mul-result-2
-mul-result-2 c = search needs
+array-read-result : tie.Need-array-read-result
+array-read-result c = search needs
 
-index-1-result : tie.Need-index-1-result
-index-1-result c = search needs
-
-index-2-result : tie.Need-index-2-result
-index-2-result c = search needs
+cast-result : tie.Need-cast-result
+cast-result c = search needs
 
 returns : tie.Need-returns
-unfolding total tabulate choose dimension
 returns c =
-    let s = c .before .before .before in
-    dimensions-at _ refl (s .args .self .r) (s .args .self .m) (s .pre .r-small) (s .pre .m-small)
+    let s = c .before .before in
+    let r = s .args .self .r in
+    let m = s .args .self .m in
+    let small : r < 9 = omega (arith, s .pre .r-small, s .pre .m-small) in
+    ap (λ (row : List ℕ). getD row r 0) (c .before .dimensions .ensures) ∙ getD-tabulate (λ k. dimension k m) 9 r 0 small
 
 pub dimension-spec : {M : Type 1} → statement M
-dimension-spec =
-    tie.close
-    (tie.spec cast-m cast-r mul-result mul-result-2 index-1-result index-2-result returns)
+dimension-spec = tie.close (tie.spec dimensions-requires cast-r mul-result array-read-result cast-result returns)

@@ -1,0 +1,150 @@
+-- The program ends: each turn brings it nearer, so that a run has at most three turns for each byte that came, and four.
+use mathlib.Core.Path.{_≡_, refl, ap, sym, _∙_, subst}
+use mathlib.Core.List.{List, _++_}
+use mathlib.Core.Logic.{_⊎_, inl, inr, ⊎-elim}
+use mathlib.Core.Bool.{Bool, true, false, cond, not}
+use Prim.Native.Nat.{ℕ, zero, suc, _+_, _-_, _*_, _^_, _≤_, _<_, min}
+use native.Mathlib.Omega.{arith}
+use lib.IntN.{ℤ, pos, negsuc}
+use lib.Dec.{ltb}
+use lib.ListN.{length, take, drop, length-append, length-drop, length-take}
+use borrow.Author.Tests.{ltb-true}
+use Rattle.numbers.specs.Choice.{cond-by}
+use Rattle.cinorbis.specs.declared.state.State.{State}
+use Rattle.cinorbis.specs.declared.state.Next.the-variants.{Write, Take, Total, Read}
+use Rattle.cinorbis.specs.Program.{Result, answered, refused, resultOf, stops, nextStart}
+use Rattle.cinorbis.specs.OutputLaws.{goes-on-there}
+use Rattle.cinorbis.specs.State.{room, longest, starting, Ready, unread, isThere, after, afterRead, afterWrite}
+use Rattle.cinorbis.specs.StateLaws.{next-shown, there-first, absent-short}
+use Rattle.cinorbis.specs.Turns.{Turned, writes, takes, totals, reads, Passed, nothing, withRead, passing, Chain, start, turn, Ran}
+use Rattle.cinorbis.specs.TurnsLaws.{Stands, chain-holds}
+
+-- as many turns may still come if no other byte does
+abbrev pub due : State → ℕ
+due s = 2 * (s .«end» - s .at) + min 1 (s .text) + cond (s .closed) 0 2 + cond (s .ended) 0 1 + cond (s .going) 1 0
+
+at-most-one : (b : Bool) → cond b 1 0 ≤ 1
+at-most-one true = omega arith
+at-most-one false = omega arith
+
+-- c bytes came
+grown : (n l k c t a b g : ℕ) → n + (2 * k + t + a + b + 1) ≤ 3 * l + 4 → 1 ≤ c → g ≤ 1 → suc n + (2 * (k + c - 0) + t + a + b + g) ≤ 3 * (l + c) + 4
+grown n l k c t a b g h one small = omega arith
+
+module _ (n most : ℕ) (s : State) (input output : List ℕ) (r : Ready s input output) (g : s .going ≡ true)
+    (space : longest ≤ length input) (line : room ≤ length output) (h : n + due s ≤ most) where
+  before : n + (2 * (s .«end» - s .at) + min 1 (s .text) + cond (s .closed) 0 2 + cond (s .ended) 0 1 + 1) ≤ most
+  before = rw g at h
+
+  -- ---- what waits is written: it is not nothing, or it is the last
+  due-written-some : (done : Bool) → 0 < s .text → suc n + due (afterWrite done s) ≤ most
+  due-written-some true t = omega (arith, before, at-most-one (not (s .closed)))
+  due-written-some false t = omega (arith, before)
+
+  due-written-last : (done : Bool) → s .closed ≡ true → suc n + due (afterWrite done s) ≤ most
+  due-written-last true c = let b = rw c at before in rw c (omega (arith, b))
+  due-written-last false c = omega (arith, before)
+
+  due-written : (done : Bool) → (s .closed ≡ true) ⊎ (ltb (length output - s .text) room ≡ true) ⊎ (ltb 0 (s .text) ≡ true)
+      → suc n + due (afterWrite done s) ≤ most
+  due-written done =
+      ⊎-elim (λ c. due-written-last done c)
+      (⊎-elim (λ f. due-written-some done (omega (arith, ltb-true (length output - s .text) room f))) (λ f. due-written-some done (ltb-true 0 (s .text) f)))
+
+  -- ---- a record is taken: it has bytes
+  due-after : (result : Result) (text : ℕ) → isThere s input ≡ true → resultOf (unread s input) ≡ result
+      → suc n + due (after s result text (s .at + nextStart (unread s input))) ≤ most
+  due-after (answered bits penalty gap visits) text t e =
+      omega (arith, before, at-most-one (s .going), goes-on-there (unread s input) (rw e) .some, there-first s input t (r .order))
+  due-after (refused why) text t e =
+      cond-by (λ (x : State). suc n + due x ≤ most) (stops (refused why)) _ _
+      (λ z. omega (arith, before, at-most-one (s .going), there-first s input t (r .order)))
+      (λ z. omega (arith, before, at-most-one (s .going), goes-on-there (unread s input) (rw e z) .some, there-first s input t (r .order)))
+
+  -- ---- a read: bytes came, or it is the last
+  due-read : (got : ℤ) (input′ : List ℕ) → length input′ ≡ length input → isThere s input ≡ false → s .ended ≡ false → (p : Passed)
+      → most ≡ 3 * length (p .came) + 4 → let k = s .«end» - s .at in
+      suc n + due (afterRead got (length input - k) s) ≤ 3 * length (withRead p got (drop k input′) .came) + 4
+  due-read (negsuc j) input′ same t e p b = omega (arith, before)
+  due-read (pos zero) input′ same t e p b = let c = rw e at before in omega (arith, c, at-most-one (s .going))
+  due-read (pos (suc j)) input′ same t e p b =
+      let k = s .«end» - s .at in
+      let c = min (suc j) (length input - k) in
+      let fresh = drop k input′ in
+      let long : length fresh ≡ length input - k = length-drop k input′ ∙ ap (λ (n : ℕ). n - k) same in
+      let came : length (p .came ++ take (suc j) fresh) ≡ length (p .came) + c =
+      length-append (p .came) (take (suc j) fresh) ∙ ap (λ (n : ℕ). length (p .came) + n) (length-take (suc j) fresh ∙ ap (min (suc j)) long) in
+      let one : 1 ≤ c = omega (arith, absent-short s input t e) in
+      rw came
+      (grown n (length (p .came)) k c (min 1 (s .text)) (cond (s .closed) 0 2) (cond (s .ended) 0 1) (cond (s .going) 1 0)
+      (rw b at before) one (at-most-one (s .going)))
+
+  due-turned : (p : Passed) → most ≡ 3 * length (p .came) + 4 → (t : State) (input′ output′ : List ℕ) → length input′ ≡ length input
+      → (w : Turned s input output t input′ output′) → suc n + due t ≤ 3 * length (passing s input output t input′ output′ w p .came) + 4
+  due-turned p b t input′ output′ same (writes next k i o) =
+      subst (λ (x : State). suc n + due x ≤ 3 * length (p .came) + 4) (sym (k .is))
+      (rw (← b) (due-written (k .done) (next-shown s input (length output) Write next)))
+  due-turned p b t input′ output′ same (takes next k i) =
+      let w = next-shown s input (length output) Take next in
+      subst (λ (x : State). suc n + due x ≤ 3 * length (p .came) + 4) (sym (k .counts))
+      (rw (← b) (due-after (resultOf (unread s input)) (t .text) (w .2) refl))
+  due-turned p b t input′ output′ same (totals next k i) =
+      let c = rw (next-shown s input (length output) Total next .0) at before in
+      subst (λ (x : State). suc n + due x ≤ 3 * length (p .came) + 4) (sym (k .closes)) (omega (arith, c, at-most-one (s .going)))
+  due-turned p b t input′ output′ same (reads next k o) =
+      let w = next-shown s input (length output) Read next in
+      subst (λ (x : State). suc n + due x ≤ 3 * length (withRead p (k .got) (drop (s .«end» - s .at) input′) .came) + 4) (sym (k .is))
+      (due-read (k .got) input′ same (w .2) (w .3) p b)
+
+-- the turns of a chain, and those that are due
+pub chain-due : (n : ℕ) (s : State) (input output : List ℕ) (p : Passed) → Chain n s input output p → longest ≤ length input → room ≤ length output
+    → n + due s ≤ 3 * length (p .came) + 4
+chain-due n s input output p (start i o) space line = omega arith
+chain-due n s input output p (turn m s₀ input₀ output₀ p₀ t input′ output′ c g e f w) space line =
+    let big : longest ≤ length input₀ = omega arith in
+    let wide : room ≤ length output₀ = omega arith in
+    let r = chain-holds m s₀ input₀ output₀ p₀ c .stands .ready in
+    due-turned m (3 * length (p₀ .came) + 4) s₀ input₀ output₀ r g big wide (chain-due m s₀ input₀ output₀ p₀ c big wide) p₀ refl t input′ output′ e w
+
+-- ---- for the proof at the code: a chain of turns when so many are left of those that are counted
+pub record Along (left : ℕ) (s : State) (input output : List ℕ) : Type 0 where
+  pub turns : ℕ
+  pub passed : Passed
+  pub chain : Chain turns s input output passed
+  pub count : turns + left ≡ 2 ^ 64 - 1
+  pub space : longest ≤ length input
+  pub line : room ≤ length output
+
+pub along-start : (input output : List ℕ) (s : State) → s ≡ starting → longest ≤ length input → room ≤ length output → Along (2 ^ 64 - 1) s input output
+along-start input output s e space line =
+    rw e (record { turns = 0; passed = nothing; chain = start input output; count = refl; space = space; line = line })
+
+module _ (left : ℕ) (s : State) (input output : List ℕ) (a : Along left s input output) where
+  pub along-stands : Stands (a .turns) s input output (a .passed)
+  along-stands = chain-holds (a .turns) s input output (a .passed) (a .chain) .stands
+
+  pub along-turn : (t : State) (input′ output′ : List ℕ) → 0 < left → s .going ≡ true → length input′ ≡ length input → length output′ ≡ length output
+      → Turned s input output t input′ output′ → Along (left - 1) t input′ output′
+  along-turn t input′ output′ h g e f w =
+      record {
+        turns = suc (a .turns);
+        passed = passing s input output t input′ output′ w (a .passed);
+        chain = turn (a .turns) s input output (a .passed) t input′ output′ (a .chain) g e f w;
+        count = omega (arith, a .count);
+        space = omega (arith, a .space);
+        line = omega (arith, a .line);
+      }
+
+  pub along-ran : (s .going ≡ false) ⊎ (left ≡ 0) → Ran
+  along-ran e =
+      record {
+        turns = a .turns;
+        state = s;
+        input = input;
+        output = output;
+        passed = a .passed;
+        chain = a .chain;
+        ends =
+            ⊎-elim (λ g. inl g)
+            (λ z. inr (omega (arith, a .count, chain-due (a .turns) s input output (a .passed) (a .chain) (a .space) (a .line)))) e;
+      }

@@ -1,0 +1,74 @@
+-- The outcomes of `encode` and `inverse` meet demand 1.
+use mathlib.Core.Path.{_≡_, refl, ap, sym}
+use mathlib.Core.Logic.{_⊎_, inl, inr, ⊎-elim}
+use mathlib.Core.List.{List, [], _∷_}
+use Prim.Native.Nat.{ℕ, _^_}
+use native.Mathlib.Omega.{arith}
+use native.Mathlib.Decide.{ℕ-discrete}
+use lib.ListN.{length}
+use borrow.Author.Tests.{lt-ltb, le-ltb}
+use Rattle.numbers.specs.Choice.{lt-or-le}
+use Rattle.words.specs.Bits.{Bits}
+use Rattle.words.specs.Word.{transform}
+use Rattle.words.specs.Kinds.{kinds, dimension, encoded}
+use Rattle.words.specs.KindLaws.{length-kinds, bits-kinds}
+use Rattle.words.specs.Inverse.{frozenOne, firstFrozenOne, takenBack}
+use Rattle.words.specs.InverseLaws.{lowest-refused}
+use Rattle.code.specs.declared.Made.the-variants.{Good}
+use Rattle.code.specs.Sound.{Sound, made, rm}
+use Rattle.code.specs.SoundLaws.{made-good}
+use Rattle.code.specs.EntriesLaws.{good-bits}
+use Rattle.code.specs.Demand1.{Checks, passed, bitChecks}
+use Rattle.code.specs.Demand1Laws.{Decides, demand-1, decides-first}
+use Rattle.encode.specs.Outcome.{Outcome, done, tested, encoding, inverting, takingBack}
+use Rattle.encode.specs.OutcomeLaws.{tested-parameters, tested-input, tested-output, tested-entry, tested-all}
+use Rattle.encode.specs.Demands.{view, encodeChecks, frozenCheck, inverseChecks, EncodeDemand1, InverseDemand1}
+
+long-or-not : (a b : ℕ) → (a ≡ b) ⊎ (a ≡ b → ⊥)
+long-or-not a b = elim (ℕ-discrete a b) [ yes e ↦ inl e | no e ↦ inr e ]
+
+-- the tests of an input of bits, and then what is left
+module _ (r m : ℕ) (input : List ℕ) (due : ℕ) (output : List ℕ) (room : ℕ) (rest : Outcome) (more : Checks) where
+  good : Sound (rm r m) → made r m ≡ Good (rm r m)
+  good s = made-good r m (s .m-small) (s .r-small)
+
+  pub decides-tested : (length input ≡ due → Bits input → Decides (output ∷ []) (view rest) more)
+      → Decides (output ∷ []) (view (tested r m input due output room rest)) (bitChecks r m input due (length output) room more)
+  decides-tested then =
+      decides-first 0 (λ b. b) 1 r m input due (length output ≡ room) (output ∷ []) (view (tested r m input due output room rest)) more
+      (record {
+        decidable = long-or-not (length output) room;
+        one = λ e. ap view (sym (tested-parameters r m input due output room rest e));
+        two = λ s e. ap view (sym (tested-input r m input due output room rest (good s) refl e));
+        three = λ s i e. ap view (sym (tested-output r m input due output room rest (good s) refl i refl e));
+        four = λ s i o h. ap view (sym (tested-entry r m input due output room rest (good s) refl i refl o refl h));
+        else = λ s i o h. rw (← tested-all r m input due output room rest (good s) refl i refl o refl h) (then i (good-bits input h));
+      })
+
+module _ (r m : ℕ) where
+  pub encode-demand-1 : (bits word : List ℕ) → EncodeDemand1 r m bits word
+  unfolding encoding
+  encode-demand-1 bits word =
+      let rest = done (encoded m (kinds r m) bits) in
+      demand-1 (word ∷ []) (view (encoding r m bits word)) (encodeChecks r m bits word)
+      (decides-tested r m bits (dimension r m) word (2 ^ m) rest passed (λ long are. (refl, refl)))
+
+  decides-frozen : (word bits : List ℕ) → length word ≡ 2 ^ m → Bits word
+      → Decides (bits ∷ []) (view (takingBack (takenBack m (kinds r m) word) bits)) (frozenCheck r m word)
+  unfolding takenBack
+  decides-frozen word bits long are =
+      let ks = kinds r m in
+      let i = firstFrozenOne ks (transform m word) in
+      ⊎-elim
+      (λ h.
+      let is : takenBack m ks word ≡ frozenOne i = rw (lt-ltb i (length ks) h) in
+      inl (lowest-refused m ks word (length-kinds r m) (bits-kinds r m) long are i is, rw (lt-ltb i (length ks) h)))
+      (λ h. inr (λ f. omega (arith, f .below), rw (le-ltb i (length ks) h) (refl, refl)))
+      (lt-or-le i (length ks))
+
+  pub inverse-demand-1 : (word bits : List ℕ) → InverseDemand1 r m word bits
+  unfolding inverting
+  inverse-demand-1 word bits =
+      let rest = takingBack (takenBack m (kinds r m) word) bits in
+      demand-1 (bits ∷ []) (view (inverting r m word bits)) (inverseChecks r m word bits)
+      (decides-tested r m word (2 ^ m) bits (dimension r m) rest (frozenCheck r m word) (decides-frozen word bits))

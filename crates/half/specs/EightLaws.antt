@@ -1,0 +1,69 @@
+-- Three layers on eight bits at once are their transform: all 256 rows of eight bits are computed.
+use mathlib.Core.Path.{_≡_, refl, ap, sym, _∙_}
+use mathlib.Core.List.{List, [], _∷_, _++_}
+use Prim.Native.Nat.{ℕ, zero, suc, _*_, _^_, _/_, _%_, _≤_}
+use native.Mathlib.Omega.{arith}
+use native.Mathlib.Nat.{suc-inj, suc-ne-zero, div-one}
+use lib.ListN.{length, getD, take, drop}
+use lib.Seq.{getD-take, length-take-le, sets, sets-eq}
+use Rattle.numbers.specs.Sums.{total, tabulate}
+use Rattle.numbers.specs.SumsLaws.{total-same}
+use Rattle.words.specs.Bits.{Bits}
+use Rattle.words.specs.Word.{transform}
+use Rattle.words.specs.TransformLaws.{bits-take}
+use Rattle.half.specs.Eight.{packed, unpacked, bytesAdded, pairsAdded, foursAdded}
+
+-- ---- a function's results for all rows of n bits, in a table
+abbrev Table : ℕ → Type 0
+Table zero = List ℕ
+Table (suc n) = Table n × Table n
+
+abbrev table : (n : ℕ) → (List ℕ → List ℕ) → Table n
+table zero f = f []
+table (suc n) f = (table n (λ l. f (0 ∷ l)), table n (λ l. f (1 ∷ l)))
+
+-- of one table, of one result
+same-table : (n : ℕ) (f g : List ℕ → List ℕ) → table n f ≡ table n g → (l : List ℕ) → length l ≡ n → Bits l → f l ≡ g l
+same-table zero f g e [] long bits = e
+same-table zero f g e (b ∷ l) long bits = absurd (suc-ne-zero (length l) long)
+same-table (suc n) f g e [] long bits = absurd (suc-ne-zero n (sym long))
+same-table (suc n) f g e (zero ∷ l) long bits =
+    same-table n (λ k. f (0 ∷ k)) (λ k. g (0 ∷ k)) (ap (λ (t : Table (suc n)). t .0) e) l (suc-inj long) (λ i. bits (suc i))
+same-table (suc n) f g e (suc zero ∷ l) long bits =
+    same-table n (λ k. f (1 ∷ k)) (λ k. g (1 ∷ k)) (ap (λ (t : Table (suc n)). t .1) e) l (suc-inj long) (λ i. bits (suc i))
+same-table (suc n) f g e (suc (suc b) ∷ l) long bits = absurd (omega (arith, bits 0))
+
+-- ---- three layers at once
+abbrev pub threeLayers : List ℕ → List ℕ
+threeLayers x = unpacked (foursAdded (pairsAdded (bytesAdded (packed x))))
+
+all-eights : table 8 threeLayers ≡ table 8 (transform 3)
+unfolding packed unpacked total tabulate transform
+all-eights = refl
+
+packed-front : (x : List ℕ) → packed x ≡ packed (take 8 x)
+unfolding packed
+packed-front x = total-same (λ i. getD x i 0 * 256 ^ i) (λ i. getD (take 8 x) i 0 * 256 ^ i) 8
+    (λ i h. ap (λ (b : ℕ). b * 256 ^ i) (sym (getD-take 8 x i 0 h)))
+
+pub eight-word : (x : List ℕ) → 8 ≤ length x → Bits x → threeLayers x ≡ transform 3 (take 8 x)
+eight-word x h bits =
+    ap (λ (n : ℕ). unpacked (foursAdded (pairsAdded (bytesAdded n)))) (packed-front x)
+    ∙ same-table 8 threeLayers (transform 3) all-eights (take 8 x) (length-take-le 8 x h) (bits-take 8 x bits)
+
+-- ---- eight stores put the bytes of a number in front
+abbrev stored : ℕ → List ℕ
+stored x =
+    x % 256
+    ∷ x / 256 % 256
+    ∷ x / 65536 % 256
+    ∷ x / 16777216 % 256
+    ∷ x / 4294967296 % 256
+    ∷ x / 1099511627776 % 256
+    ∷ x / 281474976710656 % 256
+    ∷ x / 72057594037927936 % 256
+    ∷ []
+
+pub eight-stored : (x : ℕ) (word : List ℕ) → 8 ≤ length word → sets word 0 (stored x) ≡ unpacked x ++ drop 8 word
+unfolding unpacked tabulate
+eight-stored x word h = sets-eq (stored x) word 0 h ∙ rw (div-one x)

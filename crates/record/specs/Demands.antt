@@ -1,0 +1,32 @@
+-- Demand 1 of the search of a record: the checks 1, 8, 9, 3, 4, 6 and 7, in this order. That it is met is proved in DemandsMet.
+use mathlib.Core.Path.{_≡_}
+use mathlib.Core.Logic.{_⊎_}
+use mathlib.Core.List.{List, [], _∷_}
+use Prim.Native.Nat.{ℕ, suc, _/_, _%_, _^_, _<_}
+use lib.IntN.{pos, natAbs}
+use lib.ListN.{length, getD}
+use Rattle.words.specs.Kinds.{dimension}
+use Rattle.code.specs.declared.Refusal.the-variants.{Parameters, OutputLength, Entry, Torn, Pad}
+use Rattle.code.specs.Sound.{largestM, largestReading, rm}
+use Rattle.code.specs.Entries.{firstBadReading}
+use Rattle.code.specs.Demand1.{Checks, check, LowestBad, Demand1}
+use Rattle.search.specs.Demands.{view, walkChecks}
+use Rattle.record.specs.Layout.{partLength, padOf}
+use Rattle.record.specs.Reader.{partOf, readingsOf}
+use Rattle.record.specs.Searching.{searchingRecord}
+
+-- r and m stand in the first byte; with no byte at all both read as 0, so that it is 8
+abbrev pub recordChecks : ℕ → List ℕ → List ℕ → List ℕ → Checks
+recordChecks allowed s bits word =
+    let r = getD s 0 0 % 16 in
+    let m = getD s 0 0 / 16 in
+    let l = readingsOf (rm r m) s in
+    let place = firstBadReading largestReading l in
+    check Parameters ((largestM < m) ⊎ (m < r))
+    (check Torn (length s < suc (partLength m))
+    (check Pad (padOf m (partOf (rm r m) s) ≡ 0 → ⊥)
+    (check OutputLength ((length bits ≡ dimension r m) × (length word ≡ 2 ^ m) → ⊥)
+    (check (Entry place) (LowestBad (pos 0) natAbs largestReading l place) (walkChecks r m allowed l)))))
+
+abbrev pub RecordDemand1 : ℕ → List ℕ → List ℕ → List ℕ → Type 0
+RecordDemand1 allowed s bits word = Demand1 (recordChecks allowed s bits word) (bits ∷ word ∷ []) (view (searchingRecord allowed s bits word))
