@@ -29,7 +29,7 @@ extern "C" {
 #endif
 
 /* Raised when a call is added or changed. */
-#define CINORBIS_VERSION 2
+#define CINORBIS_VERSION 3
 
 #define CINORBIS_LARGEST_M 8u
 #define CINORBIS_LARGEST_READING 2047
@@ -93,6 +93,17 @@ typedef struct {
     uint64_t place;  /* under 4: the number of the reading */
 } cinorbis_part;
 
+/* ---- Lengths, for a caller who has to lend memory: 0 where the code, or the first byte of a record, is refused */
+
+/* n = 2^m. Promise: length. */
+CINORBIS_CALL size_t cinorbis_length(uint32_t m);
+
+/* k, the number of information bits of RM(r,m): (m choose 0) + .. + (m choose r). Promise: dimension. */
+CINORBIS_CALL size_t cinorbis_dimension(uint32_t r, uint32_t m);
+
+/* How many bytes a record has, told by its first byte (§7). A number above 255 is no byte: 0. Promise: record_length. */
+CINORBIS_CALL size_t cinorbis_record_length(uint32_t first_byte);
+
 /* ---- Words (§1) */
 
 /* In: k information bits. Out: word, n bits. Refuses 1, 2, 3, 4. Promise: encode. */
@@ -124,6 +135,11 @@ CINORBIS_CALL uint32_t cinorbis_search_within(uint32_t r, uint32_t m, uint32_t a
 
 /* The record that the bytes begin with: its code and its packed part. Refuses 1, 8, 9, 4. Promise: header_of, packed. */
 CINORBIS_CALL uint32_t cinorbis_record(const uint8_t *bytes, size_t bytes_length, cinorbis_part *part);
+
+/* The readings of a packed part, as cinorbis_record gives it. In: the part's bytes. Out: its n readings; the numbers are all 0. Refuses 2
+ * for a part of a length that no record has, 3 for a buffer of another length than its readings. Promise: unpack. */
+CINORBIS_CALL uint32_t cinorbis_unpack(const uint8_t *part, size_t part_length, int16_t *readings, size_t readings_length,
+                                       cinorbis_numbers *numbers);
 
 /* The search of the record that the bytes begin with. Out as cinorbis_search_within. Refuses 1, 8, 9, 3, 4, then 6 or 7.
  * Promise: search_record. */

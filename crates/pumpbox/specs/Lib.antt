@@ -3,3 +3,5 @@ pub mod Told
 -- The parts of the answers, and laws
 pub mod Answers
 pub mod ToldLaws
+pub mod Lengths
+pub mod Unpacked

@@ -1,5 +1,8 @@
 // The C exports, one per public call: include/cinorbis.h says what each means.
 // A call returns 0 or its refusal's number.
+mod lengths;
+mod unpacking;
+
 use encode::Encoded;
 use quick::Read;
 use record::Header;

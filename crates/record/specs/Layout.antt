@@ -5,7 +5,7 @@ use mathlib.Core.Bool.{cond}
 use Prim.Native.Nat.{ℕ, zero, suc, _+_, _-_, _*_, _/_, _%_, _^_}
 use lib.IntN.{ℤ, pos, negsuc}
 use lib.ListN.{getD}
-use lib.Dec.{ltb}
+use lib.Dec.{ltb, eqb}
 
 -- nibbles to bytes, with zero bits to a whole byte
 abbrev pub bytes : List ℕ → List ℕ
@@ -56,3 +56,8 @@ partLength m = (3 * 2 ^ m + 1) / 2
 unfoldable pub padOf : ℕ → List ℕ → ℕ
 padOf zero p = getD p 1 0 % 16
 padOf (suc m) p = 0
+
+-- how many readings a packed part of k bytes holds, among the codes whose m is below this; 0 where none of them has such a part
+unfoldable pub readingsIn : ℕ → ℕ → ℕ
+readingsIn zero k = 0
+readingsIn (suc m) k = cond (eqb k (partLength m)) (2 ^ m) (readingsIn m k)

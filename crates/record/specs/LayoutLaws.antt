@@ -1,5 +1,5 @@
 -- Laws of the layout: packing and unpacking are inverse to each other; lengths; one reading by its number.
-use mathlib.Core.Path.{_≡_, refl, ap}
+use mathlib.Core.Path.{_≡_, refl, ap, sym}
 use mathlib.Core.List.{List, [], _∷_, _++_}
 use mathlib.Core.Logic.{⊎-elim}
 use Prim.Native.Nat.{ℕ, zero, suc, _+_, _-_, _*_, _/_, _%_, _^_, _≤_, _<_}
@@ -7,10 +7,11 @@ use native.Mathlib.Omega.{arith}
 use native.Mathlib.Nat.{two-pow-succ}
 use lib.IntN.{ℤ, pos, negsuc, _-ℤ_}
 use lib.ListN.{length, getD}
-use borrow.Author.Tests.{lt-ltb, le-ltb}
+use native.Mathlib.Decide.{ℕ-discrete}
+use borrow.Author.Tests.{lt-ltb, le-ltb, eq-eqb, ne-eqb}
 use Rattle.numbers.specs.Choice.{lt-or-le}
 use Rattle.numbers.specs.PartsLaws.{by-parts, sum-parts}
-use Rattle.record.specs.Layout.{bytes, nibbles, field, reading, spread, gathered, packed, unpacked, partLength, padOf}
+use Rattle.record.specs.Layout.{bytes, nibbles, field, reading, spread, gathered, packed, unpacked, partLength, padOf, readingsIn}
 
 -- every entry is below b
 abbrev pub Below : ℕ → List ℕ → Type 0
@@ -163,7 +164,7 @@ unfolding partLength
 length-readings m p e = omega (arith, length-unpacked p)
 
 -- two readings stand in three bytes: reading 2k, and reading 2k + 1
-reading-even : (k : ℕ) (p : List ℕ) → 3 * k + 2 ≤ length p
+pub reading-even : (k : ℕ) (p : List ℕ) → 3 * k + 2 ≤ length p
     → getD (unpacked p) (2 * k) (pos 0) ≡ reading (16 * getD p (3 * k) 0 + getD p (3 * k + 1) 0 / 16)
 unfolding unpacked
 reading-even zero [] h = absurd (omega arith)
@@ -180,7 +181,7 @@ reading-even (suc k) (x ∷ y ∷ z ∷ p) h =
     let f : suc (suc (suc (3 * k))) + 1 ≡ suc (suc (suc (3 * k + 1))) = omega arith in
     rw (d, e, f) (reading-even k p (omega arith))
 
-reading-odd : (k : ℕ) (p : List ℕ) → 3 * k + 3 ≤ length p
+pub reading-odd : (k : ℕ) (p : List ℕ) → 3 * k + 3 ≤ length p
     → getD (unpacked p) (2 * k + 1) (pos 0) ≡ reading (256 * (getD p (3 * k + 1) 0 % 16) + getD p (3 * k + 2) 0)
 unfolding unpacked
 reading-odd zero [] h = absurd (omega arith)
@@ -198,22 +199,31 @@ reading-odd (suc k) (x ∷ y ∷ z ∷ p) h =
     let f : 3 * suc k + 2 ≡ suc (suc (suc (3 * k + 2))) = omega arith in
     rw (d, e, f) (reading-odd k p (omega arith))
 
--- reading number j, by its bytes
-module _ (p : List ℕ) (j : ℕ) (h : 3 * j + 3 ≤ 2 * length p) where
-  pub even-reading : j % 2 ≡ 0 → getD (unpacked p) j (pos 0) ≡ reading (getD p (j / 2 * 3) 0 * 16 + getD p (j / 2 * 3 + 1) 0 / 16)
-  even-reading e =
-      let a : 2 * (j / 2) ≡ j = omega arith in
-      let b : 3 * (j / 2) ≡ j / 2 * 3 = omega arith in
-      let d : 16 * getD p (j / 2 * 3) 0 ≡ getD p (j / 2 * 3) 0 * 16 = omega arith in
-      rw (a, b, d) at (reading-even (j / 2) p (omega arith))
-
-  pub odd-reading : (j % 2 ≡ 0 → ⊥) → getD (unpacked p) j (pos 0) ≡ reading (getD p (j / 2 * 3 + 1) 0 % 16 * 256 + getD p (j / 2 * 3 + 2) 0)
-  odd-reading e =
-      let a : 2 * (j / 2) + 1 ≡ j = omega arith in
-      let b : 3 * (j / 2) ≡ j / 2 * 3 = omega arith in
-      let d : 256 * (getD p (j / 2 * 3 + 1) 0 % 16) ≡ getD p (j / 2 * 3 + 1) 0 % 16 * 256 = omega arith in
-      rw (a, b, d) at (reading-odd (j / 2) p (omega arith))
-
 -- a field with its sign bit set, as code computes it
 pub below-zero : (f : ℕ) → f < 4096 → pos f -ℤ pos 4096 ≡ negsuc (4095 - f)
 below-zero f h = by-parts (pos f -ℤ pos 4096) (negsuc (4095 - f)) (omega (arith, sum-parts (pos f) (negsuc 4095)))
+
+-- a part of a length that some record has holds the readings that it should
+pub readings-in : (b : ℕ) (p : List ℕ) → (readingsIn b (length p) ≡ 0 → ⊥) → readingsIn b (length p) ≡ length (unpacked p)
+unfolding readingsIn
+readings-in zero p h = absurd (h refl)
+readings-in (suc m) p h =
+    elim (ℕ-discrete (length p) (partLength m)) [
+      | yes e ↦ rw (eq-eqb (length p) (partLength m) e) (sym (length-readings m p e))
+      | no e ↦ rw (ne-eqb (length p) (partLength m) e) (readings-in m p (λ z. h (rw (ne-eqb (length p) (partLength m) e) z)))
+    ]
+
+-- the tests of one code: its part has k bytes, or another length
+pub readings-here : (m k : ℕ) → 0 < m → k ≡ partLength (m - 1) → readingsIn m k ≡ 2 ^ (m - 1)
+unfolding readingsIn
+readings-here zero k h e = absurd (omega arith)
+readings-here (suc m) k h e =
+    let d : suc m - 1 ≡ m = omega arith in
+    rw d (rw (eq-eqb k (partLength m) (rw d at e)))
+
+pub readings-past : (m k : ℕ) → 0 < m → (k ≡ partLength (m - 1) → ⊥) → readingsIn m k ≡ readingsIn (m - 1) k
+unfolding readingsIn
+readings-past zero k h e = absurd (omega arith)
+readings-past (suc m) k h e =
+    let d : suc m - 1 ≡ m = omega arith in
+    rw d (rw (ne-eqb k (partLength m) (λ z. e (rw d z))))

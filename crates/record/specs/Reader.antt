@@ -1,5 +1,5 @@
 -- What the reader of packed records answers, as functions of the bytes handed in (01, "Packed records and the program").
-use mathlib.Core.List.{List, [], _∷_, _++_}
+use mathlib.Core.List.{List, [], _∷_}
 use mathlib.Core.Bool.{cond}
 use Prim.Native.Nat.{ℕ, suc, _-_, _/_, _%_}
 use lib.IntN.{ℤ}
@@ -69,7 +69,3 @@ told (Refused why) = record { carry = carried why; r = 0; m = 0 }
 abbrev pub partBy : Header → List ℕ → List ℕ
 partBy (Refused why) s = []
 partBy (Record c) s = partOf c s
-
--- the readings x laid over the entries of d from the first on, as far as both go
-abbrev pub laidOver : List ℤ → List ℤ → List ℤ
-laidOver x d = take (length d) x ++ drop (length x) d

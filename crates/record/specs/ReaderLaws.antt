@@ -2,14 +2,12 @@
 use mathlib.Core.Path.{_≡_, refl, ap, subst}
 use mathlib.Core.List.{List, [], _∷_}
 use mathlib.Core.Logic.{⊎-elim}
-use Prim.Native.Nat.{ℕ, zero, suc, _+_, _-_, _/_, _%_, _^_, _≤_, _<_, min}
+use Prim.Native.Nat.{ℕ, zero, suc, _+_, _-_, _/_, _%_, _^_, _≤_, _<_}
 use native.Mathlib.Omega.{arith}
-use lib.IntN.{ℤ}
-use lib.ListN.{length, getD, take, drop, drop-of-length-le, length-drop}
-use lib.Seq.{take-at, take-all, take-length, length-take-le, drop-length, getD-take, getD-drop}
+use lib.ListN.{length, getD, take, drop, length-drop}
+use lib.Seq.{length-take-le, getD-take, getD-drop}
 use borrow.Author.Tests.{lt-ltb, le-ltb, eq-eqb, ne-eqb}
 use Rattle.numbers.specs.Choice.{lt-or-le}
-use Rattle.numbers.specs.Front.{front}
 use Rattle.code.specs.Sound.{Sound, largestReading}
 use Rattle.code.specs.Entries.{firstBadReading}
 use Rattle.code.specs.SoundLaws.{made-of, length-most}
@@ -21,7 +19,7 @@ use Rattle.record.specs.declared.Header.{Header}
 use Rattle.record.specs.declared.Header.the-variants.{Record, Refused}
 use Rattle.record.specs.Layout.{partLength, padOf}
 use Rattle.record.specs.LayoutLaws.{length-readings}
-use Rattle.record.specs.Reader.{codeOf, partOf, readingsOf, framedBy, frameOf, railedBy, headerOf, laidOver}
+use Rattle.record.specs.Reader.{codeOf, partOf, readingsOf, framedBy, frameOf, railedBy, headerOf}
 
 -- the packed part has at most 384 bytes
 pub part-small : (c : Code) → Sound c → partLength (c .m) ≤ 384
@@ -124,17 +122,3 @@ header-by s c (Record d) q e =
 pub header-framed : (s : List ℕ) (c : Code) → headerOf s ≡ Record c → frameOf s ≡ Record c
 unfolding headerOf
 header-framed s c e = header-by s c (frameOf s) refl e
-
--- the first n of readings that are laid over a longer row
-pub first-laid : (n : ℕ) (x d : List ℤ) → n ≤ length d → length x ≡ n → take (n - 0) (drop 0 (laidOver x d)) ≡ x
-first-laid n x d h e =
-    let z : n - 0 ≡ n = omega arith in
-    rw (z, take-all (length d) x (omega arith)) (take-at x (drop (length x) d) n e)
-
--- when as many are replaced as both have
-pub laid-front : (x d : List ℤ) → front d x (min (length x) (length d)) ≡ laidOver x d
-laid-front x d =
-    ⊎-elim
-    (λ k. let e : min (length x) (length d) ≡ length x = omega arith in rw (e, take-length x, take-all (length d) x (omega arith)))
-    (λ k. let e : min (length x) (length d) ≡ length d = omega arith in rw (e, drop-of-length-le d {i = length x} k, drop-length d))
-    (lt-or-le (length x) (length d))

@@ -1,13 +1,16 @@
 // Packed records: the layout, the reader, the unpacker, and the search of a record.
+mod packing;
+
 ghost use mathlib.Core.Path.{_≡_};
-ghost use Prim.Native.Nat.{suc, _+_, _*_, _<_, _≤_, min};
-ghost use lib.IntN.{pos};
-ghost use lib.ListN.{length, getD};
-ghost use Rattle.code.specs.Sound.{Sound, largestReading};
+ghost use Prim.Native.Nat.{suc, _<_, _≤_};
+ghost use lib.ListN.{length};
+ghost use Rattle.code.specs.Sound.{Sound, largestM, largestReading};
 ghost use Rattle.code.specs.Entries.{firstBadReading};
-ghost use Rattle.record.specs.Layout.{reading, unpacked, partLength};
+ghost use Rattle.record.specs.Layout.{unpacked, partLength, readingsIn};
 ghost use Rattle.record.specs.Reader.{codeOf, lengthBy, framedBy, frameOf};
-ghost use Rattle.record.specs.Reader.{railedBy, headerOf, told, partBy, laidOver};
+ghost use Rattle.record.specs.Reader.{railedBy, headerOf, told, partBy};
+ghost use Rattle.record.specs.Unpacking as Unpacking;
+ghost use Rattle.record.specs.Unpacking.{unpacking};
 ghost use Rattle.search.specs.Outcome as Search;
 ghost use Rattle.record.specs.Searching.{searchingBy, searchingRecord};
 use code::Code;
@@ -18,6 +21,11 @@ use search::Searched;
 // What bytes begin with: a record of a code, or why not.
 pub enum Header {
     Record(Code),
+    Refused(Refusal),
+}
+
+pub enum Unpacked {
+    Done,
     Refused(Refusal),
 }
 
@@ -75,55 +83,35 @@ fn frame(s: &[u8]) -> Header
     }
 }
 
-fn wide(x: u8) -> u16
-    ensures { λ w. ⌜ (w ≡ x) × (w < 256) ⌝ }
+// How many readings a packed part of so many bytes holds; 0 where no record has such a part.
+fn readings_in(bytes: usize) -> usize
+    ensures { λ n. ⌜ n ≡ readingsIn (suc largestM) bytes ⌝ }
 {
-    x as u16
-}
-
-// A field of 12 bits in two's complement.
-fn signed(field: u16) -> i16
-    requires { ⌜ field < 4096 ⌝ }
-    ensures { λ x. ⌜ x ≡ reading field ⌝ }
-{
-    if field < 2048 {
-        field as i16
-    } else {
-        field as i16 - 4096
+    let mut m = Code::LARGEST_M + 1;
+    while 0 < m {
+        m -= 1;
+        let code = Code { r: 0, m };
+        if bytes == part_length(code) {
+            return code.length();
+        }
     }
+    0
 }
 
-// Reading number j of a packed part. Two readings stand in three bytes.
-fn reading_at(part: &[u8], j: usize) -> i16
-    requires { ⌜ 3 * j + 3 ≤ 2 * length (now part) ⌝ }
-    ensures { λ x. ⌜ x ≡ getD (unpacked (now (part .entry))) j (pos 0) ⌝ }
+// Writes the readings of a packed part into the lent buffer.
+pub fn unpack(part: &[u8], readings: &mut [i16]) -> Unpacked
+    ensures { λ answer. ⌜ Unpacking.told answer (now (readings .exit))
+        ≡ unpacking (now (part .entry)) (now (readings .entry)) ⌝ }
 {
-    let at = j / 2 * 3;
-    if j % 2 == 0 {
-        signed(wide(part[at]) * 16 + wide(part[at + 1]) / 16)
-    } else {
-        signed(wide(part[at + 1]) % 16 * 256 + wide(part[at + 2]))
+    let n = readings_in(part.len());
+    if n == 0 {
+        return Unpacked::Refused(Refusal::InputLength);
     }
-}
-
-fn least(a: usize, b: usize) -> usize
-    ensures { λ x. ⌜ x ≡ min a b ⌝ }
-{
-    if a < b { a } else { b }
-}
-
-// Writes the readings of a packed part, as many as it holds and there is room for.
-pub fn unpack(part: &[u8], readings: &mut [i16])
-    ensures { λ _. ⌜ now (readings .exit)
-        ≡ laidOver (unpacked (now (part .entry))) (now (readings .entry)) ⌝ }
-{
-    let whole = part.len() / 3 * 2 + part.len() % 3 / 2;
-    let n = least(whole, readings.len());
-    let mut j = 0;
-    while j < n {
-        readings[j] = reading_at(part, j);
-        j += 1;
+    if readings.len() != n {
+        return Unpacked::Refused(Refusal::OutputLength);
     }
+    packing::put_readings(part, readings);
+    Unpacked::Done
 }
 
 // The lowest place of a reading beyond the largest in a packed part of n readings, or n where
@@ -133,7 +121,7 @@ fn first_rail(part: &[u8], n: usize) -> usize
     ensures { λ place. ⌜ place ≡ firstBadReading largestReading (unpacked (now (part .entry))) ⌝ }
 {
     let mut readings = [0i16; 256];
-    unpack(part, &mut readings);
+    packing::put_readings(part, &mut readings[0..n]);
     code::first_bad_reading(&readings[0..n])
 }
 
@@ -203,6 +191,6 @@ fn search_framed(s: &[u8], code: Code, allowed: u32, bits: &mut [u8], word: &mut
     let mut readings = [0i16; 256];
     let n = code.length();
     let end = 1 + part_length(code);
-    unpack(&s[1..end], &mut readings);
+    packing::put_readings(&s[1..end], &mut readings[0..n]);
     search::search_within(code.r, code.m, allowed, &readings[0..n], bits, word)
 }

@@ -1,22 +1,34 @@
--- `record::first_rail` meets its contract: the first n entries of the array are the readings.
+-- `record::first_rail` meets its contract: the front of the array holds the readings.
 use mathlib.Core.Path.{_≡_, _∙_, ap}
-use lib.ListN.{take, drop, replicate}
+use lib.ListN.{length, replicate}
+use Prim.Native.Nat.{_-_}
 use lib.IntN.{ℤ, pos}
 use mathlib.Core.List.{List}
-use Prim.Native.Nat.{_-_}
+use native.Mathlib.Omega.{arith}
+use Rattle.numbers.specs.Lent.{lent-again}
 use Rattle.code.specs.Sound.{largestReading}
 use Rattle.code.specs.Entries.{firstBadReading}
 use Rattle.record.specs.Layout.{unpacked}
-use Rattle.record.specs.ReaderLaws.{first-laid}
+use borrow.Rule.Slice.PartMut.{same-len-mid}
 use borrow.Author.Needs.{needs}
 use Rattle.record.proofs.first_rail.Statement.{statement}
 use Rattle.record.proofs.first_rail.Tie as tie
+use Rattle.record.proofs.first_rail.Reads as reads
+use Rattle.record.proofs.first_rail.Lts as lts
+use Rattle.code.proofs.first_bad_reading.Reads as first-bad-reading-reads
+use Rattle.record.proofs.packing.put_readings.Reads as put-readings-reads
 
-slice-aggregate-unpack : tie.Need-slice-aggregate-unpack
-slice-aggregate-unpack c = search needs
+sub-put-readings : tie.Need-sub-put-readings
+sub-put-readings c = search needs
 
-unpack-requires : tie.Need-unpack-requires
-unpack-requires c κs = search needs
+part-readings-start : tie.Need-part-readings-start
+part-readings-start c = search needs
+
+part-readings-end : tie.Need-part-readings-end
+part-readings-end c = search needs
+
+put-readings-requires : tie.Need-put-readings-requires
+put-readings-requires c κs = search needs
 
 sub-first-bad-reading : tie.Need-sub-first-bad-reading
 sub-first-bad-reading c = search needs
@@ -25,26 +37,29 @@ part-first-bad-reading-start : tie.Need-part-first-bad-reading-start
 part-first-bad-reading-start c = search needs
 
 part-first-bad-reading-end : tie.Need-part-first-bad-reading-end
-part-first-bad-reading-end c = search needs
+part-first-bad-reading-end c =
+    let put = c .before .before .put-readings in
+    let n = c .before .before .before .before .before .args .n in
+    omega (arith, same-len-mid 0 (n - 0) (replicate 256 (pos 0)) (put .last .1 .0) (put .kept .1 .0))
 
 first-bad-reading-requires : tie.Need-first-bad-reading-requires
 first-bad-reading-requires c κs = search needs
 
 returns : tie.Need-returns
 returns c =
+    let put = c .before .before .before .before .put-readings in
     let g = c .before .before .before .before .before .before .before in
-    let u = c .before .before .before .before .unpack in
-    let here : take (g .args .n - 0) (drop 0 (u .last .1 .0)) ≡ unpacked (g .args .part .now) =
-    ap (λ (l : List ℤ). take (g .args .n - 0) (drop 0 l)) (u .ensures)
-    ∙ first-laid (g .args .n) (unpacked (g .args .part .now)) (replicate 256 (pos 0)) (g .pre .0) (g .pre .1) in
-    c .first-bad-reading .ensures ∙ ap (firstBadReading largestReading) here
+    let read = lent-again (g .args .n) (replicate 256 (pos 0)) (put .last .1 .0) (ap length (put .ensures) ∙ g .pre .1) ∙ put .ensures in
+    c .first-bad-reading .ensures ∙ ap (firstBadReading largestReading) read
 
 pub first-rail-spec : {M : Type 1} → statement M
 first-rail-spec =
     tie.close
     (tie.spec
-    slice-aggregate-unpack
-    unpack-requires
+    sub-put-readings
+    part-readings-start
+    part-readings-end
+    put-readings-requires
     sub-first-bad-reading
     part-first-bad-reading-start
     part-first-bad-reading-end

@@ -1,18 +1,27 @@
--- `record::search_framed` meets its contract: the first n entries of the array are the readings.
+-- `record::search_framed` meets its contract: the front of the array holds the readings.
 use mathlib.Core.Path.{_≡_, _∙_, ap, sym}
 use mathlib.Core.List.{List}
 use Prim.Native.Nat.{ℕ, _+_, _-_, _≤_}
 use native.Mathlib.Omega.{arith}
 use lib.IntN.{ℤ, pos}
 use lib.ListN.{length, take, drop, replicate}
+use native.Mathlib.Nat.{sub-zero}
+use borrow.Rule.Slice.PartMut.{midOf, mid-len, same-len-mid}
+use Rattle.numbers.specs.Lent.{lent-again}
 use Rattle.code.specs.SoundLaws.{length-most}
 use Rattle.search.specs.Outcome.{searching}
 use Rattle.record.specs.Layout.{unpacked}
 use Rattle.record.specs.Reader.{partOf, readingsOf}
-use Rattle.record.specs.ReaderLaws.{first-laid, part-taken, length-readings-of}
+use Rattle.record.specs.ReaderLaws.{part-taken, length-readings-of}
 use borrow.Author.Needs.{needs}
 use Rattle.record.proofs.search_framed.Statement.{statement}
 use Rattle.record.proofs.search_framed.Tie as tie
+use Rattle.record.proofs.search_framed.Reads as reads
+use Rattle.record.proofs.search_framed.Lts as lts
+use Rattle.code.proofs.Code.length.Reads as length-reads
+use Rattle.record.proofs.packing.put_readings.Reads as put-readings-reads
+use Rattle.record.proofs.part_length.Reads as part-length-reads
+use Rattle.search.proofs.search_within.Reads as search-within-reads
 
 length-requires : tie.Need-length-requires
 length-requires c κs = search needs
@@ -23,20 +32,53 @@ part-length-requires c κs = search needs
 add-end : tie.Need-add-end
 add-end c = search needs
 
-sub-unpack : tie.Need-sub-unpack
-sub-unpack c = search needs
+sub-put-readings : tie.Need-sub-put-readings
+sub-put-readings c = search needs
 
-part-unpack-start : tie.Need-part-unpack-start
-part-unpack-start c = search needs
+part-put-readings-start : tie.Need-part-put-readings-start
+part-put-readings-start c = search needs
 
-part-unpack-end : tie.Need-part-unpack-end
-part-unpack-end c = search needs
+part-put-readings-end : tie.Need-part-put-readings-end
+part-put-readings-end c = search needs
 
-slice-aggregate-unpack : tie.Need-slice-aggregate-unpack
-slice-aggregate-unpack c = search needs
+sub-put-readings-2 : tie.Need-sub-put-readings-2
+sub-put-readings-2 c = search needs
 
-unpack-requires : tie.Need-unpack-requires
-unpack-requires c κs = search needs
+part-readings-start : tie.Need-part-readings-start
+part-readings-start c = search needs
+
+-- what is lent: the front of the array, and the packed part
+abbrev zeros : List ℤ
+zeros = replicate 256 (pos 0)
+
+module _ (c : tie.After-part-length) where
+  abbrev n : ℕ
+  n = c .before .length .result
+
+  abbrev part : List ℕ
+  part = take ((1 + c .part-length .result) - 1) (drop 1 (c .before .before .before .before .before .args .s .now))
+
+  lent-most : n ≤ 256
+  lent-most = omega (arith, length-most (c .before .before .before .before .before .pre .0), c .before .length .ensures)
+
+  lent : length (midOf 0 (n - 0) zeros) ≡ n
+  lent = mid-len 0 n zeros lent-most ∙ sub-zero n
+
+  taken : part ≡ partOf (c .before .before .before .before .before .args .code) (c .before .before .before .before .before .args .s .now)
+  taken =
+      let g = c .before .before .before .before .before .args in
+      part-taken (g .code) (g .s .now) (c .part-length .result) (c .part-length .ensures)
+
+  count : length (unpacked part) ≡ n
+  count =
+      let g = c .before .before .before .before .before in
+      ap (λ (p : List ℕ). length (unpacked p)) taken ∙ length-readings-of (g .args .code) (g .args .s .now) (g .pre .1) ∙ sym (c .before .length .ensures)
+
+part-readings-end : tie.Need-part-readings-end
+part-readings-end c = omega (arith, length-most (c .before .before .before .before .before .before .pre .0), c .before .before .length .ensures)
+
+put-readings-requires : tie.Need-put-readings-requires
+put-readings-requires c κs = lent (c .before .before) ∙ sym (count (c .before .before))
 
 sub-search-within : tie.Need-sub-search-within
 sub-search-within c = search needs
@@ -46,8 +88,9 @@ part-search-within-start c = search needs
 
 part-search-within-end : tie.Need-part-search-within-end
 part-search-within-end c =
-    let g = c .before .before .before .before .before .before .before .before .before .before in
-    omega (arith, length-most (g .pre .0), c .before .before .unpack .kept .1 .0)
+    let put = c .before .before .put-readings in
+    let n = c .before .before .before .before .before .before .length .result in
+    omega (arith, lent-most (c .before .before .before .before .before), same-len-mid 0 (n - 0) zeros (put .last .1 .0) (put .kept .1 .0))
 
 search-within-requires : tie.Need-search-within-requires
 search-within-requires c κs = search needs
@@ -60,22 +103,12 @@ same-length-2 c = search needs
 
 returns : tie.Need-returns
 returns c =
-    let u = c .before .before .before .before .before .before .before .before .before .before in
-    let k = u .before .before .before .part-length in
-    let n = u .before .before .before .before .length in
-    let g = u .before .before .before .before .before .before .before .before in
-    let code = g .args .code in
-    let s = g .args .s .now in
-    let part : take ((1 + k .result) - 1) (drop 1 s) ≡ partOf code s = part-taken code s (k .result) (k .ensures) in
-    let count : length (unpacked (take ((1 + k .result) - 1) (drop 1 s))) ≡ n .result =
-    ap (λ (p : List ℕ). length (unpacked p)) part ∙ length-readings-of code s (g .pre .1) ∙ sym (n .ensures) in
-    let small : n .result ≤ 256 = omega (arith, n .ensures, length-most (g .pre .0)) in
-    let here : take (n .result - 0) (drop 0 (u .unpack .last .1 .0)) ≡ readingsOf code s =
-    ap (λ (l : List ℤ). take (n .result - 0) (drop 0 l)) (u .unpack .ensures)
-    ∙ first-laid (n .result) (unpacked (take ((1 + k .result) - 1) (drop 1 s))) (replicate 256 (pos 0)) small count
-    ∙ ap unpacked part in
+    let lending = c .before .before .before .before .before .before .before .before .before .before .before .before .before in
+    let g = c .before .before .before .before .before .before .before .before .before .before .before .before .before .before .before .before .before .before .args in
+    let put = c .before .before .before .before .before .before .before .before .before .before .put-readings in
+    let read = lent-again (n lending) zeros (put .last .1 .0) (ap length (put .ensures) ∙ count lending) ∙ put .ensures ∙ ap unpacked (taken lending) in
     c .before .before .before .before .search-within .ensures
-    ∙ ap (λ (l : List ℤ). searching (code .r) (code .m) (g .args .allowed) l (g .args .bits .now) (g .args .word .now)) here
+    ∙ ap (λ (l : List ℤ). searching (g .code .r) (g .code .m) (g .allowed) l (g .bits .now) (g .word .now)) read
 
 pub search-framed-spec : {M : Type 1} → statement M
 search-framed-spec =
@@ -84,11 +117,13 @@ search-framed-spec =
     length-requires
     part-length-requires
     add-end
-    sub-unpack
-    part-unpack-start
-    part-unpack-end
-    slice-aggregate-unpack
-    unpack-requires
+    sub-put-readings
+    part-put-readings-start
+    part-put-readings-end
+    sub-put-readings-2
+    part-readings-start
+    part-readings-end
+    put-readings-requires
     sub-search-within
     part-search-within-start
     part-search-within-end

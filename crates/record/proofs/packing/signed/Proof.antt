@@ -1,4 +1,4 @@
--- `record::signed` meets its contract: below 2,048 the field itself, else 4,096 less.
+-- `packing::signed` meets its contract: below 2,048 the field itself, else 4,096 less.
 use mathlib.Core.Path.{_≡_, _∙_}
 use Prim.Native.Nat.{_-_}
 use native.Mathlib.Omega.{arith}
@@ -10,8 +10,8 @@ use mir.Val.{toZ}
 use mir.Facts.{toZ-pos, toZ-ofZ}
 use Rattle.numbers.specs.PartsLaws.{fits-size}
 use Rattle.record.specs.LayoutLaws.{below-zero}
-use Rattle.record.proofs.signed.Statement.{statement}
-use Rattle.record.proofs.signed.Tie as tie
+use Rattle.record.proofs.packing.signed.Statement.{statement}
+use Rattle.record.proofs.packing.signed.Tie as tie
 
 cast-result : tie.Need-cast-result
 cast-result c = search needs

@@ -1,0 +1,22 @@
+-- Lengths as C asks for them: 0 where the code, or the first byte of a record, is refused.
+use mathlib.Core.Bool.{cond}
+use Prim.Native.Nat.{ℕ, _^_}
+use lib.Dec.{ltb}
+use Rattle.words.specs.Kinds.{dimension}
+use Rattle.code.specs.declared.Made.{Made}
+use Rattle.code.specs.declared.Made.the-variants.{Good, Bad}
+use Rattle.record.specs.Reader.{codeOf, lengthBy}
+
+-- n
+abbrev pub lengthIn : Made → ℕ
+lengthIn Bad = 0
+lengthIn (Good c) = 2 ^ c .m
+
+-- k
+abbrev pub dimensionIn : Made → ℕ
+dimensionIn Bad = 0
+dimensionIn (Good c) = dimension (c .r) (c .m)
+
+-- a record's bytes, told by its first; a number above 255 is no byte
+abbrev pub recordLength : ℕ → ℕ
+recordLength first = cond (ltb 255 first) 0 (lengthBy (codeOf first))

@@ -1,0 +1,55 @@
+// Readings in packed bytes: a field of 12 bits for each, two fields in three bytes.
+ghost use mathlib.Core.Path.{_≡_};
+ghost use Prim.Native.Nat.{_*_, _/_, _<_};
+ghost use lib.ListN.{length};
+ghost use Rattle.numbers.specs.Front.{front};
+ghost use Rattle.record.specs.Layout.{reading, unpacked};
+
+fn wide(x: u8) -> u16
+    ensures { λ w. ⌜ (w ≡ x) × (w < 256) ⌝ }
+{
+    x as u16
+}
+
+// The reading in a field of 12 bits: two's complement.
+fn signed(field: u16) -> i16
+    requires { ⌜ field < 4096 ⌝ }
+    ensures { λ x. ⌜ x ≡ reading field ⌝ }
+{
+    if field < 2048 {
+        field as i16
+    } else {
+        field as i16 - 4096
+    }
+}
+
+// Two readings from three bytes a turn; a last single one stays as it is.
+fn put_reading_pairs(part: &[u8], readings: &mut [i16])
+    requires { ⌜ length (now readings) ≡ length (unpacked (now part)) ⌝ }
+    ensures { λ _. ⌜ now (readings .exit) ≡ front (now (readings .entry))
+        (unpacked (now (part .entry))) (2 * (length (now (readings .entry)) / 2)) ⌝ }
+{
+    let pairs = readings.len() / 2;
+    let mut j = 0;
+    while j < pairs {
+        let a = wide(part[3 * j]);
+        let b = wide(part[3 * j + 1]);
+        let c = wide(part[3 * j + 2]);
+        readings[2 * j] = signed(16 * a + b / 16);
+        readings[2 * j + 1] = signed(256 * (b % 16) + c);
+        j += 1;
+    }
+}
+
+// The readings of a packed part.
+pub fn put_readings(part: &[u8], readings: &mut [i16])
+    requires { ⌜ length (now readings) ≡ length (unpacked (now part)) ⌝ }
+    ensures { λ _. ⌜ now (readings .exit) ≡ unpacked (now (part .entry)) ⌝ }
+{
+    let n = readings.len();
+    put_reading_pairs(part, readings);
+    if n % 2 == 1 {
+        let j = n / 2;
+        readings[2 * j] = signed(16 * wide(part[3 * j]) + wide(part[3 * j + 1]) / 16);
+    }
+}

@@ -1,0 +1,84 @@
+/* Lengths for lent memory, and unpacking: every code, every first byte, every length of a part; buffers with guards. */
+#include "call.h"
+#include "check.h"
+#include "reference.h"
+
+static guarded readings;
+
+static void codes(void) {
+    static const uint32_t large[] = {9, 16, 31, 32, 64, 255, 256, 65536, UINT32_MAX - 1, UINT32_MAX};
+    begin("n and k of every code, 0 where it is refused");
+    for (uint32_t m = 0; m < 40; m++) {
+        CHECK(cinorbis_length(m) == (m <= 8 ? (size_t)1 << m : 0), "m %u: %zu", m, cinorbis_length(m));
+        for (uint32_t r = 0; r < 40; r++) {
+            size_t k = m <= 8 && r <= m ? (size_t)ref_k((int)r, (int)m) : 0;
+            CHECK(cinorbis_dimension(r, m) == k, "r %u, m %u: %zu", r, m, cinorbis_dimension(r, m));
+        }
+    }
+    for (size_t i = 0; i < sizeof large / sizeof *large; i++) {
+        CHECK(cinorbis_length(large[i]) == 0, "m %u", large[i]);
+        CHECK(cinorbis_dimension(0, large[i]) == 0 && cinorbis_dimension(large[i], 3) == 0 && cinorbis_dimension(large[i], large[i]) == 0, "%u", large[i]);
+    }
+    end();
+}
+
+static void first_bytes(void) {
+    begin("a record's length by its first byte");
+    for (uint32_t first = 0; first < 1024; first++) {
+        uint32_t m = first / 16, r = first % 16;
+        size_t bits = 8 + 12 * ((size_t)1 << (m <= 8 ? m : 0));
+        size_t expected = first < 256 && m <= 8 && r <= m ? (bits + 7) / 8 : 0;
+        CHECK(cinorbis_record_length(first) == expected, "%u: %zu, not %zu", first, cinorbis_record_length(first), expected);
+    }
+    CHECK(cinorbis_record_length(UINT32_MAX) == 0 && cinorbis_record_length(0x80000021u) == 0, "no byte");
+    end();
+}
+
+/* bit i of bytes, most significant first */
+static int bit_at(const uint8_t *bytes, size_t i) { return bytes[i / 8] >> (7 - i % 8) & 1; }
+
+static int field_at(const uint8_t *part, size_t j) {
+    int value = 0;
+    for (size_t i = 12 * j; i < 12 * j + 12; i++) value = 2 * value + bit_at(part, i);
+    return value < 2048 ? value : value - 4096;
+}
+
+/* how many readings a part of so many bytes holds, 0 where no record has such a part */
+static size_t readings_in(size_t bytes) {
+    for (size_t n = 1; n <= 256; n *= 2)
+        if ((12 * n + 7) / 8 == bytes) return n;
+    return 0;
+}
+
+static void unpacked(void) {
+    uint8_t part[400];
+    begin("unpacking: 2 for a length that no record has, then 3 for the buffer, else the readings");
+    for (size_t bytes = 0; bytes <= 400; bytes++)
+        for (int off = -1; off <= 2; off++) {
+            size_t n = readings_in(bytes), room = n + (size_t)off;
+            if (off < 0 && n == 0) room = 1;
+            for (size_t i = 0; i < bytes; i++) part[i] = (uint8_t)random64();
+            arm(&readings);
+            int16_t *out = (int16_t *)(void *)contents(&readings);
+            cinorbis_numbers a;
+            memset(&a, 0xA5, sizeof a);
+            uint32_t refusal = cinorbis_unpack(part, bytes, out, room, &a);
+            uint32_t expected = n == 0 ? 2 : room != n ? 3 : 0;
+            CHECK(refusal == expected, "%zu bytes, room for %zu: %u, not %u", bytes, room, refusal, expected);
+            CHECK(a.penalty == 0 && a.gap == 0 && a.visits == 0 && a.place == 0, "numbers");
+            if (expected) {
+                CHECK(untouched(&readings), "wrote");
+                continue;
+            }
+            CHECK(only_first(&readings, 2 * n), "wrote past the readings");
+            for (size_t j = 0; j < n; j++) CHECK(out[j] == field_at(part, j), "reading %zu of %zu: %d, not %d", j, n, out[j], field_at(part, j));
+        }
+    end();
+}
+
+int main(void) {
+    codes();
+    first_bytes();
+    unpacked();
+    return finish();
+}
