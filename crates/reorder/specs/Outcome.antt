@@ -7,32 +7,34 @@ use lib.ListN.{length}
 use lib.Dec.{ltb, eqb}
 use Rattle.code.specs.declared.Refusal.{Refusal}
 use Rattle.code.specs.declared.Refusal.the-variants.{Parameters, InputLength, OutputLength, Entry, Map}
-use Rattle.code.specs.Sound.{largestM, largestReading, carried}
+use Rattle.code.specs.Sound.{largestM, largestReading, Carried, carrying, carried}
 use Rattle.code.specs.Entries.{firstBadBit, firstBadReading}
 use Rattle.maps.specs.Maps.{reordered, productTable, productRow, undoTable, undoRow}
 use Rattle.images.specs.Images.{isMap}
 use Rattle.reorder.specs.declared.Answer.{Answer}
 use Rattle.reorder.specs.declared.Answer.the-variants.{Done, Refused}
 
+-- B is what is lent to be written: one buffer, or two
 pub record Outcome (B : Type 0) : Type 0 where
-  -- 0 where the call is done, else the refusal's number
-  pub number : ℕ
-  -- the place that 4 carries, else 0
-  pub place : ℕ
-  -- what is lent to be written, as the call leaves it
+  -- all 0 where the call is done, else what the refusal carries
+  pub carry : Carried
+  -- what is lent, as the call leaves it
   pub lent : B
 
+-- the answer in the rules' numbers
+abbrev pub carriedIn : Answer → Carried
+carriedIn Done = carrying 0 0 0 0
+carriedIn (Refused why) = carried why
+
+abbrev pub told : {B : Type 0} → Answer → B → Outcome B
+told answer lent = record { carry = carriedIn answer; lent = lent }
+
 abbrev pub done : {B : Type 0} → B → Outcome B
-done lent = record { number = 0; place = 0; lent = lent }
+done lent = told Done lent
 
 -- what is lent keeps its contents
 abbrev pub refused : {B : Type 0} → B → Refusal → Outcome B
-refused lent why = record { number = carried why .number; place = carried why .place; lent = lent }
-
--- the answer in numbers
-abbrev pub told : {B : Type 0} → Answer → B → Outcome B
-told Done lent = done lent
-told (Refused why) lent = refused lent why
+refused lent why = told (Refused why) lent
 
 -- ---- the tests
 -- a table of this many bytes is m by m, and a row of this many m long

@@ -18,12 +18,12 @@ Good m A b = Map m A b × Undoable m A b
 
 -- where all lengths are right, 11 is given exactly if the map is not good; for a product, either
 pub record ElevenExactly (m : ℕ) (A b : List ℕ) : Type 0 where
-  pub by-reorder : (l out : List ℤ) → length l ≡ 2 ^ m → length out ≡ 2 ^ m → (reordering m A b l out .number ≡ 11) ↔ (Good m A b → ⊥)
-  pub by-reorder-word : (x out : List ℕ) → length x ≡ 2 ^ m → length out ≡ 2 ^ m → (reorderingWord m A b x out .number ≡ 11) ↔ (Good m A b → ⊥)
-  pub by-undo : (C c : List ℕ) → Mapped m C c → (undoing m A b C c .number ≡ 11) ↔ (Good m A b → ⊥)
-  pub by-product : (C c D d : List ℕ) → Mapped m C c → Mapped m D d → (multiplying m A b C c D d .number ≡ 11) ↔ ((Good m A b × Good m C c) → ⊥)
+  pub by-reorder : (l out : List ℤ) → length l ≡ 2 ^ m → length out ≡ 2 ^ m → (reordering m A b l out .carry .number ≡ 11) ↔ (Good m A b → ⊥)
+  pub by-reorder-word : (x out : List ℕ) → length x ≡ 2 ^ m → length out ≡ 2 ^ m → (reorderingWord m A b x out .carry .number ≡ 11) ↔ (Good m A b → ⊥)
+  pub by-undo : (C c : List ℕ) → Mapped m C c → (undoing m A b C c .carry .number ≡ 11) ↔ (Good m A b → ⊥)
+  pub by-product : (C c D d : List ℕ) → Mapped m C c → Mapped m D d → (multiplying m A b C c D d .carry .number ≡ 11) ↔ ((Good m A b × Good m C c) → ⊥)
   -- and else the undo map that is handed back undoes the map, from both sides
-  pub undone : (C c : List ℕ) → Mapped m C c → (undoing m A b C c .number ≡ 11 → ⊥)
+  pub undone : (C c : List ℕ) → Mapped m C c → (undoing m A b C c .carry .number ≡ 11 → ⊥)
       → let o = undoing m A b C c in Undoes m A b (o .lent .0) (o .lent .1) × Undoes m (o .lent .0) (o .lent .1) A b
 
 -- two outcomes of the search: of one number, penalty and gap; where the best word is found, the second word is the first, reordered

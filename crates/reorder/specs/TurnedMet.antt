@@ -46,12 +46,12 @@ map-exactly m A b long = (
 )
 
 -- 11 is given exactly if the test fails, where nothing that follows gives it
-eleven : {B : Type 0} (lent : B) (rest : Outcome B) (P : Type 0) (maps : Bool) → (maps ≡ true) ↔ P → (rest .number ≡ 11 → ⊥)
-    → (mapTested lent maps rest .number ≡ 11) ↔ (P → ⊥)
+eleven : {B : Type 0} (lent : B) (rest : Outcome B) (P : Type 0) (maps : Bool) → (maps ≡ true) ↔ P → (rest .carry .number ≡ 11 → ⊥)
+    → (mapTested lent maps rest .carry .number ≡ 11) ↔ (P → ⊥)
 eleven lent rest P true exactly other = (λ e. absurd (other e), λ f. absurd (f (exactly .0 refl)))
 eleven lent rest P false exactly other = (λ e p. let z : _≡_ {A = ℕ} 0 1 = cc (exactly .1 p) in absurd (omega arith), λ f. refl)
 
-entry-other : {B : Type 0} (lent x : B) (place n : ℕ) → entryTested lent place n (done x) .number ≡ 11 → ⊥
+entry-other : {B : Type 0} (lent x : B) (place n : ℕ) → entryTested lent place n (done x) .carry .number ≡ 11 → ⊥
 entry-other lent x place n e =
     ⊎-elim
     (λ h. omega (arith, rw (lt-ltb place n h) at e))
@@ -72,21 +72,21 @@ with-entries m A b long input output e f = record {
 
 -- the number of an outcome whose lengths are right is that of the rest
 number-right : {B : Type 0} (lent : B) (rest : Outcome B) (m : ℕ) (inputs outputs : Bool) (P : Type 0) → AllRight m inputs outputs
-    → (rest .number ≡ 11) ↔ P → (sized lent m inputs outputs rest .number ≡ 11) ↔ P
+    → (rest .carry .number ≡ 11) ↔ P → (sized lent m inputs outputs rest .carry .number ≡ 11) ↔ P
 number-right lent rest m inputs outputs P right iff =
-    subst (λ (o : Outcome _). (o .number ≡ 11) ↔ P) (sized-right m inputs outputs lent rest right) iff
+    subst (λ (o : Outcome _). (o .carry .number ≡ 11) ↔ P) (sized-right m inputs outputs lent rest right) iff
 
 module _ (m : ℕ) (A b : List ℕ) (long : Mapped m A b) where
   abbrev both-long : (C c : List ℕ) → Mapped m C c → AllRight m (isLong m (length A) (length b)) (isLong m (length C) (length c))
   both-long C c out = record { small = long .small; inputs-right = long-is m A b long; outputs-right = long-is m C c out }
 
-  undo-exactly : (C c : List ℕ) → Mapped m C c → (undoing m A b C c .number ≡ 11) ↔ (Good m A b → ⊥)
+  undo-exactly : (C c : List ℕ) → Mapped m C c → (undoing m A b C c .carry .number ≡ 11) ↔ (Good m A b → ⊥)
   unfolding undoing
   undo-exactly C c out =
       number-right (C, c) (undoingLong m A b C c) m _ _ (Good m A b → ⊥) (both-long C c out)
       (eleven (C, c) (done (undoTable m A, undoRow m A b)) (Good m A b) (isMap m A b) (map-exactly m A b long) (λ e. omega arith))
 
-  product-exactly : (C c D d : List ℕ) → Mapped m C c → Mapped m D d → (multiplying m A b C c D d .number ≡ 11) ↔ ((Good m A b × Good m C c) → ⊥)
+  product-exactly : (C c D d : List ℕ) → Mapped m C c → Mapped m D d → (multiplying m A b C c D d .carry .number ≡ 11) ↔ ((Good m A b × Good m C c) → ⊥)
   unfolding multiplying
   product-exactly C c D d second out =
       let both : (isMap m A b && isMap m C c ≡ true) ↔ (Good m A b × Good m C c) = (
@@ -109,7 +109,7 @@ module _ (m : ℕ) (A b : List ℕ) (long : Mapped m A b) where
       (map-allowed (C, c) (done (undoTable m A, undoRow m A b)) true (isMap m A b) (sym e) refl
       ∙ sized-right m _ _ (C, c) (undoingLong m A b C c) (both-long C c out))
 
-  by-test : (maps : Bool) → isMap m A b ≡ maps → (C c : List ℕ) → Mapped m C c → (undoing m A b C c .number ≡ 11 → ⊥)
+  by-test : (maps : Bool) → isMap m A b ≡ maps → (C c : List ℕ) → Mapped m C c → (undoing m A b C c .carry .number ≡ 11 → ⊥)
       → let o = undoing m A b C c in Undoes m A b (o .lent .0) (o .lent .1) × Undoes m (o .lent .0) (o .lent .1) A b
   by-test true e C c out other =
       let apart : Apart (2 ^ m) _ = undoable-apart m A b .0 (map-exactly m A b long .0 e .1) in
@@ -135,25 +135,25 @@ module _ (m : ℕ) (A b : List ℕ) (long : Mapped m A b) where
 
 -- ---- where `reorder` is done
 by-lengths : {B : Type 0} (lent : B) (rest : Outcome B) (m : ℕ) (inputs outputs : Bool) → m ≤ largestM
-    → cond (not inputs) (refused lent InputLength) (cond (not outputs) (refused lent OutputLength) rest) .number ≡ 0
-    → AllRight m inputs outputs × (rest .number ≡ 0)
+    → cond (not inputs) (refused lent InputLength) (cond (not outputs) (refused lent OutputLength) rest) .carry .number ≡ 0
+    → AllRight m inputs outputs × (rest .carry .number ≡ 0)
 by-lengths lent rest m false outputs h e = absurd (omega arith)
 by-lengths lent rest m true false h e = absurd (omega arith)
 by-lengths lent rest m true true h e = (record { small = h; inputs-right = refl; outputs-right = refl }, e)
 
-sized-zero : {B : Type 0} (lent : B) (rest : Outcome B) (m : ℕ) (inputs outputs : Bool) → sized lent m inputs outputs rest .number ≡ 0
-    → AllRight m inputs outputs × (rest .number ≡ 0)
+sized-zero : {B : Type 0} (lent : B) (rest : Outcome B) (m : ℕ) (inputs outputs : Bool) → sized lent m inputs outputs rest .carry .number ≡ 0
+    → AllRight m inputs outputs × (rest .carry .number ≡ 0)
 sized-zero lent rest m inputs outputs e =
     ⊎-elim
     (λ h. absurd (omega (arith, rw (lt-ltb largestM m h) at e)))
     (λ h. by-lengths lent rest m inputs outputs h (rw (le-ltb largestM m h) at e))
     (lt-or-le largestM m)
 
-map-zero : {B : Type 0} (lent : B) (rest : Outcome B) (maps : Bool) → mapTested lent maps rest .number ≡ 0 → (maps ≡ true) × (rest .number ≡ 0)
+map-zero : {B : Type 0} (lent : B) (rest : Outcome B) (maps : Bool) → mapTested lent maps rest .carry .number ≡ 0 → (maps ≡ true) × (rest .carry .number ≡ 0)
 map-zero lent rest true e = (refl, e)
 map-zero lent rest false e = absurd (omega arith)
 
-entry-zero : {B : Type 0} (lent : B) (rest : Outcome B) (place n : ℕ) → entryTested lent place n rest .number ≡ 0 → n ≤ place
+entry-zero : {B : Type 0} (lent : B) (rest : Outcome B) (place n : ℕ) → entryTested lent place n rest .carry .number ≡ 0 → n ≤ place
 entry-zero lent rest place n e = ⊎-elim (λ h. absurd (omega (arith, rw (lt-ltb place n h) at e))) (λ h. h) (lt-or-le place n)
 
 -- what holds of its arguments, and what it leaves
@@ -164,7 +164,7 @@ pub record ReorderDone (m : ℕ) (A b : List ℕ) (l out : List ℤ) : Type 0 wh
   pub within : Within largestReading l
   pub leaves : reordering m A b l out .lent ≡ reordered (pos 0) m A b l
 
-pub reorder-done : (m : ℕ) (A b : List ℕ) (l out : List ℤ) → reordering m A b l out .number ≡ 0 → ReorderDone m A b l out
+pub reorder-done : (m : ℕ) (A b : List ℕ) (l out : List ℤ) → reordering m A b l out .carry .number ≡ 0 → ReorderDone m A b l out
 unfolding reordering
 reorder-done m A b l out e =
     let place = firstBadReading largestReading l in
@@ -195,7 +195,7 @@ reordered-outcomes allowed allowed′ bits word bits′ word′ (both-tied p v v
 reordered-outcomes allowed allowed′ bits word bits′ word′ (both-found b b′ x p g v v′) =
     record { same-number = refl; same-penalty = refl; same-gap = refl; word-reordered = λ z. refl }
 
-module _ (r m : ℕ) (r-small : r ≤ m) (A b : List ℕ) (l out : List ℤ) (is-done : reordering m A b l out .number ≡ 0) (bits word bits′ word′ : List ℕ)
+module _ (r m : ℕ) (r-small : r ≤ m) (A b : List ℕ) (l out : List ℤ) (is-done : reordering m A b l out .carry .number ≡ 0) (bits word bits′ word′ : List ℕ)
     (buffers : Buffers r m bits word) (buffers′ : Buffers r m bits′ word′) where
   by-done : ReorderDone m A b l out → SearchReordered r m A b l (reordered (pos 0) m A b l) bits word bits′ word′
   by-done d =
