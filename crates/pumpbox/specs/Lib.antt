@@ -4,4 +4,5 @@ pub mod Told
 pub mod Answers
 pub mod ToldLaws
 pub mod Lengths
+pub mod Reordered
 pub mod Unpacked
