@@ -2,17 +2,17 @@
 use mathlib.Core.Path.{_≡_, refl, ap, ap₂, sym, _∙_}
 use mathlib.Core.Logic.{⊎-elim}
 use mathlib.Core.List.{List, []}
-use Prim.Native.Nat.{ℕ, zero, suc, _+_, _*_, _^_, _%_, _/_, _≤_, _<_}
+use Prim.Native.Nat.{ℕ, suc, _+_, _*_, _^_, _%_, _/_, _≤_, _<_}
 use native.Mathlib.Omega.{arith}
-use native.Mathlib.Nat.{two-pow-succ, mul-add, add-zero, mul-zero, mul-comm, mod-eq-of-lt, mul-le-mul-right, le-refl, zero-div}
-use lib.ListN.{length, getD}
+use native.Mathlib.Nat.{two-pow-succ, mul-add, add-zero, mul-zero, mul-comm, mod-eq-of-lt, mul-le-mul-right, zero-div}
+use lib.ListN.{getD}
 use lib.Pow.{pow-pos, pow-mono}
 use lib.Bits.{bitXor, xor-shr, xor-mod, xor-lt}
 use Rattle.numbers.specs.Choice.{lt-or-le}
 use Rattle.numbers.specs.Sums.{total}
 use Rattle.numbers.specs.SumsLaws.{total-same, total-add, total-zero}
 use Rattle.words.specs.Bits.{Bits, digit}
-use Rattle.words.specs.BitLaws.{digit-bit, second-alike, digit-first, digit-second}
+use Rattle.words.specs.BitLaws.{second-alike, digit-first, digit-second}
 use Rattle.maps.specs.Maps.{number, imageBit, image}
 use Rattle.maps.specs.NumberLaws.{by-bits, number-below, digit-number, number-same, number-digits, digits-tell}
 use Rattle.maps.specs.ImageLaws.{image-below, digit-image}
@@ -60,7 +60,8 @@ unfolding image imageBit
 image-zero m A =
     let none : (p : ℕ) → p < m → imageBit m A [] (λ q. digit q 0) p ≡ digit p 0 = λ p h.
     ap (λ (s : ℕ). (s + 0) % 2)
-    (total-same (λ q. getD A (p * m + q) 0 * digit q 0) (λ q. 0) m (λ q l. ap (λ (a : ℕ). getD A (p * m + q) 0 * a) (digit-zero q) ∙ mul-zero (getD A (p * m + q) 0))
+    (total-same (λ q. getD A (p * m + q) 0 * digit q 0) (λ q. 0) m
+    (λ q l. ap (λ (a : ℕ). getD A (p * m + q) 0 * a) (digit-zero q) ∙ mul-zero (getD A (p * m + q) 0))
     ∙ total-zero m) ∙ sym (digit-zero p) in
     number-same m (imageBit m A [] (λ q. digit q 0)) (λ p. digit p 0) none ∙ number-digits m 0 (pow-pos m)
 
@@ -74,7 +75,9 @@ digit-more q i k h =
     ⊎-elim
     (λ (o : q < k).
     let more : 2 ^ suc q ≤ 2 ^ k = pow-mono o in
-    omega (arith, digit-first k (2 ^ q + i) (omega (arith, more, two-pow-succ q)), digit-first k i (omega (arith, more, two-pow-succ q)), is-other k q (λ e. omega arith)))
+    let above : digit k (2 ^ q + i) ≡ 0 = digit-first k (2 ^ q + i) (omega (arith, more, two-pow-succ q)) in
+    let below : digit k i ≡ 0 = digit-first k i (omega (arith, more, two-pow-succ q)) in
+    omega (arith, above, below, is-other k q (λ e. omega arith)))
     (λ (o : k ≤ q).
     let e : k ≡ q = omega arith in
     rw e (omega (arith, digit-second q i h, digit-first q i h, is-same q q refl)))

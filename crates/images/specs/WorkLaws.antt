@@ -5,7 +5,7 @@ use mathlib.Core.Bool.{Bool, true, false, cond}
 use mathlib.Core.List.{List, []}
 use Prim.Native.Nat.{ℕ, zero, suc, _+_, _*_, _^_, _%_, _/_, _≤_, _<_}
 use native.Mathlib.Omega.{arith}
-use native.Mathlib.Nat.{le-refl, mul-le-mul-right, mod-lt, add-zero, mul-zero, div-lt-iff-lt-mul}
+use native.Mathlib.Nat.{le-refl, mod-lt, add-zero, mul-zero, div-lt-iff-lt-mul}
 use lib.ListN.{length, getD}
 use lib.Pow.{pow-lt, pow-mono}
 use lib.Bits.{bitXor}
@@ -167,7 +167,8 @@ module _ (m : ℕ) (A b : List ℕ) (small : m ≤ 8) (places : List ℕ) (shown
   unfolding undoRow productRow
   undone-map can bits C c put = (
     put .table-is ∙ undone-table,
-    put .row-is ∙ tabulate-same (λ p. digit p (getD places (number m (λ q. getD b q 0)) 0)) (imageBit m (undoTable m A) [] (λ q. getD b q 0)) m (undone-bit can bits),
+    put .row-is
+        ∙ tabulate-same (λ p. digit p (getD places (number m (λ q. getD b q 0)) 0)) (imageBit m (undoTable m A) [] (λ q. getD b q 0)) m (undone-bit can bits),
   )
 
 -- ---- the product

@@ -1,13 +1,13 @@
 // Work on the images of all positions, which stand in one array of 256, and on columns of tables.
 ghost use mathlib.Core.Path.{_≡_};
-ghost use mathlib.Core.List.{List, []};
+ghost use mathlib.Core.List.{[]};
 ghost use Prim.Native.Nat.{_+_, _*_, _^_, _%_, _/_, _≤_, _<_};
 ghost use lib.ListN.{length, getD};
 ghost use lib.IntN.{pos};
-ghost use Rattle.numbers.specs.Sums.{tabulate};
-ghost use Rattle.words.specs.Bits.{Bits, digit};
-ghost use Rattle.maps.specs.Maps.{number, image, whereIs, allApart};
-ghost use Rattle.images.specs.Images.{Shows, Doubled, Placed, Mapped, Taken, MapTold, Moves, moved, spreadOf, UndoPut, ProductPut};
+ghost use Rattle.words.specs.Bits.{Bits};
+ghost use Rattle.maps.specs.Maps.{number, image, allApart};
+ghost use Rattle.images.specs.Images.{Shows, Doubled, Placed, Mapped, Taken, MapTold};
+ghost use Rattle.images.specs.Images.{Moves, moved, spreadOf, UndoPut, ProductPut};
 
 // The number whose bit p is the entry at row p and column q of a table of m rows.
 pub fn column(table: &[u8], width: usize, q: usize, m: usize) -> u8

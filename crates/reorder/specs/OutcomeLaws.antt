@@ -1,5 +1,5 @@
 -- The outcome at each place where a call returns, and what holds where the tests on lengths find nothing.
-use mathlib.Core.Path.{_≡_, refl, ap, ap₂, sym, _∙_}
+use mathlib.Core.Path.{_≡_, refl, ap, sym, _∙_}
 use mathlib.Core.Logic.{⊎-elim}
 use mathlib.Core.Bool.{Bool, true, false, not, cond, _&&_, and-true, and-false}
 use mathlib.Core.List.{List}
@@ -12,9 +12,8 @@ use Rattle.numbers.specs.Choice.{lt-or-le}
 use Rattle.code.specs.declared.Refusal.{Refusal}
 use Rattle.code.specs.declared.Refusal.the-variants.{Parameters, InputLength, OutputLength, Entry, Map}
 use Rattle.code.specs.Sound.{largestM}
-use Rattle.reorder.specs.declared.Sizes.{Sizes}
 use Rattle.reorder.specs.declared.Sizes.the-variants.{Right, Wrong}
-use Rattle.reorder.specs.Outcome.{Outcome, done, refused, isLong, sized, mapTested, entryTested}
+use Rattle.reorder.specs.Outcome.{Outcome, refused, isLong, sized, mapTested, entryTested}
 use Rattle.reorder.specs.Work.{lengthOf, sizesOf}
 use Rattle.images.specs.Images.{Mapped}
 

@@ -33,7 +33,8 @@ pub record WordReordered (m : ℕ) (A b : List ℕ) (o o′ : Search.Outcome) : 
   pub same-gap : o′ .gap ≡ o .gap
   pub word-reordered : o .number ≡ 0 → o′ .word ≡ reordered 0 m A b (o .word)
 
--- where `reorder` is done: its readings l′ are sound input of the search as the given ones are, and if neither search is refused as 6, their outcomes go together
+-- where `reorder` is done: its readings l′ are sound input of the search as the given ones are, and if neither search is refused as 6,
+-- their outcomes go together
 pub record SearchReordered (r m : ℕ) (A b : List ℕ) (l l′ : List ℤ) (bits word bits′ word′ : List ℕ) : Type 0 where
   pub sound : SoundSearch r m l bits word
   pub sound′ : SoundSearch r m l′ bits′ word′

@@ -3,8 +3,7 @@
 use code::Code;
 use code::Refusal;
 ghost use mathlib.Core.Path.{_≡_};
-ghost use mathlib.Core.List.{List};
-ghost use Prim.Native.Nat.{_^_, _≤_};
+ghost use Prim.Native.Nat.{_^_};
 ghost use lib.ListN.{length};
 ghost use Rattle.reorder.specs.Outcome.{told, isLong};
 ghost use Rattle.reorder.specs.Outcome.{reordering, reorderingWord, undoing, multiplying};

@@ -28,8 +28,10 @@ shared-slice-read-if1 c = omega (arith, c .before .shared-slice-known .given (c 
 
 cast-if1 : tie.Need-cast-if1 Inv-loop μ-loop
 cast-if1 c =
-    let images = c .before .before .before .before .args .images .now in
-    omega (arith, c .shared-slice-known2 .given (getD images (c .before .before .before .loop .j) 0))
+    let c3 = c .before .before .before in
+    let c4 = c3 .before in
+    let images = c4 .args .images .now in
+    omega (arith, c .shared-slice-known2 .given (getD images (c3 .loop .j) 0))
 
 returns : tie.Need-returns Inv-loop μ-loop
 returns c =

@@ -65,7 +65,11 @@ loop-again c =
     (omega arith, rw (add-one, l .inv .1) (number-more f (l .p) x (omega (arith, g .pre .0))))
 
 returns : tie.Need-returns Inv-loop μ-loop
-returns c = let l = c .before .loop in let all : l .p ≡ c .before .before .args .m = omega arith in l .inv .1 ∙ ap (λ (n : ℕ). number n (λ k. getD (c .before .before .args .table .now) (k * c .before .before .args .width + c .before .before .args .q) 0)) all
+returns c =
+    let l = c .before .loop in
+    let s = c .before .before .args in
+    let all : l .p ≡ s .m = omega arith in
+    l .inv .1 ∙ ap (λ (n : ℕ). number n (λ k. getD (s .table .now) (k * s .width + s .q) 0)) all
 
 pub column-spec : {M : Type 1} → statement M
 column-spec =

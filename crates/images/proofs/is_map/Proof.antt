@@ -10,7 +10,8 @@ slice-aggregate-take-map : tie.Need-slice-aggregate-take-map
 slice-aggregate-take-map c = search needs
 
 take-map-requires : tie.Need-take-map-requires
-take-map-requires c κs = let g = c .before .before .before .before .before in (g .pre .0, g .pre .1, refl, λ i h. getD-replicate 256 i 0 0 h)
+take-map-requires c κs =
+    let g = c .before .before .before .before .before in (g .pre .0, g .pre .1, refl, λ i h. getD-replicate 256 i 0 0 h)
 
 same-length : tie.Need-same-length
 same-length c = search needs

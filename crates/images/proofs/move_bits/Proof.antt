@@ -29,8 +29,9 @@ cast-image c =
 
 shared-slice-read-to : tie.Need-shared-slice-read-to Inv-loop μ-loop
 shared-slice-read-to c =
-    let g = c .before .before .before .before in
-    g .pre .within (c .before .before .before .loop .j) (omega (arith, g .pre .room))
+    let c3 = c .before .before .before in
+    let g = c3 .before in
+    g .pre .within (c3 .loop .j) (omega (arith, g .pre .room))
 
 slice-write-to : tie.Need-slice-write-to Inv-loop μ-loop
 slice-write-to c = omega arith
@@ -43,8 +44,9 @@ loop-less c = omega arith
 
 loop-again : tie.Need-loop-again Inv-loop μ-loop
 loop-again c =
-    let g = c .before .before .before .before in
-    let l = c .before .before .before .loop in
+    let c3 = c .before .before .before in
+    let g = c3 .before in
+    let l = c3 .loop in
     let x = g .args .from .now in
     let t = g .args .to .now in
     let f : ℕ → ℕ = λ j. getD x (bitXor (getD (g .args .images .now) j 0) (g .args .x)) 0 in

@@ -53,12 +53,17 @@ loop-less c = omega arith
 
 loop-again : tie.Need-loop-again Inv-loop μ-loop
 loop-again c =
-    let g = c .before .before .before .before in
-    let l = c .before .before .before .loop in
+    let c3 = c .before .before .before in
+    let g = c3 .before in
+    let l = c3 .loop in
     let x = g .args .from .now in
     let t = g .args .to .now in
     let f : ℕ → ℤ = λ j. getD x (bitXor (getD (g .args .images .now) j 0) (g .args .x)) (pos 0) in
-    (omega arith, rw (l .inv .1) (filled-more (pos 0) f (length x) t (g .pre .room) (l .j) _ (omega (arith, g .pre .room)) (toZ-ofZ {w = w16} (record { sfits = c .to .given }))), length-set (l .to) _ _ ∙ l .inv .2)
+    let same = toZ-ofZ {w = w16} (record { sfits = c .to .given }) in (
+      omega arith,
+      rw (l .inv .1) (filled-more (pos 0) f (length x) t (g .pre .room) (l .j) _ (omega (arith, g .pre .room)) same),
+      length-set (l .to) _ _ ∙ l .inv .2,
+    )
 
 same-length : tie.Need-same-length Inv-loop μ-loop
 same-length c = c .before .loop .inv .2

@@ -11,7 +11,8 @@ use Rattle.images.proofs.product_columns.Statement.{statement}
 use Rattle.images.proofs.product_columns.Tie as tie
 
 abbrev Inv-loop : tie.InvT-loop
-Inv-loop m images table columns₀ q₀ columns q = (q ≤ m) × Shows (λ k. getD images (number m (λ p. getD table (p * m + k) 0)) 0) q columns × (length columns ≡ length columns₀)
+Inv-loop m images table columns₀ q₀ columns q =
+    (q ≤ m) × Shows (λ k. getD images (number m (λ p. getD table (p * m + k) 0)) 0) q columns × (length columns ≡ length columns₀)
 
 abbrev μ-loop : tie.MeasureT-loop
 μ-loop m images table columns₀ q₀ columns q = m - q
@@ -20,7 +21,8 @@ loop-holds : tie.Need-loop-holds Inv-loop μ-loop
 loop-holds c = (omega arith, λ i h. absurd (omega arith), refl)
 
 column-requires : tie.Need-column-requires Inv-loop μ-loop
-column-requires c κs = let g = c .before .before .before .before .before in (g .pre .0, omega arith, g .pre .1, g .pre .2)
+column-requires c κs =
+    let g = c .before .before .before .before .before in (g .pre .0, omega arith, g .pre .1, g .pre .2)
 
 column-small : (c : tie.After-column Inv-loop μ-loop) → c .column .result < 256
 column-small c =
@@ -47,8 +49,9 @@ loop-less c = omega arith
 
 loop-again : tie.Need-loop-again Inv-loop μ-loop
 loop-again c =
-    let g = c .before .before .before .before .before .before .before in
-    let l = c .before .before .before .loop in
+    let c3 = c .before .before .before in
+    let g = c3 .before .before .before .before in
+    let l = c3 .loop in
     let images = g .args .images .now in
     let f : ℕ → ℕ = λ q. number (g .args .m) (λ p. getD (g .args .table .now) (p * g .args .m + q) 0) in (
       omega arith,

@@ -1,5 +1,5 @@
 -- The loop's invariant: the images of the positions below 2^q are there.
-use mathlib.Core.Path.{_≡_, refl, subst, _∙_}
+use mathlib.Core.Path.{_≡_, subst, _∙_}
 use mathlib.Core.List.{[]}
 use Prim.Native.Nat.{ℕ, suc, _-_, _^_, _≤_}
 use native.Mathlib.Omega.{arith}
@@ -24,20 +24,23 @@ slice-write-images c = omega arith
 loop-holds : tie.Need-loop-holds Inv-loop μ-loop
 loop-holds c =
     let g = c .before .before in
-    (omega arith, images-start (g .args .m) (g .args .table .now) (g .args .images .now) (omega (arith, g .pre .3)), length-set (g .args .images .now) 0 0 ∙ g .pre .3)
+    let x = g .args .images .now in
+    (omega arith, images-start (g .args .m) (g .args .table .now) x (omega (arith, g .pre .3)), length-set x 0 0 ∙ g .pre .3)
 
 shl-add-column : tie.Need-shl-add-column Inv-loop μ-loop
 shl-add-column c = omega arith
 
 column-requires : tie.Need-column-requires Inv-loop μ-loop
-column-requires c κs = let g = c .before .before .before .before .before in (g .pre .0, omega arith, g .pre .1, g .pre .2)
+column-requires c κs =
+    let g = c .before .before .before .before .before in (g .pre .0, omega arith, g .pre .1, g .pre .2)
 
 add-column-requires : tie.Need-add-column-requires Inv-loop μ-loop
 add-column-requires c κs =
-    let q = c .before .before .before .loop .q in
-    let g = c .before .before .before .before .before .before in
+    let c3 = c .before .before .before in
+    let g = c3 .before .before .before in
+    let q = c3 .loop .q in
     let small : suc q ≤ 8 = omega (arith, g .pre .0) in
-    omega (arith, shifted q (omega arith), two-pow-succ q, pow-mono small, c .before .before .before .loop .inv .2)
+    omega (arith, shifted q (omega arith), two-pow-succ q, pow-mono small, c3 .loop .inv .2)
 
 add-q : tie.Need-add-q Inv-loop μ-loop
 add-q c = omega arith
@@ -47,12 +50,15 @@ loop-less c = omega arith
 
 loop-again : tie.Need-loop-again Inv-loop μ-loop
 loop-again c =
-    let l = c .before .before .before .before .before .before .loop in
-    let g = c .before .before .before .before .before .before .before .before .before in
+    let c3 = c .before .before .before in
+    let c6 = c3 .before .before .before in
+    let g = c6 .before .before .before in
+    let l = c6 .loop in
     let added = c .before .before .add-column in
-    let column = c .before .before .before .column in (
+    let column = c3 .column in (
       omega arith,
-      images-more (g .args .m) (g .args .table .now) (g .pre .2) (l .q) (omega arith) _ (column .result) (shifted (l .q) (omega (arith, g .pre .0))) (column .ensures) (l .images)
+      images-more (g .args .m) (g .args .table .now) (g .pre .2) (l .q) (omega arith) _ (column .result) (shifted (l .q) (omega (arith, g .pre .0)))
+          (column .ensures) (l .images)
           (added .last .0) (l .inv .1) (added .ensures),
       added .kept .0 ∙ l .inv .2,
     )

@@ -1,7 +1,6 @@
 -- The table by its columns, the row as a table of one.
-use mathlib.Core.Path.{_≡_, ap, sym, _∙_}
-use Prim.Native.Nat.{ℕ, _+_, _*_, _^_, _≤_}
-use mathlib.Core.List.{List}
+use mathlib.Core.Path.{_≡_, ap, _∙_}
+use Prim.Native.Nat.{ℕ, _^_}
 use native.Mathlib.Omega.{arith}
 use native.Mathlib.Nat.{mul-le-mul-right}
 use lib.ListN.{length, length-set, getD}
@@ -25,8 +24,9 @@ slice-aggregate-spread c = search needs
 
 spread-requires : tie.Need-spread-requires
 spread-requires c κs =
-    let g = c .before .before .before .before .before .before .before .before .before in
-    let kept = c .before .before .before .undo-columns .kept .1 .1 .0 in
+    let c3 = c .before .before .before in
+    let g = c3 .before .before .before .before .before .before in
+    let kept = c3 .undo-columns .kept .1 .1 .0 in
     (omega (arith, kept, g .pre .0 .small), omega (arith, g .pre .0 .table-long, mul-le-mul-right (g .args .m) (g .pre .0 .small)))
 
 column-requires : tie.Need-column-requires
@@ -46,8 +46,9 @@ slice-aggregate-spread-2 c = search needs
 
 spread-requires-2 : tie.Need-spread-requires-2
 spread-requires-2 c κs =
-    let g = c .before .before .before .before .before .before .before .before .before .before .before .before .before .before .before .before in
-    let put = c .before .before .before .before .before .before .before .before .before .before .undo-columns in
+    let c10 = c .before .before .before .before .before .before .before .before .before .before in
+    let g = c10 .before .before .before .before .before .before in
+    let put = c10 .undo-columns in
     (simp length-set (omega (arith, put .kept .1 .1 .0)), omega (arith, g .pre .0 .row-long, g .pre .0 .small))
 
 same-length : tie.Need-same-length
@@ -58,14 +59,17 @@ same-length-2 c = search needs
 
 returns : tie.Need-returns
 returns c =
-    let g = c .before .before .before .before .before .before .before .before .before .before .before .before .before .before .before .before .before .before .before in
+    let c6 = c .before .before .before .before .before .before in
+    let c9 = c6 .before .before .before in
+    let c13 = c9 .before .before .before .before in
+    let g = c13 .before .before .before .before .before .before in
     let s = g .args in
     let m = s .m in
     let places = s .places .now in
-    let put = c .before .before .before .before .before .before .before .before .before .before .before .before .before .undo-columns in
+    let put = c13 .undo-columns in
     let columns = put .last .1 .1 .0 in
-    let first = c .before .before .before .before .before .before .before .before .before .spread in
-    let column = c .before .before .before .before .before .before .column in
+    let first = c9 .spread in
+    let column = c6 .column in
     let second = c .before .before .spread2 in
     let f : ℕ → ℕ = λ q. getD places (2 ^ q) 0 in
     let is-row : column .result ≡ number m (λ p. getD (s .row .now) p 0) = column .ensures ∙ row-number m (s .row .now) in

@@ -1,6 +1,6 @@
 -- The loop's invariant: what is filled stands in front of what is as it was.
 use mathlib.Core.Path.{_≡_, refl, _∙_}
-use Prim.Native.Nat.{ℕ, _-_, _*_, _/_, _%_, _≤_, _<_}
+use Prim.Native.Nat.{ℕ, _-_, _/_, _%_, _≤_, _<_}
 use native.Mathlib.Omega.{arith}
 use native.Mathlib.Nat.{mod-lt, div-lt-iff-lt-mul}
 use lib.ListN.{length, length-set, getD}
@@ -12,7 +12,8 @@ use Rattle.images.proofs.spread.Statement.{statement}
 use Rattle.images.proofs.spread.Tie as tie
 
 abbrev Inv-loop : tie.InvT-loop
-Inv-loop columns width table₀ i₀ table i = (i ≤ length table₀) × (table ≡ front table₀ (spreadOf columns width (length table₀)) i) × (length table ≡ length table₀)
+Inv-loop columns width table₀ i₀ table i =
+    (i ≤ length table₀) × (table ≡ front table₀ (spreadOf columns width (length table₀)) i) × (length table ≡ length table₀)
 
 abbrev μ-loop : tie.MeasureT-loop
 μ-loop columns width table₀ i₀ table i = length table₀ - i

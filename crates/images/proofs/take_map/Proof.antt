@@ -1,5 +1,4 @@
 -- The bytes are tested before the images are made.
-use mathlib.Core.Path.{_≡_}
 use Prim.Native.Nat.{_≤_, _<_}
 use native.Mathlib.Omega.{arith}
 use lib.ListN.{length}
@@ -18,7 +17,8 @@ first-bad-bit-requires c κs = search needs
 
 returns : tie.Need-returns
 returns c =
-    let s = c .before .before .before .before .before .before .args in
+    let c6 = c .before .before .before .before .before .before in
+    let s = c6 .args in
     let bad : firstBadBit (s .table .now) < length (s .table .now) = omega (arith, c .if1 .taken, c .before .first-bad-bit .ensures) in
     not-taken (s .m) (s .table .now) (s .row .now) _ _ (table-bad (s .m) (s .table .now) (s .row .now) bad)
 
@@ -27,8 +27,10 @@ first-bad-bit-requires-2 c κs = search needs
 
 returns-2 : tie.Need-returns-2
 returns-2 c =
-    let s = c .before .before .before .before .before .before .before .before .args in
-    let good : length (s .table .now) ≤ firstBadBit (s .table .now) = omega (arith, c .before .before .if1 .left, c .before .before .before .first-bad-bit .ensures) in
+    let c3 = c .before .before .before in
+    let c8 = c3 .before .before .before .before .before in
+    let s = c8 .args in
+    let good : length (s .table .now) ≤ firstBadBit (s .table .now) = omega (arith, c .before .before .if1 .left, c3 .first-bad-bit .ensures) in
     let bad : firstBadBit (s .row .now) < length (s .row .now) = omega (arith, c .if2 .taken, c .before .first-bad-bit2 .ensures) in
     not-taken (s .m) (s .table .now) (s .row .now) _ _ (row-bad (s .m) (s .table .now) (s .row .now) good bad)
 
@@ -37,25 +39,30 @@ shl-n c = search needs
 
 put-images-requires : tie.Need-put-images-requires
 put-images-requires c κs =
-    let g = c .before .before .before .before .before .before .before .before .before in
-    let good : length (g .args .table .now) ≤ firstBadBit (g .args .table .now) = omega (arith, c .before .before .before .if1 .left, c .before .before .before .before .first-bad-bit .ensures) in
+    let c3 = c .before .before .before in
+    let c4 = c3 .before in
+    let g = c4 .before .before .before .before .before in
+    let good : length (g .args .table .now) ≤ firstBadBit (g .args .table .now) = omega (arith, c3 .if1 .left, c4 .first-bad-bit .ensures) in
     (g .pre .0 .small, g .pre .0 .table-long, good-bits (g .args .table .now) good, g .pre .1)
 
 put-places-requires : tie.Need-put-places-requires
 put-places-requires c κs =
-    let g = c .before .before .before .before .before .before .before .before .before .before .before .before .before .before in
+    let c4 = c .before .before .before .before in
+    let g = c4 .before .before .before .before .before .before .before .before .before .before in
     let m = g .args .m in
     let most = pow-mono (g .pre .0 .small) in
     let power = shifted m (g .pre .0 .small) in
-    (omega (arith, power, most, c .before .before .before .before .put-images .kept .1 .1 .0, g .pre .1), g .pre .2, omega (arith, power, most), g .pre .3)
+    (omega (arith, power, most, c4 .put-images .kept .1 .1 .0, g .pre .1), g .pre .2, omega (arith, power, most), g .pre .3)
 
 all-apart-requires : tie.Need-all-apart-requires
 all-apart-requires c κs =
-    let g = c .before .before .before .before .before .before .before .before .before .before .before .before .before .before .before .before .before .before .before in
+    let c4 = c .before .before .before .before in
+    let c9 = c4 .before .before .before .before .before in
+    let g = c9 .before .before .before .before .before .before .before .before .before .before in
     let m = g .args .m in
     let most = pow-mono (g .pre .0 .small) in
-    let placed = c .before .before .before .before .put-places in (
-      omega (arith, shifted m (g .pre .0 .small), most, c .before .before .before .before .before .before .before .before .before .put-images .kept .1 .1 .0, g .pre .1),
+    let placed = c4 .put-places in (
+      omega (arith, shifted m (g .pre .0 .small), most, c9 .put-images .kept .1 .1 .0, g .pre .1),
       omega (arith, placed .kept .1 .1 .0, g .pre .2),
       placed .ensures,
     )
@@ -68,12 +75,18 @@ same-length-2 c = search needs
 
 returns-3 : tie.Need-returns-3
 returns-3 c =
-    let g = c .before .before .before .before .before .before .before .before .before .before .before .before .before .before .before .before .before .before .before .before in
+    let c5 = c .before .before .before .before .before in
+    let c10 = c5 .before .before .before .before .before in
+    let c12 = c10 .before .before in
+    let c13 = c12 .before in
+    let c14 = c13 .before in
+    let c15 = c14 .before in
+    let g = c15 .before .before .before .before .before in
     let s = g .args in
-    let table : length (s .table .now) ≤ firstBadBit (s .table .now) = omega (arith, c .before .before .before .before .before .before .before .before .before .before .before .before .before .before .if1 .left, c .before .before .before .before .before .before .before .before .before .before .before .before .before .before .before .first-bad-bit .ensures) in
-    let row : length (s .row .now) ≤ firstBadBit (s .row .now) = omega (arith, c .before .before .before .before .before .before .before .before .before .before .before .before .if2 .left, c .before .before .before .before .before .before .before .before .before .before .before .before .before .first-bad-bit2 .ensures) in
-    taken (s .m) (s .table .now) (s .row .now) _ _ (c .all-apart .result) _ (shifted (s .m) (g .pre .0 .small)) table row (c .before .before .before .before .before .before .before .before .before .before .put-images .ensures)
-    (c .before .before .before .before .before .put-places .ensures) (c .all-apart .ensures)
+    let table : length (s .table .now) ≤ firstBadBit (s .table .now) = omega (arith, c14 .if1 .left, c15 .first-bad-bit .ensures) in
+    let row : length (s .row .now) ≤ firstBadBit (s .row .now) = omega (arith, c12 .if2 .left, c13 .first-bad-bit2 .ensures) in
+    taken (s .m) (s .table .now) (s .row .now) _ _ (c .all-apart .result) _ (shifted (s .m) (g .pre .0 .small)) table row (c10 .put-images .ensures)
+    (c5 .put-places .ensures) (c .all-apart .ensures)
 
 pub take-map-spec : {M : Type 1} → statement M
 take-map-spec =

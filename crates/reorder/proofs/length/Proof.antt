@@ -1,7 +1,5 @@
 -- By the test on m.
-use mathlib.Core.Path.{_≡_, refl}
 use borrow.Author.Needs.{needs}
-use native.Mathlib.Omega.{arith}
 use borrow.Author.Tests.{lt-ltb, le-ltb}
 use Rattle.images.specs.ArrayLaws.{shifted}
 use Rattle.reorder.proofs.length.Statement.{statement}

@@ -1,9 +1,6 @@
 -- The tests 1 to 3, by the lengths; then the call where they are right.
-use mathlib.Core.Path.{_≡_, ap, ap₂, sym, _∙_}
+use mathlib.Core.Path.{ap₂, sym, _∙_}
 use mathlib.Core.Bool.{Bool, _&&_}
-use mathlib.Core.List.{List}
-use Prim.Native.Nat.{ℕ}
-use lib.ListN.{length}
 use borrow.Author.Needs.{needs}
 use Rattle.reorder.specs.Outcome.{sized, multiplying, multiplyingLong}
 use Rattle.reorder.specs.OutcomeLaws.{both-true, sizes-wrong, sizes-right, sized-right, mapped}
@@ -30,11 +27,17 @@ enum-told c = search needs
 
 product-long-requires : tie.Need-product-long-requires
 product-long-requires c κs =
-    let s = c .before .before .before .before .before .before .before .before .before .before .before .before .before .before .args in
-    let first = c .before .before .before .before .before .before .before .is-long in
-    let second = c .before .before .before .before .before .before .is-long2 in
-    let outputs = c .before .before .before .before .before .is-long3 in
-    let right = sizes-right (s .m) (first .result && second .result) (outputs .result) (sym (c .before .before .before .before .test-sizes .ensures) ∙ c .before .before .enum-told .given .1) in
+    let c4 = c .before .before .before .before in
+    let c5 = c4 .before in
+    let c6 = c5 .before in
+    let c7 = c6 .before in
+    let c14 = c7 .before .before .before .before .before .before .before in
+    let s = c14 .args in
+    let first = c7 .is-long in
+    let second = c6 .is-long2 in
+    let outputs = c5 .is-long3 in
+    let right =
+    sizes-right (s .m) (first .result && second .result) (outputs .result) (sym (c4 .test-sizes .ensures) ∙ c .before .before .enum-told .given .1) in
     let both = both-true (first .result) (second .result) (right .inputs-right) in (
       mapped (s .m) (s .table1 .now) (s .row1 .now) (right .small) (sym (first .ensures) ∙ both .0),
       mapped (s .m) (s .table2 .now) (s .row2 .now) (right .small) (sym (second .ensures) ∙ both .1),
@@ -44,13 +47,19 @@ product-long-requires c κs =
 returns : tie.Need-returns
 unfolding multiplying
 returns c =
-    let s = c .before .before .before .before .before .before .before .before .before .before .before .before .before .args in
-    let first = c .before .before .before .before .before .before .is-long in
-    let second = c .before .before .before .before .before .is-long2 in
-    let outputs = c .before .before .before .before .is-long3 in
+    let c3 = c .before .before .before in
+    let c4 = c3 .before in
+    let c5 = c4 .before in
+    let c6 = c5 .before in
+    let c13 = c6 .before .before .before .before .before .before .before in
+    let s = c13 .args in
+    let first = c6 .is-long in
+    let second = c5 .is-long2 in
+    let outputs = c4 .is-long3 in
     let why = c .before .why .given in
     let rest = multiplyingLong (s .m) (s .table1 .now) (s .row1 .now) (s .table2 .now) (s .row2 .now) (s .out .now) (s .outrow .now) in
-    sizes-wrong (s .m) (first .result && second .result) (outputs .result) (s .out .now, s .outrow .now) rest (why .0 .0) (sym (c .before .before .before .test-sizes .ensures) ∙ why .1)
+    sizes-wrong (s .m) (first .result && second .result) (outputs .result) (s .out .now, s .outrow .now) rest (why .0 .0)
+    (sym (c3 .test-sizes .ensures) ∙ why .1)
     ∙ ap₂ (λ (i o : Bool). sized (s .out .now, s .outrow .now) (s .m) i o rest) (ap₂ _&&_ (first .ensures) (second .ensures)) (outputs .ensures)
 
 same-length : tie.Need-same-length
@@ -62,13 +71,20 @@ same-length-2 c = search needs
 returns-2 : tie.Need-returns-2
 unfolding multiplying
 returns-2 c =
-    let s = c .before .before .before .before .before .before .before .before .before .before .before .before .before .before .before .before .before .before .before .args in
-    let first = c .before .before .before .before .before .before .before .before .before .before .before .before .is-long in
-    let second = c .before .before .before .before .before .before .before .before .before .before .before .is-long2 in
-    let outputs = c .before .before .before .before .before .before .before .before .before .before .is-long3 in
+    let c4 = c .before .before .before .before in
+    let c7 = c4 .before .before .before in
+    let c9 = c7 .before .before in
+    let c10 = c9 .before in
+    let c11 = c10 .before in
+    let c12 = c11 .before in
+    let c19 = c12 .before .before .before .before .before .before .before in
+    let s = c19 .args in
+    let first = c12 .is-long in
+    let second = c11 .is-long2 in
+    let outputs = c10 .is-long3 in
     let rest = multiplyingLong (s .m) (s .table1 .now) (s .row1 .now) (s .table2 .now) (s .row2 .now) (s .out .now) (s .outrow .now) in
-    let right = sizes-right (s .m) (first .result && second .result) (outputs .result) (sym (c .before .before .before .before .before .before .before .before .before .test-sizes .ensures) ∙ c .before .before .before .before .before .before .before .enum-told .given .1) in
-    c .before .before .before .before .product-long .ensures
+    let right = sizes-right (s .m) (first .result && second .result) (outputs .result) (sym (c9 .test-sizes .ensures) ∙ c7 .enum-told .given .1) in
+    c4 .product-long .ensures
     ∙ sized-right (s .m) (first .result && second .result) (outputs .result) (s .out .now, s .outrow .now) rest right
     ∙ ap₂ (λ (i o : Bool). sized (s .out .now, s .outrow .now) (s .m) i o rest) (ap₂ _&&_ (first .ensures) (second .ensures)) (outputs .ensures)
 

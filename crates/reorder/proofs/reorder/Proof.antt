@@ -1,7 +1,6 @@
 -- The tests 1 to 3, by the lengths; then the call where they are right.
-use mathlib.Core.Path.{_≡_, ap, sym, _∙_}
+use mathlib.Core.Path.{ap, sym, _∙_}
 use mathlib.Core.Bool.{Bool, _&&_}
-use Prim.Native.Nat.{ℕ, _^_}
 use lib.ListN.{length}
 use lib.Dec.{eqb}
 use borrow.Author.Needs.{needs}
@@ -28,12 +27,17 @@ enum-told c = search needs
 
 reorder-long-requires : tie.Need-reorder-long-requires
 reorder-long-requires c κs =
-    let g = c .before .before .before .before .before .before .before .before in
+    let c3 = c .before .before .before in
+    let c4 = c3 .before in
+    let c5 = c4 .before in
+    let g = c5 .before .before .before in
     let s = g .args in
-    let n = c .before .before .before .before .before .length in
-    let long = c .before .before .before .before .is-long in
-    let right = sizes-right (s .m) (long .result && eqb (length (s .readings .now)) (n .result)) (eqb (length (s .out .now)) (n .result)) (sym (c .before .before .before .test-sizes .ensures) ∙ c .before .enum-told .given .1) in
-    let inputs = both-true (long .result) (eqb (length (s .readings .now)) (n .result)) (right .inputs-right) in
+    let n = c5 .length in
+    let long = c4 .is-long in
+    let given = eqb (length (s .readings .now)) (n .result) in
+    let room = eqb (length (s .out .now)) (n .result) in
+    let right = sizes-right (s .m) (long .result && given) room (sym (c3 .test-sizes .ensures) ∙ c .before .enum-told .given .1) in
+    let inputs = both-true (long .result) given (right .inputs-right) in
     let is-n = length-right (s .m) (n .result) (right .small) (n .ensures) in (
       mapped (s .m) (s .table .now) (s .row .now) (right .small) (sym (long .ensures) ∙ inputs .0),
       eqb-true (length (s .readings .now)) (n .result) (inputs .1) ∙ is-n,
@@ -43,15 +47,21 @@ reorder-long-requires c κs =
 returns : tie.Need-returns
 unfolding reordering
 returns c =
-    let s = c .before .before .before .before .before .before .before .before .args in
-    let n = c .before .before .before .before .before .length in
-    let long = c .before .before .before .before .is-long in
+    let c3 = c .before .before .before in
+    let c4 = c3 .before in
+    let c5 = c4 .before in
+    let c8 = c5 .before .before .before in
+    let s = c8 .args in
+    let n = c5 .length in
+    let long = c4 .is-long in
     let why = c .before .why .given in
     let out = s .out .now in
     let rest = reorderingLong (s .m) (s .table .now) (s .row .now) (s .readings .now) out in
-    sizes-wrong (s .m) (long .result && eqb (length (s .readings .now)) (n .result)) (eqb (length out) (n .result)) out rest (why .0 .0) (sym (c .before .before .before .test-sizes .ensures) ∙ why .1)
+    let given = eqb (length (s .readings .now)) (n .result) in
+    sizes-wrong (s .m) (long .result && given) (eqb (length out) (n .result)) out rest (why .0 .0) (sym (c3 .test-sizes .ensures) ∙ why .1)
     ∙ ap (λ (b : Bool). sized out (s .m) (b && eqb (length (s .readings .now)) (n .result)) (eqb (length out) (n .result)) rest) (long .ensures)
-    ∙ sized-same out rest (s .m) (n .result) (n .ensures) (isLong (s .m) (length (s .table .now)) (length (s .row .now))) (length (s .readings .now)) (length out)
+    ∙ sized-same out rest (s .m) (n .result) (n .ensures) (isLong (s .m) (length (s .table .now)) (length (s .row .now)))
+    (length (s .readings .now)) (length out)
 
 same-length : tie.Need-same-length
 same-length c = search needs
@@ -59,18 +69,24 @@ same-length c = search needs
 returns-2 : tie.Need-returns-2
 unfolding reordering
 returns-2 c =
-    let s = c .before .before .before .before .before .before .before .before .before .before .args in
-    let n = c .before .before .before .before .before .before .before .length in
-    let long = c .before .before .before .before .before .before .is-long in
+    let c3 = c .before .before .before in
+    let c5 = c3 .before .before in
+    let c6 = c5 .before in
+    let c7 = c6 .before in
+    let c10 = c7 .before .before .before in
+    let s = c10 .args in
+    let n = c7 .length in
+    let long = c6 .is-long in
     let out = s .out .now in
     let rest = reorderingLong (s .m) (s .table .now) (s .row .now) (s .readings .now) out in
     let inputs = long .result && eqb (length (s .readings .now)) (n .result) in
     let outputs = eqb (length out) (n .result) in
-    let right = sizes-right (s .m) inputs outputs (sym (c .before .before .before .before .before .test-sizes .ensures) ∙ c .before .before .before .enum-told .given .1) in
+    let right = sizes-right (s .m) inputs outputs (sym (c5 .test-sizes .ensures) ∙ c3 .enum-told .given .1) in
     c .before .reorder-long .ensures
     ∙ sized-right (s .m) inputs outputs out rest right
     ∙ ap (λ (b : Bool). sized out (s .m) (b && eqb (length (s .readings .now)) (n .result)) (eqb (length out) (n .result)) rest) (long .ensures)
-    ∙ sized-same out rest (s .m) (n .result) (n .ensures) (isLong (s .m) (length (s .table .now)) (length (s .row .now))) (length (s .readings .now)) (length out)
+    ∙ sized-same out rest (s .m) (n .result) (n .ensures) (isLong (s .m) (length (s .table .now)) (length (s .row .now)))
+    (length (s .readings .now)) (length out)
 
 pub reorder-spec : {M : Type 1} → statement M
 reorder-spec =

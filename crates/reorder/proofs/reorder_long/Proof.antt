@@ -1,15 +1,9 @@
 -- The tests 11 and 4, then the move.
-use mathlib.Core.Path.{_≡_, ap, sym, refl, _∙_}
-use mathlib.Core.List.{List}
-use Prim.Native.Nat.{ℕ}
-use lib.IntN.{ℤ, pos}
+use mathlib.Core.Path.{ap, sym, _∙_}
+use lib.IntN.{pos}
 use native.Mathlib.Omega.{arith}
-use lib.ListN.{length}
 use borrow.Author.Needs.{needs}
 use borrow.Author.Tests.{not-true, not-false}
-use Rattle.code.specs.Sound.{largestReading}
-use Rattle.code.specs.Entries.{firstBadReading}
-use Rattle.maps.specs.Maps.{number}
 use Rattle.reorder.specs.Outcome.{done}
 use Rattle.reorder.specs.OutcomeLaws.{map-refused, map-allowed, entry-refused, entry-allowed}
 use Rattle.images.specs.WorkLaws.{bits-map, row-number, moves-map, moved-map}
@@ -38,17 +32,21 @@ slice-aggregate-move-readings c = search needs
 
 column-requires : tie.Need-column-requires
 column-requires c κs =
-    let g = c .before .before .before .before .before .before .before .before .before in
-    let told = c .before .before .before .before .before .is-map .ensures .tells in
-    let sound = bits-map (g .args .m) (g .args .table .now) (g .args .row .now) (sym told ∙ not-false _ (c .before .before .before .if1 .left)) in
+    let c3 = c .before .before .before in
+    let c5 = c3 .before .before in
+    let g = c5 .before .before .before .before in
+    let told = c5 .is-map .ensures .tells in
+    let sound = bits-map (g .args .m) (g .args .table .now) (g .args .row .now) (sym told ∙ not-false _ (c3 .if1 .left)) in
     (g .pre .0 .small, omega arith, omega (arith, g .pre .0 .row-long), sound .row-bits)
 
 move-readings-requires : tie.Need-move-readings-requires
 move-readings-requires c κs =
-    let g = c .before .before .before .before .before .before .before .before .before .before .before in
+    let c5 = c .before .before .before .before .before in
+    let c7 = c5 .before .before in
+    let g = c7 .before .before .before .before in
     let s = g .args in
-    let map = c .before .before .before .before .before .before .before .is-map in
-    let left = not-false _ (c .before .before .before .before .before .if1 .left) in
+    let map = c7 .is-map in
+    let left = not-false _ (c5 .if1 .left) in
     let sound = bits-map (s .m) (s .table .now) (s .row .now) (sym (map .ensures .tells) ∙ left) in
     let column = c .before .column in
     moves-map (pos 0) (s .m) (s .table .now) (s .row .now) (sound .row-bits) (map .last .1 .1 .1 .0) (map .ensures .images-are left) (column .result)
@@ -59,18 +57,23 @@ same-length c = search needs
 
 returns-3 : tie.Need-returns-3
 returns-3 c =
-    let g = c .before .before .before .before .before .before .before .before .before .before .before .before .before in
+    let c3 = c .before .before .before in
+    let c5 = c3 .before .before in
+    let c6 = c5 .before in
+    let c7 = c6 .before in
+    let c9 = c7 .before .before in
+    let g = c9 .before .before .before .before in
     let s = g .args in
-    let map = c .before .before .before .before .before .before .before .before .before .is-map in
-    let left = not-false _ (c .before .before .before .before .before .before .before .if1 .left) in
+    let map = c9 .is-map in
+    let left = not-false _ (c7 .if1 .left) in
     let sound = bits-map (s .m) (s .table .now) (s .row .now) (sym (map .ensures .tells) ∙ left) in
-    let place = c .before .before .before .before .before .before .first-bad-reading in
-    let column = c .before .before .before .column in
+    let place = c6 .first-bad-reading in
+    let column = c3 .column in
     ap done
     (c .before .move-readings .ensures
     ∙ moved-map (pos 0) (s .m) (s .table .now) (s .row .now) (sound .row-bits) (map .last .1 .1 .1 .0) (map .ensures .images-are left) (column .result)
     (column .ensures ∙ row-number (s .m) (s .row .now)) (s .readings .now) (g .pre .1))
-    ∙ entry-allowed _ _ (place .result) _ _ (place .ensures) (c .before .before .before .before .before .if2 .left)
+    ∙ entry-allowed _ _ (place .result) _ _ (place .ensures) (c5 .if2 .left)
     ∙ map-allowed _ _ _ _ (map .ensures .tells) left
 
 pub reorder-long-spec : {M : Type 1} → statement M

@@ -1,13 +1,8 @@
 -- The tests 11 and 4, then the move.
-use mathlib.Core.Path.{_≡_, ap, sym, refl, _∙_}
-use mathlib.Core.List.{List}
-use Prim.Native.Nat.{ℕ}
+use mathlib.Core.Path.{ap, sym, _∙_}
 use native.Mathlib.Omega.{arith}
-use lib.ListN.{length}
 use borrow.Author.Needs.{needs}
 use borrow.Author.Tests.{not-true, not-false}
-use Rattle.code.specs.Entries.{firstBadBit}
-use Rattle.maps.specs.Maps.{number}
 use Rattle.reorder.specs.Outcome.{done}
 use Rattle.reorder.specs.OutcomeLaws.{map-refused, map-allowed, entry-refused, entry-allowed}
 use Rattle.images.specs.WorkLaws.{bits-map, row-number, moves-map, moved-map}
@@ -36,17 +31,21 @@ slice-aggregate-move-bits c = search needs
 
 column-requires : tie.Need-column-requires
 column-requires c κs =
-    let g = c .before .before .before .before .before .before .before .before .before .before .before in
-    let told = c .before .before .before .before .before .is-map .ensures .tells in
-    let sound = bits-map (g .args .m) (g .args .table .now) (g .args .row .now) (sym told ∙ not-false _ (c .before .before .before .if1 .left)) in
+    let c3 = c .before .before .before in
+    let c5 = c3 .before .before in
+    let g = c5 .before .before .before .before .before .before in
+    let told = c5 .is-map .ensures .tells in
+    let sound = bits-map (g .args .m) (g .args .table .now) (g .args .row .now) (sym told ∙ not-false _ (c3 .if1 .left)) in
     (g .pre .0 .small, omega arith, omega (arith, g .pre .0 .row-long), sound .row-bits)
 
 move-bits-requires : tie.Need-move-bits-requires
 move-bits-requires c κs =
-    let g = c .before .before .before .before .before .before .before .before .before .before .before .before .before in
+    let c5 = c .before .before .before .before .before in
+    let c7 = c5 .before .before in
+    let g = c7 .before .before .before .before .before .before in
     let s = g .args in
-    let map = c .before .before .before .before .before .before .before .is-map in
-    let left = not-false _ (c .before .before .before .before .before .if1 .left) in
+    let map = c7 .is-map in
+    let left = not-false _ (c5 .if1 .left) in
     let sound = bits-map (s .m) (s .table .now) (s .row .now) (sym (map .ensures .tells) ∙ left) in
     let column = c .before .column in
     moves-map 0 (s .m) (s .table .now) (s .row .now) (sound .row-bits) (map .last .1 .1 .1 .0) (map .ensures .images-are left) (column .result)
@@ -57,18 +56,23 @@ same-length c = search needs
 
 returns-3 : tie.Need-returns-3
 returns-3 c =
-    let g = c .before .before .before .before .before .before .before .before .before .before .before .before .before .before .before .before in
+    let c4 = c .before .before .before .before in
+    let c6 = c4 .before .before in
+    let c7 = c6 .before in
+    let c8 = c7 .before in
+    let c10 = c8 .before .before in
+    let g = c10 .before .before .before .before .before .before in
     let s = g .args in
-    let map = c .before .before .before .before .before .before .before .before .before .before .is-map in
-    let left = not-false _ (c .before .before .before .before .before .before .before .before .if1 .left) in
+    let map = c10 .is-map in
+    let left = not-false _ (c8 .if1 .left) in
     let sound = bits-map (s .m) (s .table .now) (s .row .now) (sym (map .ensures .tells) ∙ left) in
-    let place = c .before .before .before .before .before .before .before .first-bad-bit in
-    let column = c .before .before .before .before .column in
+    let place = c7 .first-bad-bit in
+    let column = c4 .column in
     ap done
     (c .before .before .move-bits .ensures
     ∙ moved-map 0 (s .m) (s .table .now) (s .row .now) (sound .row-bits) (map .last .1 .1 .1 .0) (map .ensures .images-are left) (column .result)
     (column .ensures ∙ row-number (s .m) (s .row .now)) (s .word .now) (g .pre .1))
-    ∙ entry-allowed _ _ (place .result) _ _ (place .ensures) (c .before .before .before .before .before .before .if2 .left)
+    ∙ entry-allowed _ _ (place .result) _ _ (place .ensures) (c6 .if2 .left)
     ∙ map-allowed _ _ _ _ (map .ensures .tells) left
 
 pub reorder-word-long-spec : {M : Type 1} → statement M

@@ -1,5 +1,4 @@
 -- Each return is the first test that applies.
-use mathlib.Core.Path.{_≡_, refl}
 use borrow.Author.Tests.{lt-ltb, le-ltb}
 use Rattle.reorder.proofs.test_sizes.Statement.{statement}
 use Rattle.reorder.proofs.test_sizes.Tie as tie

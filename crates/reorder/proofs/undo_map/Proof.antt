@@ -1,9 +1,6 @@
 -- The tests 1 to 3, by the lengths; then the call where they are right.
-use mathlib.Core.Path.{_≡_, ap₂, sym, _∙_}
+use mathlib.Core.Path.{ap₂, sym, _∙_}
 use mathlib.Core.Bool.{Bool}
-use mathlib.Core.List.{List}
-use Prim.Native.Nat.{ℕ}
-use lib.ListN.{length}
 use borrow.Author.Needs.{needs}
 use Rattle.reorder.specs.Outcome.{sized, undoing, undoingLong}
 use Rattle.reorder.specs.OutcomeLaws.{sizes-wrong, sizes-right, sized-right, mapped}
@@ -27,10 +24,14 @@ enum-told c = search needs
 
 undo-long-requires : tie.Need-undo-long-requires
 undo-long-requires c κs =
-    let s = c .before .before .before .before .before .before .before .before .before .before .before .args in
-    let inputs = c .before .before .before .before .before .before .is-long in
-    let outputs = c .before .before .before .before .before .is-long2 in
-    let right = sizes-right (s .m) (inputs .result) (outputs .result) (sym (c .before .before .before .before .test-sizes .ensures) ∙ c .before .before .enum-told .given .1) in (
+    let c4 = c .before .before .before .before in
+    let c5 = c4 .before in
+    let c6 = c5 .before in
+    let c11 = c6 .before .before .before .before .before in
+    let s = c11 .args in
+    let inputs = c6 .is-long in
+    let outputs = c5 .is-long2 in
+    let right = sizes-right (s .m) (inputs .result) (outputs .result) (sym (c4 .test-sizes .ensures) ∙ c .before .before .enum-told .given .1) in (
       mapped (s .m) (s .table .now) (s .row .now) (right .small) (sym (inputs .ensures) ∙ right .inputs-right),
       mapped (s .m) (s .out .now) (s .outrow .now) (right .small) (sym (outputs .ensures) ∙ right .outputs-right),
     )
@@ -38,12 +39,16 @@ undo-long-requires c κs =
 returns : tie.Need-returns
 unfolding undoing
 returns c =
-    let s = c .before .before .before .before .before .before .before .before .before .before .args in
-    let inputs = c .before .before .before .before .before .is-long in
-    let outputs = c .before .before .before .before .is-long2 in
+    let c3 = c .before .before .before in
+    let c4 = c3 .before in
+    let c5 = c4 .before in
+    let c10 = c5 .before .before .before .before .before in
+    let s = c10 .args in
+    let inputs = c5 .is-long in
+    let outputs = c4 .is-long2 in
     let why = c .before .why .given in
     let rest = undoingLong (s .m) (s .table .now) (s .row .now) (s .out .now) (s .outrow .now) in
-    sizes-wrong (s .m) (inputs .result) (outputs .result) (s .out .now, s .outrow .now) rest (why .0 .0) (sym (c .before .before .before .test-sizes .ensures) ∙ why .1)
+    sizes-wrong (s .m) (inputs .result) (outputs .result) (s .out .now, s .outrow .now) rest (why .0 .0) (sym (c3 .test-sizes .ensures) ∙ why .1)
     ∙ ap₂ (λ (i o : Bool). sized (s .out .now, s .outrow .now) (s .m) i o rest) (inputs .ensures) (outputs .ensures)
 
 same-length : tie.Need-same-length
@@ -55,12 +60,18 @@ same-length-2 c = search needs
 returns-2 : tie.Need-returns-2
 unfolding undoing
 returns-2 c =
-    let s = c .before .before .before .before .before .before .before .before .before .before .before .before .before .before .before .before .args in
-    let inputs = c .before .before .before .before .before .before .before .before .before .before .before .is-long in
-    let outputs = c .before .before .before .before .before .before .before .before .before .before .is-long2 in
+    let c4 = c .before .before .before .before in
+    let c7 = c4 .before .before .before in
+    let c9 = c7 .before .before in
+    let c10 = c9 .before in
+    let c11 = c10 .before in
+    let c16 = c11 .before .before .before .before .before in
+    let s = c16 .args in
+    let inputs = c11 .is-long in
+    let outputs = c10 .is-long2 in
     let rest = undoingLong (s .m) (s .table .now) (s .row .now) (s .out .now) (s .outrow .now) in
-    let right = sizes-right (s .m) (inputs .result) (outputs .result) (sym (c .before .before .before .before .before .before .before .before .before .test-sizes .ensures) ∙ c .before .before .before .before .before .before .before .enum-told .given .1) in
-    c .before .before .before .before .undo-long .ensures
+    let right = sizes-right (s .m) (inputs .result) (outputs .result) (sym (c9 .test-sizes .ensures) ∙ c7 .enum-told .given .1) in
+    c4 .undo-long .ensures
     ∙ sized-right (s .m) (inputs .result) (outputs .result) (s .out .now, s .outrow .now) rest right
     ∙ ap₂ (λ (i o : Bool). sized (s .out .now, s .outrow .now) (s .m) i o rest) (inputs .ensures) (outputs .ensures)
 
