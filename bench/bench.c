@@ -1,9 +1,10 @@
-/* Times the library beside plain C (plain.h) in one run: each figure is the least of several alternating rounds, and what counts is
- * the ratio. Both sides must agree in every result, or the bench fails. `bench grow` prints visits and time per word over all codes
- * and three noise levels instead. */
+/* Times the library beside plain C (plain.h) and C written for vector code (vector.c) in one run: each figure is the least of several
+ * alternating rounds, and what counts is the ratio. All sides must agree in every result, or the bench fails. `bench grow` prints visits
+ * and time per word over all codes and three noise levels instead. */
 #define _POSIX_C_SOURCE 199309L
 #include "../include/cinorbis.h"
 #include "plain.h"
+#include "vector.h"
 #include <math.h>
 #include <stdio.h>
 #include <stdlib.h>
@@ -14,7 +15,7 @@
 
 static int16_t readings[SETS][256];
 static uint8_t information[SETS][256];
-static uint64_t state = 0x2545f4914f6cdd1du, sum_library, sum_plain;
+static uint64_t state = 0x2545f4914f6cdd1du, sum_library, sum_plain, sum_vector;
 
 static uint64_t random64(void) {
     state ^= state << 13;
@@ -86,6 +87,17 @@ static double c_encode(work w) {
     return (double)w.repeats * SETS;
 }
 
+static double v_encode(work w) {
+    uint8_t word[256];
+    size_t k = dimension(w.r, w.m);
+    for (int i = 0; i < w.repeats; i++)
+        for (int t = 0; t < SETS; t++) {
+            vector_encode(w.r, w.m, information[t], k, word, (size_t)1 << w.m);
+            sum_vector += word[t & ((1 << w.m) - 1)];
+        }
+    return (double)w.repeats * SETS;
+}
+
 static double library_quick(work w) {
     uint8_t word[256], bits[256];
     cinorbis_numbers n;
@@ -106,6 +118,18 @@ static double c_quick(work w) {
         for (int t = 0; t < SETS; t++) {
             plain_quick(w.r, w.m, readings[t], l, bits, k, word, l, &penalty);
             sum_plain += penalty + bits[0];
+        }
+    return (double)w.repeats * SETS;
+}
+
+static double v_quick(work w) {
+    uint8_t word[256], bits[256];
+    uint32_t penalty = 0;
+    size_t k = dimension(w.r, w.m), l = (size_t)1 << w.m;
+    for (int i = 0; i < w.repeats; i++)
+        for (int t = 0; t < SETS; t++) {
+            vector_quick(w.r, w.m, readings[t], l, bits, k, word, l, &penalty);
+            sum_vector += penalty + bits[0];
         }
     return (double)w.repeats * SETS;
 }
@@ -138,6 +162,20 @@ static double c_search(work w) {
     return visits;
 }
 
+static double v_search(work w) {
+    uint8_t word[256], bits[256];
+    vector_end e = {0, 0, 0};
+    double visits = 0;
+    size_t k = dimension(w.r, w.m), l = (size_t)1 << w.m;
+    for (int i = 0; i < w.repeats; i++)
+        for (int t = 0; t < SETS; t++) {
+            uint32_t refusal = (uint32_t)vector_search(w.r, w.m, w.allowed, readings[t], l, bits, k, word, l, &e);
+            visits += e.visits;
+            sum_vector += refusal == 0 ? (uint64_t)e.best * 3 + (e.second - e.best) + bits[0] : refusal;
+        }
+    return visits;
+}
+
 static double once(double (*f)(work), work w, double *units) {
     double start = now();
     *units = f(w);
@@ -146,40 +184,57 @@ static double once(double (*f)(work), work w, double *units) {
 
 static int disagreed;
 
-/* both sides in alternating rounds; the least time of each */
-static void compare(const char *name, const char *unit, work w, double (*library)(work), double (*plain)(work)) {
-    double least_library = 1e300, least_plain = 1e300, units_library = 0, units_plain = 0;
-    sum_library = sum_plain = 0;
+/* the three sides of a call */
+typedef struct {
+    double (*library)(work), (*plain)(work), (*vector)(work);
+} sides;
+
+static const sides encode_sides = {library_encode, c_encode, v_encode}, quick_sides = {library_quick, c_quick, v_quick},
+                   search_sides = {library_search, c_search, v_search};
+
+typedef struct {
+    double library, plain, vector, units;
+} times;
+
+/* all sides in alternating rounds; the least time of each */
+static times measure(const char *name, work w, sides s) {
+    times t = {1e300, 1e300, 1e300, 0};
+    double units_plain = 0, units_vector = 0;
+    sum_library = sum_plain = sum_vector = 0;
     for (int i = 0; i < ROUNDS; i++) {
-        double a = once(library, w, &units_library), b = once(plain, w, &units_plain);
-        if (a < least_library) least_library = a;
-        if (b < least_plain) least_plain = b;
+        double a = once(s.library, w, &t.units), b = once(s.plain, w, &units_plain), c = once(s.vector, w, &units_vector);
+        if (a < t.library) t.library = a;
+        if (b < t.plain) t.plain = b;
+        if (c < t.vector) t.vector = c;
     }
-    if (sum_library != sum_plain || units_library != units_plain) {
-        printf("%s: the two sides disagree\n", name);
+    if (sum_library != sum_plain || sum_library != sum_vector || t.units != units_plain || t.units != units_vector) {
+        printf("%s: the sides disagree\n", name);
         disagreed = 1;
     }
-    double a = least_library / units_library, b = least_plain / units_plain;
-    printf("| %s | %.1f | %.1f | %.2f |\n", name, a, b, a / b);
-    (void)unit;
+    return t;
+}
+
+static void row(const char *name, times t, double units) {
+    int digits = t.library / units < 1000;
+    printf("| %s | %.*f | %.*f | %.2f | %.*f | %.2f |\n", name, digits, t.library / units, digits, t.plain / units, t.library / t.plain,
+           digits, t.vector / units, t.library / t.vector);
+}
+
+static void compare(const char *name, work w, sides s) {
+    times t = measure(name, w, s);
+    row(name, t, t.units);
 }
 
 static void search_figures(uint32_t r, uint32_t m, double noise, const char *kind) {
     char name[80];
-    snprintf(name, sizeof name, "search RM(%u,%u), %s, per visit", (unsigned)r, (unsigned)m, kind);
-    make(r, m, noise);
     work w = {r, m, 20000, 1};
-    compare(name, "visit", w, library_search, c_search);
-    if (noise >= 0) {
-        snprintf(name, sizeof name, "search RM(%u,%u), %s, per word", (unsigned)r, (unsigned)m, kind);
-        double words = (double)SETS, units, least_library = 1e300, least_plain = 1e300;
-        for (int i = 0; i < ROUNDS; i++) {
-            double a = once(library_search, w, &units), b = once(c_search, w, &units);
-            if (a < least_library) least_library = a;
-            if (b < least_plain) least_plain = b;
-        }
-        printf("| %s | %.0f | %.0f | %.2f |\n", name, least_library / words, least_plain / words, least_library / least_plain);
-    }
+    make(r, m, noise);
+    snprintf(name, sizeof name, "search RM(%u,%u), %s, per visit", (unsigned)r, (unsigned)m, kind);
+    times t = measure(name, w, search_sides);
+    row(name, t, t.units);
+    if (noise < 0) return;
+    snprintf(name, sizeof name, "search RM(%u,%u), %s, per word", (unsigned)r, (unsigned)m, kind);
+    row(name, t, SETS);
 }
 
 /* records of RM(2,5): packed once, then searched */
@@ -202,7 +257,7 @@ static void record_figures(void) {
     for (int i = 0; i < ROUNDS; i++) {
         double start = now();
         for (int repeat = 0; repeat < 20; repeat++)
-            for (int t = 0; t < SETS; t++) cinorbis_search_record(1000000, bytes[t], 49, bits, 16, word, 32, &n);
+            for (int t = 0; t < SETS; t++) sum_library += cinorbis_search_record(1000000, bytes[t], 49, bits, 16, word, 32, &n);
         double taken = (now() - start) / (20.0 * SETS);
         if (taken < least) least = taken;
     }
@@ -234,15 +289,15 @@ int main(int argc, char **argv) {
         grow();
         return 0;
     }
-    puts("| what | library, ns | plain C, ns | ratio |");
-    puts("|---|---|---|---|");
+    puts("| what | library, ns | plain C, ns | ratio | vector C, ns | ratio |");
+    puts("|---|---|---|---|---|---|");
     make(4, 8, -1);
     work e = {4, 8, 0, 200}, q = {4, 8, 0, 60}, e5 = {2, 5, 0, 1000}, q5 = {2, 5, 0, 500};
-    compare("encode RM(4,8)", "word", e, library_encode, c_encode);
-    compare("quick reading RM(4,8)", "word", q, library_quick, c_quick);
+    compare("encode RM(4,8)", e, encode_sides);
+    compare("quick reading RM(4,8)", q, quick_sides);
     make(2, 5, -1);
-    compare("encode RM(2,5)", "word", e5, library_encode, c_encode);
-    compare("quick reading RM(2,5)", "word", q5, library_quick, c_quick);
+    compare("encode RM(2,5)", e5, encode_sides);
+    compare("quick reading RM(2,5)", q5, quick_sides);
     search_figures(4, 8, -1, "random");
     search_figures(3, 8, -1, "random");
     search_figures(2, 8, -1, "random");

@@ -1,4 +1,5 @@
-/* How much stack each call takes at its deepest, m = 8: the call runs on a painted stack, and the paint that is left is counted. */
+/* How much stack each call takes at its deepest, m = 8: the call runs on a painted stack, and the paint that is left is counted. A call that
+ * takes more than its bound is a failure; tests/part-outside runs this too. */
 #define _XOPEN_SOURCE 600
 #include "../include/cinorbis.h"
 #include <pthread.h>
@@ -49,13 +50,29 @@ static size_t used(void *(*call)(void *)) {
     return ROOM - untouched;
 }
 
+static size_t ground;
+static int passed, failed;
+
+static void bounded(const char *name, void *(*call)(void *), uint32_t expected, size_t bound) {
+    size_t bytes = used(call) - ground;
+    printf("%s %zu\n", name, bytes);
+    if (refusal == expected && bytes <= bound) {
+        passed++;
+    } else {
+        failed++;
+        printf("%s: refusal %u, bound %zu\n", name, (unsigned)refusal, bound);
+    }
+}
+
 int main(void) {
     if (posix_memalign((void **)&stack, 4096, ROOM)) return 1;
     for (int j = 0; j < 256; j++) readings[j] = (int16_t)((j * 7919) % 4095 - 2047);
-    size_t ground = used(nothing);
-    printf("encode %zu\n", used(encode) - ground);
-    printf("inverse %zu\n", used(inverse) - ground);
-    printf("quick reading %zu\n", used(quick) - ground);
-    printf("search %zu\n", used(search) - ground);
-    return 0;
+    ground = used(nothing);
+    bounded("encode", encode, 0, 512);
+    bounded("inverse", inverse, 0, 800);
+    bounded("quick reading", quick, 0, 2600);
+    /* the readings are of no word: the walk goes to its end and runs out of visits */
+    bounded("search", search, 6, 106000);
+    printf("%d passed, %d failed\n", passed, failed);
+    return failed != 0;
 }

@@ -6,3 +6,5 @@ pub mod ToldLaws
 pub mod Lengths
 pub mod Reordered
 pub mod Unpacked
+pub mod Telegrams
+pub mod TelegramsLaws
