@@ -29,7 +29,7 @@ extern "C" {
 #endif
 
 /* Raised when a call is added or changed. */
-#define CINORBIS_VERSION 6
+#define CINORBIS_VERSION 7
 
 #define CINORBIS_LARGEST_M 8u
 #define CINORBIS_LARGEST_READING 2047
@@ -51,7 +51,7 @@ extern "C" {
 /* Why a call refused (§6). Where several apply a call gives the one that it checks first: the order beside each call. */
 enum cinorbis_refusal {
     CINORBIS_DONE = 0,
-    CINORBIS_PARAMETERS = 1,    /* m > 8 or r > m */
+    CINORBIS_PARAMETERS = 1,    /* m > 8 or r > m (maps of positions: only m > 8) */
     CINORBIS_INPUT_LENGTH = 2,  /* an input's length is not n (information bits: k) */
     CINORBIS_OUTPUT_LENGTH = 3, /* an output's length is not n (information bits: k) */
     CINORBIS_ENTRY = 4,         /* a reading beyond the largest, or a bit byte above 1; place: the lowest such entry */
@@ -60,6 +60,7 @@ enum cinorbis_refusal {
     CINORBIS_TIED = 7,          /* search: two words share the least penalty; penalty and visits are given */
     CINORBIS_TORN = 8,          /* record: it ends before its last byte */
     CINORBIS_PAD = 9,           /* record: a pad bit is 1 */
+    CINORBIS_MAP = 11,          /* maps of positions: a byte of a table or row is above 1, or no map undoes the map */
     CINORBIS_MARKER = 13,       /* telegram: its marker is set, as when the link is turned over */
     CINORBIS_TILT = 14,         /* telegram: the tilt is above 1500 */
     CINORBIS_ZERO_TILT = 15,    /* telegram: a tilt of zero with direction 1 */
@@ -79,6 +80,7 @@ static inline const char *cinorbis_refusal_text(uint32_t refusal) {
     case CINORBIS_TIED: return "tied: two words share the least penalty";
     case CINORBIS_TORN: return "the record ends before its last byte";
     case CINORBIS_PAD: return "a pad bit of the record is 1";
+    case CINORBIS_MAP: return "no map of positions: a byte is above 1, or nothing undoes it";
     case CINORBIS_MARKER: return "the telegram's marker is set: the link is turned over";
     case CINORBIS_TILT: return "the telegram's tilt is above 15.00 degrees";
     case CINORBIS_ZERO_TILT: return "the telegram has a direction and no tilt";
@@ -186,6 +188,35 @@ CINORBIS_CALL uint32_t cinorbis_unpack(const uint8_t *part, size_t part_length, 
  * Promise: search_record. */
 CINORBIS_CALL uint32_t cinorbis_search_record(uint32_t allowed, const uint8_t *bytes, size_t bytes_length, uint8_t *bits,
                                               size_t bits_length, uint8_t *word, size_t word_length, cinorbis_numbers *numbers);
+
+/* ---- Turned position orders (§11)
+ *
+ * A map of the n = 2^m positions is a table A of m by m bits, row by row (table[p * m + q]), and a row b of m bits: position j reads position
+ * A*j + b, bits modulo 2. Row p of A gives bit p, column q reads bit q, bit 0 least. For m = 0 both are empty. These calls take m without r.
+ * Some map undoes the map, or it is refused as 11. If a word is the best for some readings, the reordered word is the best for the reordered
+ * readings, with the same penalty and gap; information bits and visits may differ. */
+
+/* In: a map, and n readings. Out: n readings in its order. Refuses 1, 2, 3, 11, 4. Promise: reorder. */
+CINORBIS_CALL uint32_t cinorbis_reorder(uint32_t m, const uint8_t *table, size_t table_length, const uint8_t *row, size_t row_length,
+                                        const int16_t *readings, size_t readings_length, int16_t *out, size_t out_length,
+                                        cinorbis_numbers *numbers);
+
+/* The same on n bits. Promise: reorder_word. */
+CINORBIS_CALL uint32_t cinorbis_reorder_word(uint32_t m, const uint8_t *table, size_t table_length, const uint8_t *row, size_t row_length,
+                                             const uint8_t *word, size_t word_length, uint8_t *out, size_t out_length,
+                                             cinorbis_numbers *numbers);
+
+/* In: a map. Out: the map that undoes it. Refuses 1, 2, 3, 11. Promise: undo_map. */
+CINORBIS_CALL uint32_t cinorbis_undo_map(uint32_t m, const uint8_t *table, size_t table_length, const uint8_t *row, size_t row_length,
+                                         uint8_t *table_out, size_t table_out_length, uint8_t *row_out, size_t row_out_length,
+                                         cinorbis_numbers *numbers);
+
+/* In: two maps. Out: the map that reorders as the first and then the second do, (A1*A2, A1*b2 + b1). Refuses 1, 2, 3, 11.
+ * Promise: product_map. */
+CINORBIS_CALL uint32_t cinorbis_product_map(uint32_t m, const uint8_t *table1, size_t table1_length, const uint8_t *row1, size_t row1_length,
+                                            const uint8_t *table2, size_t table2_length, const uint8_t *row2, size_t row2_length,
+                                            uint8_t *table_out, size_t table_out_length, uint8_t *row_out, size_t row_out_length,
+                                            cinorbis_numbers *numbers);
 
 /* ---- Tilt telegrams (§10): a word of RM(2,5) that carries cylinder, direction and tilt, and a marker. If the link is turned over, so that every
  * reading is negated, the reader never shows a tilt: it gives 13 exactly where it would have shown the telegram. */
