@@ -29,7 +29,7 @@ extern "C" {
 #endif
 
 /* Raised when a call is added or changed. */
-#define CINORBIS_VERSION 3
+#define CINORBIS_VERSION 4
 
 #define CINORBIS_LARGEST_M 8u
 #define CINORBIS_LARGEST_READING 2047
@@ -57,7 +57,11 @@ enum cinorbis_refusal {
     CINORBIS_OUT_OF_VISITS = 6, /* search: the walk needs more visits than allowed; visits: the allowance */
     CINORBIS_TIED = 7,          /* search: two words share the least penalty; penalty and visits are given */
     CINORBIS_TORN = 8,          /* record: it ends before its last byte */
-    CINORBIS_PAD = 9            /* record: a pad bit is 1 */
+    CINORBIS_PAD = 9,           /* record: a pad bit is 1 */
+    CINORBIS_MARKER = 13,       /* telegram: its marker is set, as when the link is turned over */
+    CINORBIS_TILT = 14,         /* telegram: the tilt is above 1500 */
+    CINORBIS_ZERO_TILT = 15,    /* telegram: a tilt of zero with direction 1 */
+    CINORBIS_FIELD = 16         /* telegram: a cylinder above 7 or a direction above 1 */
 };
 
 /* A refusal in words. */
@@ -73,6 +77,10 @@ static inline const char *cinorbis_refusal_text(uint32_t refusal) {
     case CINORBIS_TIED: return "tied: two words share the least penalty";
     case CINORBIS_TORN: return "the record ends before its last byte";
     case CINORBIS_PAD: return "a pad bit of the record is 1";
+    case CINORBIS_MARKER: return "the telegram's marker is set: the link is turned over";
+    case CINORBIS_TILT: return "the telegram's tilt is above 15.00 degrees";
+    case CINORBIS_ZERO_TILT: return "the telegram has a direction and no tilt";
+    case CINORBIS_FIELD: return "a field of the telegram is too large";
     default: return "no refusal has this number";
     }
 }
@@ -92,6 +100,13 @@ typedef struct {
     uint64_t length; /* of the packed part, which starts at the record's second byte; the next record starts at 1 + length */
     uint64_t place;  /* under 4: the number of the reading */
 } cinorbis_part;
+
+/* What the tilt head says. All 0 under every refusal. */
+typedef struct {
+    uint64_t cylinder;  /* 0 to 7 */
+    uint64_t direction; /* 1 is to port */
+    uint64_t tilt;      /* hundredths of a degree, 0 to 1500; with 0 the direction is 0 */
+} cinorbis_telegram;
 
 /* ---- Lengths, for a caller who has to lend memory: 0 where the code, or the first byte of a record, is refused */
 
@@ -145,6 +160,23 @@ CINORBIS_CALL uint32_t cinorbis_unpack(const uint8_t *part, size_t part_length, 
  * Promise: search_record. */
 CINORBIS_CALL uint32_t cinorbis_search_record(uint32_t allowed, const uint8_t *bytes, size_t bytes_length, uint8_t *bits,
                                               size_t bits_length, uint8_t *word, size_t word_length, cinorbis_numbers *numbers);
+
+/* ---- Tilt telegrams (§10): a word of RM(2,5) that carries cylinder, direction and tilt, and a marker. If the link is turned over, so that every
+ * reading is negated, the reader never shows a tilt: it gives 13 exactly where it would have shown the telegram. */
+
+/* Out: word, 32 bits. Refuses 3, 14, 15, 16; the numbers are 0. Promise: telegram::write. */
+CINORBIS_CALL uint32_t cinorbis_telegram_write(uint32_t cylinder, uint32_t direction, uint32_t tilt, uint8_t *word, size_t word_length,
+                                               cinorbis_numbers *numbers);
+
+/* The telegram of the best word, with the default allowance, which is above RM(2,5)'s whole tree: 6 is never given. In: 32 readings. Out: the
+ * telegram, and penalty, gap and visits as the search's. Refuses 2, 4, 7, then 13, 14, 15; under these three the numbers are 0.
+ * Promise: telegram::read. */
+CINORBIS_CALL uint32_t cinorbis_telegram_read(const int16_t *readings, size_t readings_length, cinorbis_telegram *telegram,
+                                              cinorbis_numbers *numbers);
+
+/* The same with an allowance of visits, any number. Refuses 2, 4, then 6 or 7, then 13, 14, 15. Promise: telegram::read_within. */
+CINORBIS_CALL uint32_t cinorbis_telegram_read_within(uint32_t allowed, const int16_t *readings, size_t readings_length,
+                                                     cinorbis_telegram *telegram, cinorbis_numbers *numbers);
 
 #ifdef __cplusplus
 }

@@ -77,6 +77,13 @@ static void refusals_by_name(void) {
     named("a tie", search(0, 0, tied, 1, bits, 1, word, 1).refusal, 7, CINORBIS_TIED);
     named("a torn record", cinorbis_record(torn, 1, &part), 8, CINORBIS_TORN);
     named("a pad bit", cinorbis_record(pad, 3, &part), 9, CINORBIS_PAD);
+    cinorbis_telegram telegram;
+    cinorbis_numbers n;
+    for (int j = 0; j < 32; j++) readings[j] = -1;
+    named("a telegram turned over", cinorbis_telegram_read(readings, 32, &telegram, &n), 13, CINORBIS_MARKER);
+    named("a large tilt", cinorbis_telegram_write(0, 0, 1501, word, 32, &n), 14, CINORBIS_TILT);
+    named("a direction and no tilt", cinorbis_telegram_write(0, 1, 0, word, 32, &n), 15, CINORBIS_ZERO_TILT);
+    named("a large cylinder", cinorbis_telegram_write(8, 0, 1, word, 32, &n), 16, CINORBIS_FIELD);
 }
 
 /* every refusal has a text of its own, and no other number has */

@@ -35,6 +35,10 @@ pub record Ready (s : State) (input output : List ℕ) : Type 0 where
 abbrev pub unread : State → List ℕ → List ℕ
 unread s input = take (s .«end» - s .at) (drop (s .at) input)
 
+-- the text that waits to be written
+abbrev pub textOf : State → List ℕ → List ℕ
+textOf s output = take (s .text) output
+
 -- the next record is there, or all that will come of it
 abbrev pub isThere : State → List ℕ → Bool
 isThere s input =
@@ -80,7 +84,7 @@ pub record Took (s : State) (input output : List ℕ) (t : State) (output′ : L
   pub line : Put output (s .text) (lineOf (s .read + s .refused) (resultOf (unread s input))) (t .text) output′
   pub counts : t ≡ after s (resultOf (unread s input)) (t .text) (s .at + nextStart (unread s input))
 
--- s with this text, ..
+-- s with so much text, and whether the total is in it, the program goes on, an error was met
 abbrev pub texted : State → ℕ → Bool → Bool → Bool → State
 texted s text closed going failed =
     record {

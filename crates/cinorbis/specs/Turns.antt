@@ -9,7 +9,7 @@ use lib.ListN.{length, take, drop}
 use Rattle.cinorbis.specs.declared.state.State.{State}
 use Rattle.cinorbis.specs.declared.state.Next.the-variants.{Write, Take, Total, Read}
 use Rattle.cinorbis.specs.Program.{output}
-use Rattle.cinorbis.specs.State.{starting, nextOf, Took, Finished, Flushed, Refilled}
+use Rattle.cinorbis.specs.State.{starting, nextOf, textOf, Took, Finished, Flushed, Refilled}
 
 -- a turn does what is next, and only that
 pub data Turned (s : State) (input output : List ℕ) (t : State) (input′ output′ : List ℕ) : Type 0 where
@@ -38,7 +38,7 @@ withRead p (pos (suc k)) fresh = record { came = p .came ++ take (suc k) fresh; 
 
 -- what a turn adds: all of the text that waits is handed over, and each byte that a read gave came
 abbrev pub passing : (s : State) (input output : List ℕ) (t : State) (input′ output′ : List ℕ) → Turned s input output t input′ output′ → Passed → Passed
-passing s input output t input′ output′ (writes next f i o) p = withText p (take (s .text) output)
+passing s input output t input′ output′ (writes next f i o) p = withText p (textOf s output)
 passing s input output t input′ output′ (takes next f i) p = p
 passing s input output t input′ output′ (totals next f i) p = p
 passing s input output t input′ output′ (reads next f o) p = withRead p (f .got) (drop (s .«end» - s .at) input′)

@@ -21,8 +21,7 @@ fn flush(output: &[u8], s: State) -> State
     requires { ⌜ s .text ≤ length (now output) ⌝ }
     ensures { λ t. ⌜ Flushed s t ⌝ }
 {
-    let text = s.text;
-    if io::write_all(STDOUT_FILENO, &output[0..text]) {
+    if io::write_all(STDOUT_FILENO, state::text_of(output, s)) {
         return state::after_write(true, s);
     }
     io::write_all(STDERR_FILENO, b"cinorbis: cannot write\n");

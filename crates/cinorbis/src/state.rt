@@ -7,7 +7,8 @@ ghost use mathlib.Core.Path.{_≡_};
 ghost use Prim.Native.Nat.{_+_, _-_, _^_, _≤_, _<_};
 ghost use lib.ListN.{length};
 ghost use Rattle.cinorbis.specs.State.{starting, room, isThere, nextOf, countedBy};
-ghost use Rattle.cinorbis.specs.State.{Took, Finished, afterRead, afterWrite};
+ghost use Rattle.cinorbis.specs.State.{Took, Finished, afterRead};
+ghost use Rattle.cinorbis.specs.State.{textOf, afterWrite};
 
 // The longest line fits, and so does the total.
 const ROOM: usize = 512;
@@ -177,6 +178,15 @@ pub fn after_read(got: isize, fresh: &[u8], s: State) -> State
         end: k + more,
         ..s
     }
+}
+
+// The text that is handed to the writer next.
+pub fn text_of(output: &[u8], s: State) -> &[u8]
+    requires { ⌜ s .text ≤ length (now output) ⌝ }
+    ensures { λ r. ⌜ now r ≡ textOf s (now (output .entry)) ⌝ }
+{
+    let text = s.text;
+    &output[0..text]
 }
 
 // After the text that waits was handed to the writer; done says whether it was written.

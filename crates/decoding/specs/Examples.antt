@@ -1,19 +1,24 @@
 -- Examples that show why the rules are as they are, computed from the definitions, as one statement.
-use mathlib.Core.Path.{_≡_, refl}
+use mathlib.Core.Path.{_≡_, refl, sym, _∙_}
 use mathlib.Core.List.{List, [], _∷_}
-use Prim.Native.Nat.{ℕ}
+use Prim.Native.Nat.{ℕ, zero, suc, _^_}
+use native.Mathlib.Omega.{arith}
 use lib.IntN.{ℤ, pos, negsuc}
+use lib.ListN.{length}
 use Rattle.numbers.specs.Sums.{total, tabulate, sum}
 use Rattle.numbers.specs.Least.{least, without, next, firstWith}
-use Rattle.words.specs.Bits.{digit, ones}
+use Rattle.words.specs.Bits.{Bits, digit, ones}
 use Rattle.words.specs.Word.{transform}
-use Rattle.words.specs.Kinds.{kind, kinds, encoded, allBits}
+use Rattle.words.specs.Kinds.{kind, kinds, encoded, allBits, Word}
 use Rattle.decoding.specs.Readings.{penalty, turns}
 use Rattle.decoding.specs.Best.{penalties, leastPenalty, gap, bestBits, bestWord}
 use Rattle.decoding.specs.Quick.{lower, upper, quickWord, quickBits, quickPenalty}
 use Rattle.decoding.specs.Walk.{value, Full, two, start, walk, walked, needed}
 use Rattle.decoding.specs.Answer.{found, outOfVisits, answer}
-use Rattle.decoding.specs.BenchFigures.{sample}
+
+-- 5, -2, 3, 1
+abbrev pub sample : List ℤ
+sample = pos 5 ∷ negsuc 1 ∷ pos 3 ∷ pos 1 ∷ []
 
 -- 0 -2 -1 1 -1 0 0 0
 abbrev pub zeroMet : List ℤ
@@ -88,3 +93,23 @@ examples =
       quick-penalty = refl;
       best-missed = refl;
     }
+
+-- ---- a slip that is refuted: equal visits without demand 3's premise
+abbrev pub EqualVisits : Type 0
+EqualVisits = (r m : ℕ) (l : List ℤ) (c : List ℕ) → length l ≡ 2 ^ m → Word m (kinds r m) c → needed m (kinds r m) (turns c l) ≡ needed m (kinds r m) l
+
+bits-0100 : Bits (0 ∷ 1 ∷ 0 ∷ 0 ∷ [])
+bits-0100 zero = omega arith
+bits-0100 (suc zero) = omega arith
+bits-0100 (suc (suc zero)) = omega arith
+bits-0100 (suc (suc (suc zero))) = omega arith
+bits-0100 (suc (suc (suc (suc i)))) = omega arith
+
+word-11001100 : Word 3 (kinds 1 3) (1 ∷ 1 ∷ 0 ∷ 0 ∷ 1 ∷ 1 ∷ 0 ∷ 0 ∷ [])
+unfolding kinds kind ones digit tabulate sum
+word-11001100 = record { bits = 0 ∷ 1 ∷ 0 ∷ 0 ∷ []; long = refl; are-bits = bits-0100; gives = examples .word-turned }
+
+-- 21 visits are not 25
+pub visits-differ : EqualVisits → ⊥
+visits-differ equal =
+    omega (arith, sym (examples .visits-21) ∙ equal 1 3 zeroMet (1 ∷ 1 ∷ 0 ∷ 0 ∷ 1 ∷ 1 ∷ 0 ∷ 0 ∷ []) refl word-11001100 ∙ examples .visits-25)

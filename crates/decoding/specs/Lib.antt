@@ -1,33 +1,35 @@
--- Definitions, to be read beside 01 from "Penalty, correlation, gap" on
+-- What stands where, by subject. A file of definitions has the subject's name, its laws are below.
+-- Readings and the two combining steps: sizes, signs, rows, correlation, how large a running sum can be
 pub mod Readings
-pub mod Best
-pub mod Quick
-pub mod Walk
-pub mod Allowance
-pub mod Answer
--- What is stated over them: the demands, the bench figures, examples; and that the demands are met
-pub mod Demands
-pub mod BenchFigures
-pub mod Examples
-pub mod DemandsMet
--- Laws of readings, rows and paths, of the best word and of the quick reading
 pub mod StepLaws
-pub mod PathLaws
-pub mod BoundLaws
 pub mod CorrelationLaws
+pub mod BoundLaws
+-- The best word and the gap
+pub mod Best
 pub mod BestLaws
+-- The quick reading
+pub mod Quick
 pub mod QuickLaws
--- Laws of the walk and of the answer
+-- The walk: values and paths, what is held, the whole tree
+pub mod Walk
+pub mod PathLaws
+pub mod HeldLaws
 pub mod OfferLaws
 pub mod WalkLaws
 pub mod TreeLaws
+-- The walk under an allowance, and the search's answer
+pub mod Allowance
+pub mod Answer
 pub mod AllowanceLaws
 pub mod AnswerLaws
 pub mod SearchLaws
 pub mod ZeroLaws
--- Laws of readings that are negated by a word
+-- Turning: readings negated by a word, and by the all-ones word
 pub mod TurnLaws
-pub mod HeldLaws
 pub mod TurnedWalk
 pub mod TurnedBest
 pub mod AllOnes
+-- The demands, that they are met, and examples
+pub mod Demands
+pub mod DemandsMet
+pub mod Examples

@@ -5,3 +5,5 @@ pub mod Answers
 pub mod ToldLaws
 pub mod Lengths
 pub mod Unpacked
+pub mod Telegrams
+pub mod TelegramsLaws

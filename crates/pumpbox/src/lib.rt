@@ -1,6 +1,7 @@
 // The C exports, one per public call: include/cinorbis.h says what each means.
 // A call returns 0 or its refusal's number.
 mod lengths;
+mod telegrams;
 mod unpacking;
 
 use encode::Encoded;

@@ -2,7 +2,7 @@
 use mathlib.Core.Path.{_≡_, refl}
 use mathlib.Core.List.{[], _∷_, _++_}
 use lib.IntN.{pos, negsuc}
-use Rattle.decoding.specs.BenchFigures.{sample}
+use Rattle.decoding.specs.Examples.{sample}
 use Rattle.code.specs.Sound.{made}
 use Rattle.code.specs.Entries.{firstAbove}
 use Rattle.code.specs.declared.Refusal.the-variants.{Parameters, Entry, Torn, Pad}

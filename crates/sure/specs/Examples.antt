@@ -16,7 +16,7 @@ use Rattle.decoding.specs.Quick.{hard, quickWord, quickBits}
 use Rattle.decoding.specs.Best.{penalties, leastPenalty, gap, bestBits, bestWord}
 use Rattle.decoding.specs.Walk.{value, walk, walked}
 use Rattle.decoding.specs.Answer.{found, tied, answer}
-use Rattle.decoding.specs.BenchFigures.{sample}
+use Rattle.decoding.specs.Examples.{sample}
 use Rattle.sure.specs.Sure.{largest, doubt, Sure, SurelyRight}
 use Rattle.sure.specs.MarginLaws.{within-largest}
 use Rattle.sure.specs.SureLaws.{inside-code, quick-sure}

@@ -1,0 +1,92 @@
+-- `put_number`: the bits are the digits as far as the loop has come.
+use Prim.Native.Nat.{_-_, _^_, _%_, _/_, _≤_}
+use mathlib.Core.Path.{_≡_, refl, sym, _∙_}
+use native.Mathlib.Omega.{arith}
+use native.Mathlib.Numerals.{add-one}
+use lib.ListN.{length, getD, length-set, drop-of-length-le}
+use borrow.Author.Needs.{needs}
+use Rattle.numbers.specs.Front.{front, front-suc, front-done}
+use Rattle.words.specs.Bits.{digit}
+use Rattle.telegram.specs.Telegram.{binary}
+use Rattle.telegram.specs.TelegramLaws.{length-binary, binary-at}
+use Rattle.telegram.proofs.put_number.Statement.{statement}
+use Rattle.telegram.proofs.put_number.Tie as tie
+
+abbrev Inv-loop : tie.InvT-loop
+Inv-loop number bits₀ n i₀ bits i =
+    (i ≤ length bits₀) × (bits ≡ front bits₀ (binary (length bits₀) number) i) × (length bits ≡ length bits₀)
+
+abbrev μ-loop : tie.MeasureT-loop
+μ-loop number bits₀ n i₀ bits i = n - i
+
+loop-holds : tie.Need-loop-holds Inv-loop μ-loop
+loop-holds c = (omega arith, refl, refl)
+
+sub-above : tie.Need-sub-above Inv-loop μ-loop
+sub-above c = omega arith
+
+sub-above-2 : tie.Need-sub-above-2 Inv-loop μ-loop
+sub-above-2 c = omega arith
+
+cast-above : tie.Need-cast-above Inv-loop μ-loop
+cast-above c = omega (arith, c .before .before .pre)
+
+shr-above : tie.Need-shr-above Inv-loop μ-loop
+shr-above c = omega (arith, c .before .before .pre)
+
+cast-bits : tie.Need-cast-bits Inv-loop μ-loop
+cast-bits c = search needs
+
+slice-write-bits : tie.Need-slice-write-bits Inv-loop μ-loop
+slice-write-bits c = omega arith
+
+add-i : tie.Need-add-i Inv-loop μ-loop
+add-i c = omega arith
+
+loop-less : tie.Need-loop-less Inv-loop μ-loop
+loop-less c = omega arith
+
+loop-again : tie.Need-loop-again Inv-loop μ-loop
+unfolding digit
+loop-again c =
+    let s = c .before .before in
+    let l = c .before .loop in
+    let d = s .args .bits .now in
+    let w = length d in
+    let x = binary w (s .args .number) in
+    let is : s .args .number / 2 ^ (w - 1 - l .i) % 2 ≡ getD x (l .i) 0 = sym (binary-at w (s .args .number) (l .i) (omega arith)) in (
+      omega arith,
+      rw (add-one (l .i), is, l .inv .1) (front-suc d x (l .i) 0 (omega arith) (omega (arith, length-binary w (s .args .number)))),
+      simp length-set (l .inv .2),
+    )
+
+same-length : tie.Need-same-length Inv-loop μ-loop
+same-length c = c .before .loop .inv .2
+
+returns : tie.Need-returns Inv-loop μ-loop
+returns c =
+    let s = c .before .before in
+    let l = c .before .loop in
+    let d = s .args .bits .now in
+    let x = binary (length d) (s .args .number) in
+    l .inv .1
+    ∙ front-done d x (l .i) (omega arith) (drop-of-length-le x {i = l .i} (omega (arith, length-binary (length d) (s .args .number))))
+
+pub put-number-spec : {M : Type 1} → statement M
+put-number-spec =
+    tie.close
+    (tie.spec
+    Inv-loop
+    μ-loop
+    loop-holds
+    sub-above
+    sub-above-2
+    cast-above
+    shr-above
+    cast-bits
+    slice-write-bits
+    add-i
+    loop-less
+    loop-again
+    same-length
+    returns)

@@ -1,0 +1,95 @@
+-- What the writer and the reader tell and leave, for all that they can be given.
+use mathlib.Core.List.{List}
+use mathlib.Core.Bool.{cond}
+use Prim.Native.Nat.{ℕ}
+use lib.IntN.{ℤ}
+use lib.ListN.{length, replicate}
+use lib.Dec.{eqb}
+use Rattle.code.specs.declared.Refusal.the-variants.{OutputLength}
+use Rattle.code.specs.Sound.{Carried, carrying}
+use Rattle.search.specs.Outcome as Search
+use Rattle.telegram.specs.declared.Telegram.{Telegram}
+use Rattle.telegram.specs.declared.Fault.{Fault}
+use Rattle.telegram.specs.declared.Fault.the-variants.{Link}
+use Rattle.telegram.specs.declared.Tested.{Tested}
+use Rattle.telegram.specs.declared.Tested.the-variants.{Good, Bad}
+use Rattle.telegram.specs.declared.Written.{Written}
+use Rattle.telegram.specs.declared.Written.the-variants as write
+use Rattle.telegram.specs.declared.Heard.{Heard}
+use Rattle.telegram.specs.declared.Heard.the-variants as hear
+use Rattle.telegram.specs.Telegram.{telegramOf, markerOf, wordOf}
+use Rattle.telegram.specs.Faults.{writerFault, readerFault, faultCarries}
+
+-- ---- the writer
+pub record WriteOutcome : Type 0 where
+  -- 0 where the word is written, else what the refusal carries
+  pub carry : Carried
+  -- the lent buffer as the call leaves it
+  pub word : List ℕ
+
+abbrev pub done : List ℕ → WriteOutcome
+done word = record { carry = carrying 0 0 0 0; word = word }
+
+-- the buffer keeps its contents
+abbrev pub refused : Fault → List ℕ → WriteOutcome
+refused why word = record { carry = faultCarries why; word = word }
+
+-- the answer in the rules' numbers
+abbrev pub toldWritten : Written → List ℕ → WriteOutcome
+toldWritten write.Done = done
+toldWritten (write.Refused why) = refused why
+
+abbrev pub writtenIf : Tested → Telegram → List ℕ → WriteOutcome
+writtenIf Good t word = done (wordOf t)
+writtenIf (Bad why) t word = refused why word
+
+-- of cylinder, direction, tilt, and the buffer for the word: 3, then the writer's tests
+unfoldable pub writingTelegram : ℕ → ℕ → ℕ → List ℕ → WriteOutcome
+writingTelegram cylinder direction tilt word =
+    let t : Telegram = record { cylinder = cylinder; direction = direction; tilt = tilt } in
+    cond (eqb (length word) 32) (writtenIf (writerFault t) t word) (refused (Link OutputLength) word)
+
+-- ---- the reader
+pub record ReadOutcome : Type 0 where
+  -- number 0 where the telegram is shown, with the search's penalty and visits; else what the refusal carries
+  pub carry : Carried
+  pub gap : ℕ
+  -- all fields 0 under every refusal
+  pub telegram : Telegram
+
+abbrev pub nothing : Telegram
+nothing = record { cylinder = 0; direction = 0; tilt = 0 }
+
+abbrev pub showing : Telegram → ℕ → ℕ → ℕ → ReadOutcome
+showing t penalty gap visits = record { carry = carrying 0 0 penalty visits; gap = gap; telegram = t }
+
+abbrev pub unread : Fault → ReadOutcome
+unread why = record { carry = faultCarries why; gap = 0; telegram = nothing }
+
+-- the answer in the rules' numbers
+abbrev pub told : Heard → ReadOutcome
+told (hear.Shown t penalty gap visits) = showing t penalty gap visits
+told (hear.Refused why) = unread why
+
+abbrev pub shownIf : Tested → Telegram → ℕ → ℕ → ℕ → ReadOutcome
+shownIf Good t penalty gap visits = showing t penalty gap visits
+shownIf (Bad why) t penalty gap visits = unread why
+
+-- of the information bits that the search found, and their penalty, gap and visits: the reader's tests
+abbrev pub judged : List ℕ → ℕ → ℕ → ℕ → ReadOutcome
+judged b penalty gap visits = shownIf (readerFault (markerOf b) (telegramOf b)) (telegramOf b) penalty gap visits
+
+-- what the search refused
+abbrev pub passedOn : Search.Outcome → ReadOutcome
+passedOn o = record { carry = carrying (o .number) (o .place) (o .penalty) (o .visits); gap = o .gap; telegram = nothing }
+
+abbrev pub heard : Search.Outcome → ReadOutcome
+heard o = cond (eqb (o .number) 0) (judged (o .bits) (o .penalty) (o .gap) (o .visits)) (passedOn o)
+
+-- the search of RM(2,5) into buffers of its own
+abbrev pub searched : ℕ → List ℤ → Search.Outcome
+searched allowed l = Search.searching 2 5 allowed l (replicate 16 0) (replicate 32 0)
+
+-- of the allowance and the readings
+unfoldable pub readingTelegram : ℕ → List ℤ → ReadOutcome
+readingTelegram allowed l = heard (searched allowed l)

@@ -1,0 +1,77 @@
+-- What is proved of telegrams, sentence by sentence, over the definitions that the contracts cite. That it holds is proved in TheoremsMet.
+use mathlib.Core.Path.{_≡_}
+use mathlib.Core.Logic.{_↔_}
+use mathlib.Core.List.{List, map}
+use Prim.Native.Nat.{ℕ, _+_, _-_, _*_, _≤_, _<_}
+use lib.IntN.{ℤ, negℤ}
+use lib.ListN.{length}
+use Rattle.words.specs.Kinds.{kinds}
+use Rattle.decoding.specs.Walk.{needed, tree}
+use Rattle.code.specs.declared.Refusal.the-variants.{OutOfVisits}
+use Rattle.code.specs.Sound.{defaultAllowance}
+use Rattle.telegram.specs.declared.Telegram.{Telegram}
+use Rattle.telegram.specs.declared.Fault.the-variants.{Link, Marker}
+use Rattle.telegram.specs.Telegram.{wordOf}
+use Rattle.telegram.specs.Faults.{Writable}
+use Rattle.telegram.specs.Outcome.{done, writingTelegram, nothing, showing, unread, searched, readingTelegram}
+
+-- the search of the readings finds the telegram's word
+pub record Finds (allowed : ℕ) (l : List ℤ) (t : Telegram) : Type 0 where
+  pub answers : searched allowed l .number ≡ 0
+  pub finds : searched allowed l .word ≡ wordOf t
+
+-- a link that is turned over: every reading negated
+abbrev pub turned : List ℤ → List ℤ
+turned l = map negℤ l
+
+pub record WriteTheorems : Type 0 where
+  -- The writer accepts these telegrams and no others.
+  pub accepts : (t : Telegram) (word : List ℕ) → length word ≡ 32
+      → (writingTelegram (t .cylinder) (t .direction) (t .tilt) word ≡ done (wordOf t)) ↔ Writable t
+  -- No two telegrams have one word.
+  pub one-word : (t t′ : Telegram) → Writable t → Writable t′ → wordOf t ≡ wordOf t′ → t ≡ t′
+
+pub record ReadTheorems : Type 0 where
+  -- What was written is read, for any readings whose search finds the written word.
+  pub written-read : (t : Telegram) → Writable t → (allowed : ℕ) (l : List ℤ) → Finds allowed l t
+      → (let o = searched allowed l in readingTelegram allowed l ≡ showing t (o .penalty) (o .gap) (o .visits))
+  -- Every readable telegram is one that the writer accepts, and its word is the one that was found.
+  pub read-written : (allowed : ℕ) (l : List ℤ) → readingTelegram allowed l .carry .number ≡ 0
+      → Writable (readingTelegram allowed l .telegram) × Finds allowed l (readingTelegram allowed l .telegram)
+  -- With the standing allowance the reader never gives 6, since it is above the whole tree.
+  pub whole-tree : tree (kinds 2 5) ≡ 131759
+  pub never-out : (l : List ℤ) → readingTelegram defaultAllowance l .carry .number ≡ 6 → ⊥
+
+pub record TurnedTheorems (l : List ℤ) : Type 0 where
+  -- If every reading is negated, the reader refuses with 13 and shows nothing if the walk on the negated readings stays within its allowance,
+  pub marked : (allowed : ℕ) → needed 5 (kinds 2 5) (turned l) ≤ allowed → readingTelegram allowed (turned l) ≡ unread Marker
+  -- else with 6.
+  pub out : (allowed : ℕ) → allowed < needed 5 (kinds 2 5) (turned l) → readingTelegram allowed (turned l) ≡ unread (Link (OutOfVisits allowed))
+  -- The negated walk needs exactly as many visits, so under one allowance it is 13 exactly where the upright one was read.
+  pub same-visits : needed 5 (kinds 2 5) (turned l) ≡ needed 5 (kinds 2 5) l
+  pub exactly : (allowed : ℕ) → (readingTelegram allowed (turned l) .carry .number ≡ 13) ↔ (readingTelegram allowed l .carry .number ≡ 0)
+
+-- A turned-over link never shows a tilt: for all telegrams, all readings whose search finds one, and all allowances.
+abbrev pub NeverShown : Type 0
+NeverShown =
+    (t : Telegram) → Writable t → (l : List ℤ) (allowed allowed′ : ℕ) → Finds allowed l t
+    → (let o = readingTelegram allowed′ (turned l) in (0 < o .carry .number) × (o .telegram ≡ nothing))
+
+-- how many telegrams these are: numbered from 0, each once
+abbrev pub telegrams : ℕ
+telegrams = 8 * 2 * 1501 - 8
+
+abbrev pub ordinal : Telegram → ℕ
+ordinal t = t .cylinder * 3001 + (t .direction * 1500 + t .tilt)
+
+pub record Counted : Type 0 where
+  pub below : (t : Telegram) → Writable t → ordinal t < telegrams
+  pub once : (t t′ : Telegram) → Writable t → Writable t′ → ordinal t ≡ ordinal t′ → t ≡ t′
+  pub all : (n : ℕ) → n < telegrams → (t : Telegram) × Writable t × (ordinal t ≡ n)
+
+pub record Theorems : Type 0 where
+  pub writes : WriteTheorems
+  pub reads : ReadTheorems
+  pub turns : (t : Telegram) → Writable t → (allowed : ℕ) (l : List ℤ) → Finds allowed l t → TurnedTheorems l
+  pub never-shown : NeverShown
+  pub counted : Counted

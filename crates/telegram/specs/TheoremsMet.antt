@@ -1,0 +1,311 @@
+-- The theorems on telegrams are met: by what the encoder and the search promise, and by the demands.
+use mathlib.Core.Path.{_≡_, refl, ap, ap₂, sym, _∙_}
+use mathlib.Core.Logic.{_⊎_, inl, inr, ⊎-elim}
+use mathlib.Core.Bool.{cond}
+use mathlib.Core.List.{List, [], _∷_, _++_}
+use Prim.Native.Nat.{ℕ, _+_, _-_, _*_, _/_, _%_, _≤_, _<_}
+use native.Mathlib.Omega.{arith}
+use native.Mathlib.Decide.{ℕ-discrete}
+use lib.IntN.{ℤ}
+use lib.ListN.{length, replicate}
+use borrow.Author.Tests.{ne-eqb}
+use Rattle.numbers.specs.Choice.{lt-or-le}
+use Rattle.numbers.specs.Sums.{total, tabulate, sum}
+use Rattle.words.specs.Bits.{Bits, xors, digit, ones}
+use Rattle.words.specs.Word.{transform}
+use Rattle.words.specs.Kinds.{kind, kinds, encoded, InformationBits, Word, allOnes}
+use Rattle.words.specs.Inverse.{TakenBack, taken, frozenOne, takenBack}
+use Rattle.words.specs.InverseLaws.{taken-encoded}
+use Rattle.words.specs.KindLaws.{length-kinds, bits-kinds}
+use Rattle.words.specs.TransformLaws.{bits-more, bits-zeros}
+use Rattle.decoding.specs.Walk.{needed, tree}
+use Rattle.decoding.specs.DemandsMet.{demands-code}
+use Rattle.code.specs.declared.Refusal.the-variants.{OutOfVisits}
+use Rattle.code.specs.Sound.{defaultAllowance}
+use Rattle.search.specs.Outcome as Search
+use Rattle.search.specs.DemandsMet.{outcome-demands}
+use Rattle.telegram.specs.declared.Telegram.{Telegram}
+use Rattle.telegram.specs.declared.Fault.the-variants.{Link, Marker}
+use Rattle.telegram.specs.declared.Tested.{Tested}
+use Rattle.telegram.specs.declared.Tested.the-variants.{Good, Bad}
+use Rattle.telegram.specs.Telegram.{binary, bitsWith, telegramBits, telegramOf, markerOf, wordOf}
+use Rattle.telegram.specs.TelegramLaws.{length-bits, bits-bits, marker-bits, telegram-bits, fits-telegram, bits-telegram}
+use Rattle.telegram.specs.Faults.{Writable, writerFault, readerFault}
+use Rattle.telegram.specs.FaultLaws.{fault-above, Own, own-reader, writer-good, good-writer, reader-good, good-reader, writable-fits, read-writable}
+use Rattle.telegram.specs.Outcome.{WriteOutcome, done, writtenIf, writingTelegram, ReadOutcome, showing, unread, shownIf, judged, passedOn, searched, readingTelegram}
+use Rattle.telegram.specs.OutcomeLaws.{dimension-25, sum-25, writing-tested, reading-found, reading-refused}
+use Rattle.telegram.specs.OutcomeLaws.{Passed, tests, passed, stopped, FoundBest, found-all, found-again, out-of-visits, found-long, found-bits}
+use Rattle.telegram.specs.Theorems.{Finds, turned, WriteTheorems, ReadTheorems, TurnedTheorems, NeverShown, telegrams, ordinal, Counted, Theorems}
+
+-- ---- words of RM(2,5)
+takenBits : TakenBack → List ℕ
+takenBits (taken b) = b
+takenBits (frozenOne i) = []
+
+bits-only : (b b′ : List ℕ) → InformationBits (kinds 2 5) b → InformationBits (kinds 2 5) b′ → encoded 5 (kinds 2 5) b ≡ encoded 5 (kinds 2 5) b′ → b ≡ b′
+unfolding takenBits
+bits-only b b′ i i′ e =
+    let ks = kinds 2 5 in
+    let back : (c : List ℕ) → InformationBits ks c → takenBack 5 ks (encoded 5 ks c) ≡ taken c = λ c j.
+    taken-encoded 5 ks c (length-kinds 2 5) (bits-kinds 2 5) (j .0) (j .1) in
+    ap takenBits (sym (back b i) ∙ ap (takenBack 5 ks) e ∙ back b′ i′)
+
+information : (t : Telegram) → InformationBits (kinds 2 5) (telegramBits t)
+information t = (length-bits 0 t ∙ sym sum-25, bits-bits 0 t (omega arith))
+
+-- the all-ones word has the marker alone
+abbrev markerAlone : List ℕ
+markerAlone = replicate 15 0 ++ 1 ∷ []
+
+ones-word : Word 5 (kinds 2 5) (allOnes 5)
+unfolding kinds kind ones digit tabulate transform
+ones-word =
+    record { bits = markerAlone; long = sym sum-25; are-bits = bits-more (replicate 15 0) 1 (bits-zeros 15) (omega arith); gives = refl }
+
+-- ---- the writer
+written-good : (x : Tested) (t : Telegram) (word : List ℕ) → writtenIf x t word .carry .number ≡ 0 → x ≡ Good
+written-good Good t word e = refl
+written-good (Bad why) t word e = absurd (omega (arith, fault-above why))
+
+write-theorems : WriteTheorems
+write-theorems =
+    record {
+      accepts = λ t word e.
+          let is = writing-tested (t .cylinder) (t .direction) (t .tilt) word e in (
+            λ w. good-writer t (written-good (writerFault t) t word (ap (λ (o : WriteOutcome). o .carry .number) (sym is ∙ w))),
+            λ w. is ∙ ap (λ (x : Tested). writtenIf x t word) (writer-good t w),
+          );
+      one-word = λ t t′ w w′ e.
+          sym (telegram-bits 0 t (writable-fits w))
+          ∙ ap telegramOf (bits-only (telegramBits t) (telegramBits t′) (information t) (information t′) e)
+          ∙ telegram-bits 0 t′ (writable-fits w′);
+    }
+
+-- ---- the reader
+judged-upright : (t : Telegram) → Writable t → (p g v : ℕ) → judged (telegramBits t) p g v ≡ showing t p g v
+judged-upright t w p g v =
+    ap₂ (λ (k : ℕ) (u : Telegram). shownIf (readerFault k u) u p g v) (marker-bits 0 t) (telegram-bits 0 t (writable-fits w))
+    ∙ ap (λ (x : Tested). shownIf x t p g v) (reader-good t w)
+
+judged-turned : (t : Telegram) (p g v : ℕ) → judged (xors (telegramBits t) markerAlone) p g v ≡ unread Marker
+unfolding binary
+judged-turned t p g v = refl
+
+-- the bits that the search found are the telegram's
+module _ (allowed : ℕ) (l : List ℤ) (t : Telegram) (w : Writable t) (h : Finds allowed l t) where
+  sent : FoundBest allowed l
+  sent = found-all allowed l (h .answers)
+
+  sent-bits : searched allowed l .bits ≡ telegramBits t
+  sent-bits =
+      bits-only (searched allowed l .bits) (telegramBits t) (sent .best .information) (information t) (sent .best .gives ∙ h .finds)
+
+  written-read : let o = searched allowed l in readingTelegram allowed l ≡ showing t (o .penalty) (o .gap) (o .visits)
+  written-read =
+      let o = searched allowed l in
+      reading-found allowed l (h .answers)
+      ∙ ap (λ (b : List ℕ). judged b (o .penalty) (o .gap) (o .visits)) sent-bits
+      ∙ judged-upright t w (o .penalty) (o .gap) (o .visits)
+
+  -- ---- every reading negated
+  same-visits : needed 5 (kinds 2 5) (turned l) ≡ needed 5 (kinds 2 5) l
+  same-visits = demands-code 2 5 l (sent .passes .entries .long) .demand-3-all-ones ones-word .same-visits
+
+  turned-passed : Passed (turned l)
+  turned-passed = outcome-demands (replicate 16 0) (replicate 32 0) (sent .passes) .demand-3-all-ones ones-word (replicate 16 0) (replicate 32 0) (sym dimension-25) refl .sound
+
+  module _ (allowed′ : ℕ) where
+    module _ (k : needed 5 (kinds 2 5) (turned l) ≤ allowed′) where
+      again : searched allowed′ l ≡ searched allowed l
+      again = found-again allowed l sent allowed′ (rw (← same-visits) k)
+
+      still-finds : Finds allowed′ l t
+      still-finds =
+          record {
+            answers = ap (λ (o : Search.Outcome). o .number) again ∙ h .answers;
+            finds = ap (λ (o : Search.Outcome). o .word) again ∙ h .finds;
+          }
+
+      marked : readingTelegram allowed′ (turned l) ≡ unread Marker
+      unfolding ones-word
+      marked =
+          let o = searched allowed′ (turned l) in
+          let plus = outcome-demands (replicate 16 0) (replicate 32 0) (sent .passes) .demand-3-all-ones ones-word (replicate 16 0) (replicate 32 0) (sym dimension-25) refl .same-search allowed′ .0 in
+          let bits : o .bits ≡ xors (telegramBits t) markerAlone =
+          plus .bits-added (still-finds .answers) ∙ ap (λ (b : List ℕ). xors b markerAlone) (ap (λ (s : Search.Outcome). s .bits) again ∙ sent-bits) in
+          reading-found allowed′ (turned l) (plus .same-number ∙ still-finds .answers)
+          ∙ ap (λ (b : List ℕ). judged b (o .penalty) (o .gap) (o .visits)) bits
+          ∙ judged-turned t (o .penalty) (o .gap) (o .visits)
+
+    module _ (k : allowed′ < needed 5 (kinds 2 5) (turned l)) where
+      out : readingTelegram allowed′ (turned l) ≡ unread (Link (OutOfVisits allowed′))
+      out = reading-refused allowed′ (turned l) (OutOfVisits allowed′) (replicate 16 0) (replicate 32 0) (out-of-visits allowed′ (turned l) turned-passed k)
+
+      out-upright : readingTelegram allowed′ l ≡ unread (Link (OutOfVisits allowed′))
+      out-upright =
+          reading-refused allowed′ l (OutOfVisits allowed′) (replicate 16 0) (replicate 32 0)
+          (out-of-visits allowed′ l (sent .passes) (rw (← same-visits) k))
+
+module _ (allowed : ℕ) (l : List ℤ) (t : Telegram) (w : Writable t) (h : Finds allowed l t) where
+  turned-theorems : TurnedTheorems l
+  turned-theorems =
+      let number : ReadOutcome → ℕ = λ o. o .carry .number in
+      let need = needed 5 (kinds 2 5) (turned l) in
+      record {
+        marked = marked allowed l t w h;
+        out = out allowed l t w h;
+        same-visits = same-visits allowed l t w h;
+        exactly = λ allowed′. (
+          λ e.
+              ⊎-elim (λ k. absurd (omega (arith, e, ap number (out allowed l t w h allowed′ k))))
+              (λ k. ap number (written-read allowed′ l t w (still-finds allowed l t w h allowed′ k)))
+              (lt-or-le allowed′ need),
+          λ e.
+              ⊎-elim (λ k. absurd (omega (arith, e, ap number (out-upright allowed l t w h allowed′ k))))
+              (λ k. ap number (marked allowed l t w h allowed′ k))
+              (lt-or-le allowed′ need),
+        );
+      }
+
+never-shown : NeverShown
+never-shown t w l allowed allowed′ h =
+    ⊎-elim (λ k. rw (out allowed l t w h allowed′ k) (omega arith, refl)) (λ k. rw (marked allowed l t w h allowed′ k) (omega arith, refl))
+    (lt-or-le allowed′ (needed 5 (kinds 2 5) (turned l)))
+
+-- ---- what is read
+reading-other : (allowed : ℕ) (l : List ℤ) → (searched allowed l .number ≡ 0 → ⊥) → readingTelegram allowed l ≡ passedOn (searched allowed l)
+unfolding readingTelegram
+reading-other allowed l n = rw (ne-eqb (searched allowed l .number) 0 n)
+
+shown-good : (x : Tested) (t : Telegram) (p g v : ℕ) → shownIf x t p g v .carry .number ≡ 0 → x ≡ Good
+shown-good Good t p g v e = refl
+shown-good (Bad why) t p g v e = absurd (omega (arith, fault-above why))
+
+-- no test of the reader gives 6
+shown-own : (x : Tested) (t : Telegram) (p g v : ℕ) → Own x → shownIf x t p g v .carry .number ≡ 6 → ⊥
+shown-own Good t p g v o e = omega arith
+shown-own (Bad why) t p g v o e = omega arith
+
+module _ (allowed : ℕ) (l : List ℤ) (n : searched allowed l .number ≡ 0) where
+  abbrev b : List ℕ
+  b = searched allowed l .bits
+
+  read-found : readingTelegram allowed l .carry .number ≡ 0 → Writable (readingTelegram allowed l .telegram) × Finds allowed l (readingTelegram allowed l .telegram)
+  read-found z =
+      let o = searched allowed l in
+      let f = found-all allowed l n in
+      let long = found-long allowed l f in
+      let bits = found-bits allowed l f in
+      let t = telegramOf b in
+      let is = reading-found allowed l n in
+      let good = shown-good (readerFault (markerOf b) t) t (o .penalty) (o .gap) (o .visits) (ap (λ (r : ReadOutcome). r .carry .number) (sym is) ∙ z) in
+      let g = good-reader t (markerOf b) good in
+      let says : readingTelegram allowed l .telegram ≡ t =
+      ap (λ (r : ReadOutcome). r .telegram) (is ∙ ap (λ (x : Tested). shownIf x t (o .penalty) (o .gap) (o .visits)) good) in
+      let whole : telegramBits t ≡ b = ap (λ (k : ℕ). bitsWith k t) (sym (g .0)) ∙ bits-telegram b long bits in
+      rw says (
+        read-writable (fits-telegram b long bits) (g .1),
+        record { answers = n; finds = sym (f .best .gives) ∙ ap (encoded 5 (kinds 2 5)) (sym whole) },
+      )
+
+read-six : (allowed : ℕ) (l : List ℤ) → readingTelegram allowed l .carry .number ≡ 6 → searched allowed l .number ≡ 6
+read-six allowed l e =
+    let o = searched allowed l in
+    elim (ℕ-discrete (o .number) 0) [
+      | yes n ↦ absurd
+          (shown-own (readerFault (markerOf (o .bits)) (telegramOf (o .bits))) (telegramOf (o .bits)) (o .penalty) (o .gap) (o .visits)
+          (own-reader (telegramOf (o .bits)) (markerOf (o .bits)))
+          (ap (λ (r : ReadOutcome). r .carry .number) (sym (reading-found allowed l n)) ∙ e))
+      | no n ↦ ap (λ (r : ReadOutcome). r .carry .number) (sym (reading-other allowed l n)) ∙ e
+    ]
+
+tree-25 : tree (kinds 2 5) ≡ 131759
+unfolding tree total sum kinds kind ones digit tabulate
+tree-25 = refl
+
+read-theorems : ReadTheorems
+read-theorems =
+    record {
+      written-read = λ t w allowed l h. written-read allowed l t w h;
+      read-written = λ allowed l z.
+          elim (ℕ-discrete (searched allowed l .number) 0) [
+            | yes n ↦ read-found allowed l n z
+            | no n ↦ absurd (n (ap (λ (r : ReadOutcome). r .carry .number) (sym (reading-other allowed l n)) ∙ z))
+          ];
+      whole-tree = tree-25;
+      never-out = λ l e.
+          let six = read-six defaultAllowance l e in
+          elim (tests defaultAllowance l) [
+            | passed x ↦ outcome-demands (replicate 16 0) (replicate 32 0) x .whole-tree defaultAllowance (omega (arith, tree-25)) six
+            | stopped why f h ↦ omega (arith, six, ap (λ (o : Search.Outcome). o .number) f)
+          ];
+    }
+
+-- ---- how many there are
+-- direction 1 has a tilt
+tilted : {t : Telegram} → Writable t → (t .direction ≡ 0) ⊎ ((t .direction ≡ 1) × (0 < t .tilt))
+tilted {t} w =
+    elim (ℕ-discrete (t .direction) 0) [
+      | yes e ↦ inl e
+      | no e ↦
+          let some : 0 < t .tilt = elim (ℕ-discrete (t .tilt) 0) [ yes z ↦ absurd (e (w .zero-level z)) | no z ↦ omega arith ] in
+          inr (omega (arith, w .direction-small), some)
+    ]
+
+same-telegram : (t t′ : Telegram) → (t .cylinder ≡ t′ .cylinder) × (t .direction ≡ t′ .direction) × (t .tilt ≡ t′ .tilt) → t ≡ t′
+same-telegram t t′ e =
+    let made : ℕ → ℕ → ℕ → Telegram = λ a b c. record { cylinder = a; direction = b; tilt = c } in
+    ap (λ (a : ℕ). made a (t .direction) (t .tilt)) (e .0) ∙ ap₂ (λ (b c : ℕ). made (t′ .cylinder) b c) (e .1) (e .2)
+
+cylinder-once : (c c′ x x′ : ℕ) → x < 3001 → x′ < 3001 → c * 3001 + x ≡ c′ * 3001 + x′ → c ≡ c′
+cylinder-once c c′ x x′ h h′ e =
+    ⊎-elim (λ k. absurd (omega arith)) (λ k. ⊎-elim (λ j. absurd (omega arith)) (λ j. omega arith) (lt-or-le c′ c)) (lt-or-le c c′)
+
+ordinal-once : (t t′ : Telegram) → Writable t → Writable t′ → ordinal t ≡ ordinal t′ → t ≡ t′
+ordinal-once t t′ w w′ e =
+    let x = t .direction * 1500 + t .tilt in
+    let x′ = t′ .direction * 1500 + t′ .tilt in
+    let a = w .tilt-small in
+    let a′ = w′ .tilt-small in
+    let c : t .cylinder ≡ t′ .cylinder =
+    cylinder-once (t .cylinder) (t′ .cylinder) x x′ (omega (arith, w .direction-small)) (omega (arith, w′ .direction-small)) e in
+    same-telegram t t′
+    (⊎-elim
+    (λ d. ⊎-elim (λ d′. (c, omega arith, omega arith)) (λ d′. absurd (omega arith)) (tilted w′))
+    (λ d. ⊎-elim (λ d′. absurd (omega arith)) (λ d′. (c, omega arith, omega arith)) (tilted w′))
+    (tilted w))
+
+ordinal-all : (n : ℕ) → n < telegrams → (t : Telegram) × Writable t × (ordinal t ≡ n)
+ordinal-all n h =
+    let c = n / 3001 in
+    let r = n % 3001 in
+    ⊎-elim
+    (λ k. (
+      record { cylinder = c; direction = 1; tilt = r - 1500 },
+      record { cylinder-small = omega arith; direction-small = omega arith; tilt-small = omega arith; zero-level = λ z. absurd (omega arith) },
+      omega arith,
+    ))
+    (λ k. (
+      record { cylinder = c; direction = 0; tilt = r },
+      record { cylinder-small = omega arith; direction-small = omega arith; tilt-small = omega arith; zero-level = λ z. refl },
+      omega arith,
+    ))
+    (lt-or-le 1500 r)
+
+counted : Counted
+counted =
+    record {
+      below = λ t w. omega (arith, w .cylinder-small, w .direction-small, w .tilt-small);
+      once = ordinal-once;
+      all = ordinal-all;
+    }
+
+pub theorems : Theorems
+theorems =
+    record {
+      writes = write-theorems;
+      reads = read-theorems;
+      turns = λ t w allowed l h. turned-theorems allowed l t w h;
+      never-shown = never-shown;
+      counted = counted;
+    }

@@ -1,0 +1,291 @@
+// The tilt telegram: a cylinder, a direction and a tilt in one word of RM(2,5).
+// It stands above the encoder and the search and knows no more of them than they promise.
+use code::Refusal;
+use search::Searched;
+ghost use mathlib.Core.Path.{_≡_};
+ghost use Prim.Native.Nat.{_≤_};
+ghost use lib.ListN.{length};
+ghost use Rattle.code.specs.Sound.{defaultAllowance};
+ghost use Rattle.words.specs.Bits.{Bits};
+ghost use Rattle.telegram.specs.Telegram.{binary, ofBinary, telegramOf, wordOf};
+ghost use Rattle.telegram.specs.Faults.{tiltFault, fieldFault, writerFault, readerFault};
+ghost use Rattle.telegram.specs.Faults.{faultCarries};
+ghost use Rattle.telegram.specs.Outcome.{toldWritten, writingTelegram};
+ghost use Rattle.telegram.specs.Outcome.{told, judged, readingTelegram};
+
+// What the tilt head says. Direction 1 is to port; the tilt is in hundredths of a degree.
+pub struct Telegram {
+    pub cylinder: u32,
+    pub direction: u32,
+    pub tilt: u32,
+}
+
+impl Telegram {
+    pub const LARGEST_CYLINDER: u32 = 7;
+
+    pub const LARGEST_DIRECTION: u32 = 1;
+
+    pub const LARGEST_TILT: u32 = 1500;
+
+    pub const LENGTH: usize = 32;
+}
+
+// Why a telegram is refused.
+pub enum Fault {
+    // by the search's tests, or the word's length
+    Link(Refusal),
+    // the marker is set
+    Marker,
+    // the tilt is above the largest
+    Tilt,
+    // a tilt of zero with direction 1
+    ZeroTilt,
+    // a cylinder or a direction above the largest
+    Field,
+}
+
+// What the tests on a telegram's fields say.
+pub enum Tested {
+    Good,
+    Bad(Fault),
+}
+
+pub enum Written {
+    Done,
+    Refused(Fault),
+}
+
+pub enum Heard {
+    Shown {
+        telegram: Telegram,
+        penalty: u32,
+        gap: u32,
+        visits: u32,
+    },
+    Refused(Fault),
+}
+
+// Writes the telegram's word into the lent buffer.
+pub fn write(cylinder: u32, direction: u32, tilt: u32, word: &mut [u8]) -> Written
+    ensures { λ answer. ⌜ toldWritten answer (now (word .exit))
+        ≡ writingTelegram cylinder direction tilt (now (word .entry)) ⌝ }
+{
+    if word.len() != Telegram::LENGTH {
+        return Written::Refused(Fault::Link(Refusal::OutputLength));
+    }
+    let telegram = Telegram {
+        cylinder,
+        direction,
+        tilt,
+    };
+    match writer_fault(telegram) {
+        Tested::Bad(why) => Written::Refused(why),
+        Tested::Good => {
+            put_word(telegram, word);
+            Written::Done
+        }
+    }
+}
+
+// The telegram of the best word for the readings, or why there is none to show.
+pub fn read_within(allowed: u32, readings: &[i16]) -> Heard
+    ensures { λ answer. ⌜ told answer ≡ readingTelegram allowed (now (readings .entry)) ⌝ }
+{
+    let mut found = [0u8; 16];
+    let mut word = [0u8; 32];
+    match search::search_within(2, 5, allowed, readings, &mut found, &mut word) {
+        Searched::Refused(why) => Heard::Refused(Fault::Link(why)),
+        Searched::Found {
+            penalty,
+            gap,
+            visits,
+        } => judge(&found, penalty, gap, visits),
+    }
+}
+
+// The same, with the default allowance.
+pub fn read(readings: &[i16]) -> Heard
+    ensures { λ answer. ⌜ told answer ≡ readingTelegram defaultAllowance (now (readings .entry)) ⌝ }
+{
+    read_within(code::Code::DEFAULT_ALLOWANCE, readings)
+}
+
+// ---- tests
+// Tests 14 and 15.
+fn tilt_fault(telegram: Telegram) -> Tested
+    ensures { λ answer. ⌜ answer ≡ tiltFault telegram ⌝ }
+{
+    if Telegram::LARGEST_TILT < telegram.tilt {
+        return Tested::Bad(Fault::Tilt);
+    }
+    if telegram.tilt == 0 {
+        if telegram.direction == 1 {
+            return Tested::Bad(Fault::ZeroTilt);
+        }
+    }
+    Tested::Good
+}
+
+// The writer's: 14, 15, 16.
+fn writer_fault(telegram: Telegram) -> Tested
+    ensures { λ answer. ⌜ answer ≡ writerFault telegram ⌝ }
+{
+    match tilt_fault(telegram) {
+        Tested::Bad(why) => Tested::Bad(why),
+        Tested::Good => field_fault(telegram),
+    }
+}
+
+// Test 16.
+fn field_fault(telegram: Telegram) -> Tested
+    ensures { λ answer. ⌜ answer ≡ fieldFault telegram ⌝ }
+{
+    if Telegram::LARGEST_CYLINDER < telegram.cylinder {
+        return Tested::Bad(Fault::Field);
+    }
+    if Telegram::LARGEST_DIRECTION < telegram.direction {
+        return Tested::Bad(Fault::Field);
+    }
+    Tested::Good
+}
+
+// The reader's: 13, 14, 15.
+fn reader_fault(marker: u8, telegram: Telegram) -> Tested
+    ensures { λ answer. ⌜ answer ≡ readerFault marker telegram ⌝ }
+{
+    if marker != 0 {
+        return Tested::Bad(Fault::Marker);
+    }
+    tilt_fault(telegram)
+}
+
+// ---- bits
+// The number's lowest binary digits, as many as there are places, most significant first.
+fn put_number(number: u32, bits: &mut [u8])
+    requires { ⌜ length (now bits) ≤ 16 ⌝ }
+    ensures { λ _. ⌜ now (bits .exit) ≡ binary (length (now (bits .entry))) number ⌝ }
+{
+    let n = bits.len();
+    let mut i = 0;
+    while i < n {
+        let above = number >> (n - 1 - i);
+        bits[i] = (above % 2) as u8;
+        i += 1;
+    }
+}
+
+// The number whose binary digits these are, most significant first.
+fn number_of(bits: &[u8]) -> u32
+    requires { ⌜ Bits (now bits) × (length (now bits) ≤ 16) ⌝ }
+    ensures { λ n. ⌜ n ≡ ofBinary (now (bits .entry)) ⌝ }
+{
+    let mut n = 0;
+    let mut i = 0;
+    while i < bits.len() {
+        n = 2 * n + wide(bits[i]);
+        i += 1;
+    }
+    n
+}
+
+fn wide(x: u8) -> u32
+    ensures { λ w. ⌜ w ≡ x ⌝ }
+{
+    x as u32
+}
+
+// The telegram's bits, whose marker is last and stays 0, and their word.
+fn put_word(telegram: Telegram, word: &mut [u8])
+    requires { ⌜ length (now word) ≡ 32 ⌝ }
+    ensures { λ _. ⌜ now (word .exit) ≡ wordOf telegram ⌝ }
+{
+    let mut bits = [0u8; 16];
+    put_number(telegram.cylinder, &mut bits[0..3]);
+    put_number(telegram.direction, &mut bits[3..4]);
+    put_number(telegram.tilt, &mut bits[4..15]);
+    encode::encode(2, 5, &bits, word);
+}
+
+// The telegram that 16 bits say, whatever their marker is.
+fn telegram_of(bits: &[u8]) -> Telegram
+    requires { ⌜ Bits (now bits) × (length (now bits) ≡ 16) ⌝ }
+    ensures { λ t. ⌜ t ≡ telegramOf (now (bits .entry)) ⌝ }
+{
+    let cylinder = number_of(&bits[0..3]);
+    let direction = number_of(&bits[3..4]);
+    let tilt = number_of(&bits[4..15]);
+    Telegram {
+        cylinder,
+        direction,
+        tilt,
+    }
+}
+
+// Shows the telegram of the bits that the search found, where no fault forbids it.
+fn judge(bits: &[u8], penalty: u32, gap: u32, visits: u32) -> Heard
+    requires { ⌜ Bits (now bits) × (length (now bits) ≡ 16) ⌝ }
+    ensures { λ answer. ⌜ told answer ≡ judged (now (bits .entry)) penalty gap visits ⌝ }
+{
+    let telegram = telegram_of(bits);
+    match reader_fault(bits[15], telegram) {
+        Tested::Bad(why) => Heard::Refused(why),
+        Tested::Good => Heard::Shown {
+            telegram,
+            penalty,
+            gap,
+            visits,
+        },
+    }
+}
+
+impl Fault {
+    // The rules' number.
+    pub fn number(self) -> u32
+        ensures { λ r. ⌜ r ≡ faultCarries self .number ⌝ }
+    {
+        match self {
+            Fault::Link(why) => why.number(),
+            Fault::Marker => 13,
+            Fault::Tilt => 14,
+            Fault::ZeroTilt => 15,
+            Fault::Field => 16,
+        }
+    }
+
+    // What the search's refusal carries, else 0.
+    pub fn place(self) -> usize
+        ensures { λ r. ⌜ r ≡ faultCarries self .place ⌝ }
+    {
+        match self {
+            Fault::Link(why) => why.place(),
+            Fault::Marker => 0,
+            Fault::Tilt => 0,
+            Fault::ZeroTilt => 0,
+            Fault::Field => 0,
+        }
+    }
+
+    pub fn penalty(self) -> u32
+        ensures { λ r. ⌜ r ≡ faultCarries self .penalty ⌝ }
+    {
+        match self {
+            Fault::Link(why) => why.penalty(),
+            Fault::Marker => 0,
+            Fault::Tilt => 0,
+            Fault::ZeroTilt => 0,
+            Fault::Field => 0,
+        }
+    }
+
+    pub fn visits(self) -> u32
+        ensures { λ r. ⌜ r ≡ faultCarries self .visits ⌝ }
+    {
+        match self {
+            Fault::Link(why) => why.visits(),
+            Fault::Marker => 0,
+            Fault::Tilt => 0,
+            Fault::ZeroTilt => 0,
+            Fault::Field => 0,
+        }
+    }
+}
