@@ -29,10 +29,12 @@ extern "C" {
 #endif
 
 /* Raised when a call is added or changed. */
-#define CINORBIS_VERSION 4
+#define CINORBIS_VERSION 5
 
 #define CINORBIS_LARGEST_M 8u
 #define CINORBIS_LARGEST_READING 2047
+/* The largest reading of a packed record, whose fields have 12 bits. */
+#define CINORBIS_LARGEST_RECORD_READING 2047
 #define CINORBIS_DEFAULT_ALLOWANCE 1000000u
 /* Room for any word, and for the information bits of any code. */
 #define CINORBIS_LARGEST_N 256u
@@ -101,6 +103,12 @@ typedef struct {
     uint64_t place;  /* under 4: the number of the reading */
 } cinorbis_part;
 
+/* What writing a record gives. Both 0 when refused, but for the place under 4. */
+typedef struct {
+    uint64_t next;  /* the place after the record */
+    uint64_t place; /* under 4: the number of the reading */
+} cinorbis_written;
+
 /* What the tilt head says. All 0 under every refusal. */
 typedef struct {
     uint64_t cylinder;  /* 0 to 7 */
@@ -150,6 +158,12 @@ CINORBIS_CALL uint32_t cinorbis_search_within(uint32_t r, uint32_t m, uint32_t a
 
 /* The record that the bytes begin with: its code and its packed part. Refuses 1, 8, 9, 4. Promise: record::header_of, record::packed. */
 CINORBIS_CALL uint32_t cinorbis_record(const uint8_t *bytes, size_t bytes_length, cinorbis_part *part);
+
+/* Writes a record into a buffer, from a place on. In: n readings, none beyond the largest of a record. Out: the record's bytes in the buffer, all
+ * other bytes as they were, and the place after the record, where the next one can go. cinorbis_record_length(16 * m + r) is how many bytes it
+ * takes. Refuses 1, 2, 4, then 3 where the buffer has too little room from the place on; any place may be given. Promise: write. */
+CINORBIS_CALL uint32_t cinorbis_write_record(uint32_t r, uint32_t m, size_t place, const int16_t *readings, size_t readings_length,
+                                             uint8_t *buffer, size_t buffer_length, cinorbis_written *written);
 
 /* The readings of a packed part, as cinorbis_record gives it. In: the part's bytes. Out: its n readings; the numbers are all 0. Refuses 2
  * for a part of a length that no record has, 3 for a buffer of another length than its readings. Promise: record::unpack. */

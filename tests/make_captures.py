@@ -1,5 +1,5 @@
 #!/usr/bin/env python3
-"""Makes the stored captures of the program and what it must write for each: tests/captures/NAME.bin and NAME.out, and sample/capture.bin.
+"""Makes the stored captures of the program and what it must write for each: tests/captures/NAME.bin and NAME.out, sample/capture.bin and sample/readings.bin.
 The outputs come from tests/program_reference.py.
 
     tests/make_captures.py            compares the stored files with what it makes
@@ -52,6 +52,12 @@ def sample():
     return b"".join(pack(r, m, noisy(rng, r, m, 300, 400)) for r, m in codes) + pack(0, 0, [0])
 
 
+def packed_text(path):
+    """The capture that sample/pack makes of readings in text: r, m and the readings on each line."""
+    lines = [line.split("#")[0].split() for line in open(path, encoding="utf-8")]
+    return b"".join(pack(int(line[0]), int(line[1]), [int(v) for v in line[2:]]) for line in lines if line)
+
+
 def main():
     write = sys.argv[1:] == ["--write"]
     files = {}
@@ -60,6 +66,7 @@ def main():
         files[os.path.join(HERE, "captures", name + ".out")] = output(capture)
     files[os.path.join(HERE, "..", "sample", "capture.bin")] = sample()
     files[os.path.join(HERE, "..", "sample", "capture.out")] = output(sample())
+    files[os.path.join(HERE, "..", "sample", "readings.bin")] = packed_text(os.path.join(HERE, "..", "sample", "readings.txt"))
     passed = failed = 0
     for path, content in files.items():
         if write:

@@ -3,18 +3,21 @@ use mathlib.Core.Path.{_≡_, refl, ap, sym, _∙_}
 use mathlib.Core.Bool.{Bool, true, false, true≢false, _||_}
 use mathlib.Core.List.{List, [], _∷_}
 use mathlib.Core.Logic.{⊎-elim}
-use Prim.Native.Nat.{ℕ, zero, suc, _+_, _≤_, _<_, zero-le}
+use Prim.Native.Nat.{ℕ, zero, suc, _+_, _^_, _≤_, _<_, zero-le}
 use native.Mathlib.Omega.{arith}
 use native.Mathlib.Numerals.{add-one}
 use native.Mathlib.Nat.{not-suc-le-zero, le-of-suc-le-suc, suc-inj}
-use lib.IntN.{ℤ, pos, negsuc, natAbs}
+use lib.IntN.{ℤ, pos, negsuc, natAbs, negℤ, _-ℤ_}
 use lib.Dec.{ltb}
 use lib.Signed.{ltZ}
 use lib.ListN.{length, getD, drop, drop-of-length-le, List·getD-eq-default}
 use lib.Seq.{drop-cons}
+use mir.Syntax.{w16}
+use mir.Val.{SFits, hbits}
 use borrow.Author.Tests.{lt-ltb, le-ltb}
 use Rattle.numbers.specs.Choice.{lt-or-le}
-use Rattle.numbers.specs.PartsLaws.{parts, less-parts, not-less-parts}
+use Rattle.numbers.specs.Parts.{up, down}
+use Rattle.numbers.specs.PartsLaws.{parts, negated, sum-parts, fits-size, less-parts, not-less-parts}
 use Rattle.words.specs.Bits.{Bits}
 use Rattle.code.specs.Entries.{firstAbove, someAbove, firstBadBit, firstBadReading}
 
@@ -104,9 +107,26 @@ pub good-readings : (largest : ℕ) (l : List ℤ) → length l ≤ firstBadRead
 good-readings largest l h = all-good-everywhere (pos 0) natAbs largest l h zero-le
 
 -- the two signed tests of the code are one on the size
-pub beyond-below : (x : ℤ) (n : ℕ) → ltZ x (negsuc n) ≡ true → true ≡ ltb (suc n) (natAbs x)
-beyond-below x n e = sym (lt-ltb (suc n) (natAbs x) (omega (arith, less-parts x (negsuc n) e, parts x)))
+up-fits : (z : ℤ) → down z ≡ 0 → SFits w16 z → up z < 2 ^ hbits w16
+up-fits (pos n) e f = f .sfits
+up-fits (negsuc n) e f = absurd (omega arith)
 
-pub beyond-above : (x : ℤ) (n : ℕ) → ltZ x (negsuc n) ≡ false → ltZ (pos (suc n)) x ≡ ltb (suc n) (natAbs x)
-beyond-above (pos k) n e = refl
-beyond-above (negsuc k) n e = sym (le-ltb (suc n) (suc k) (omega (arith, not-less-parts (negsuc k) (negsuc n) e)))
+module _ (x largest : ℤ) (least : down largest ≡ 0) where
+  abbrev low : ℤ
+  low = pos 0 -ℤ largest
+
+  low-parts : (up low ≡ 0) × (down low ≡ up largest)
+  low-parts = omega (arith, sum-parts (pos 0) (negℤ largest), negated largest, parts low)
+
+  pub low-fits : SFits w16 largest → SFits w16 low
+  low-fits f = fits-size low (omega (arith, up-fits largest least f, low-parts, parts low))
+
+  pub beyond-below : ltZ x low ≡ true → true ≡ ltb (up largest) (natAbs x)
+  beyond-below e = sym (lt-ltb (up largest) (natAbs x) (omega (arith, less-parts x low e, low-parts, parts x)))
+
+  above : (b : Bool) → ltZ largest x ≡ b → ltZ x low ≡ false → b ≡ ltb (up largest) (natAbs x)
+  above true e f = sym (lt-ltb (up largest) (natAbs x) (omega (arith, less-parts largest x e, parts x)))
+  above false e f = sym (le-ltb (up largest) (natAbs x) (omega (arith, not-less-parts largest x e, not-less-parts x low f, low-parts, parts x)))
+
+  pub beyond-above : ltZ x low ≡ false → ltZ largest x ≡ ltb (up largest) (natAbs x)
+  beyond-above = above (ltZ largest x) refl

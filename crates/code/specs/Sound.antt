@@ -15,6 +15,10 @@ largestM = 8
 abbrev pub largestReading : ℕ
 largestReading = 2047
 
+-- of a record, whose fields have 12 bits
+abbrev pub largestRecordReading : ℕ
+largestRecordReading = 2047
+
 abbrev pub defaultAllowance : ℕ
 defaultAllowance = 1000000
 

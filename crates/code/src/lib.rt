@@ -5,9 +5,11 @@ ghost use Prim.Native.Nat.{_≤_, _<_, _^_};
 ghost use lib.ListN.{length};
 ghost use lib.IntN.{natAbs};
 ghost use lib.Dec.{ltb};
+ghost use Rattle.numbers.specs.Parts.{up, down};
 ghost use Rattle.numbers.specs.Sums.{tabulate};
 ghost use Rattle.words.specs.Kinds.{kind, kinds, dimension};
-ghost use Rattle.code.specs.Sound.{Sound, largestM, largestReading, made, carried};
+ghost use Rattle.code.specs.Sound.{Sound, largestM, made, carried};
+ghost use Rattle.code.specs.Sound.{largestReading, largestRecordReading};
 ghost use Rattle.code.specs.Entries.{someBadBit, firstBadBit, someBadReading, firstBadReading};
 ghost use Rattle.code.specs.Admitted.{admitted};
 
@@ -69,6 +71,9 @@ impl Code {
     pub const LARGEST_M: u32 = 8;
 
     pub const LARGEST_READING: i16 = 2047;
+
+    // of a record, whose fields have 12 bits
+    pub const LARGEST_RECORD_READING: i16 = 2047;
 
     pub const DEFAULT_ALLOWANCE: u32 = 1000000;
 
@@ -158,43 +163,59 @@ pub fn first_bad_bit(bits: &[u8]) -> usize
 }
 
 // Whether a reading is beyond the largest, either way.
-fn beyond(reading: i16) -> bool
-    ensures { λ r. ⌜ r ≡ ltb largestReading (natAbs reading) ⌝ }
+fn beyond(reading: i16, largest: i16) -> bool
+    requires { ⌜ down largest ≡ 0 ⌝ }
+    ensures { λ r. ⌜ r ≡ ltb (up largest) (natAbs reading) ⌝ }
 {
-    if reading < -Code::LARGEST_READING {
+    if reading < -largest {
         return true;
     }
-    Code::LARGEST_READING < reading
+    largest < reading
 }
 
 // Whether some reading is beyond the largest.
-fn some_bad_reading(readings: &[i16]) -> bool
-    ensures { λ some. ⌜ some ≡ someBadReading largestReading (now (readings .entry)) ⌝ }
+fn some_beyond(readings: &[i16], largest: i16) -> bool
+    requires { ⌜ down largest ≡ 0 ⌝ }
+    ensures { λ some. ⌜ some ≡ someBadReading (up largest) (now (readings .entry)) ⌝ }
 {
     let mut some = false;
     let mut i = 0;
     while i < readings.len() {
-        some = some | beyond(readings[i]);
+        some = some | beyond(readings[i], largest);
         i += 1;
     }
     some
 }
 
 // The lowest place of a reading beyond the largest, or the length where there is none.
-pub fn first_bad_reading(readings: &[i16]) -> usize
-    ensures { λ place. ⌜ place ≡ firstBadReading largestReading (now (readings .entry)) ⌝ }
+fn first_beyond(readings: &[i16], largest: i16) -> usize
+    requires { ⌜ down largest ≡ 0 ⌝ }
+    ensures { λ place. ⌜ place ≡ firstBadReading (up largest) (now (readings .entry)) ⌝ }
 {
-    if !some_bad_reading(readings) {
+    if !some_beyond(readings, largest) {
         return readings.len();
     }
     let mut i = 0;
     while i < readings.len() {
-        if beyond(readings[i]) {
+        if beyond(readings[i], largest) {
             return i;
         }
         i += 1;
     }
     i
+}
+
+pub fn first_bad_reading(readings: &[i16]) -> usize
+    ensures { λ place. ⌜ place ≡ firstBadReading largestReading (now (readings .entry)) ⌝ }
+{
+    first_beyond(readings, Code::LARGEST_READING)
+}
+
+// The same of readings that are to go into a record, or came out of one.
+pub fn first_bad_record_reading(readings: &[i16]) -> usize
+    ensures { λ place. ⌜ place ≡ firstBadReading largestRecordReading (now (readings .entry)) ⌝ }
+{
+    first_beyond(readings, Code::LARGEST_RECORD_READING)
 }
 
 // The tests 1 to 4 in their order, for readings and lent outputs of these lengths.

@@ -5,5 +5,7 @@ pub mod Answers
 pub mod ToldLaws
 pub mod Lengths
 pub mod Unpacked
+pub mod Written
+pub mod WrittenLaws
 pub mod Telegrams
 pub mod TelegramsLaws

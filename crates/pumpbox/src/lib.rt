@@ -3,6 +3,7 @@
 mod lengths;
 mod telegrams;
 mod unpacking;
+mod writing;
 
 use encode::Encoded;
 use quick::Read;

@@ -4,12 +4,12 @@ use mathlib.Core.List.{List, [], _∷_, _++_}
 use mathlib.Core.Logic.{⊎-elim}
 use Prim.Native.Nat.{ℕ, zero, suc, _+_, _*_, _/_, _%_, _^_, _≤_}
 use native.Mathlib.Omega.{arith}
-use lib.IntN.{ℤ, pos, negsuc, natAbs}
+use lib.IntN.{ℤ, pos, natAbs}
 use lib.ListN.{length, getD, take, drop, length-append, take-append-drop}
 use lib.Seq.{take-at}
 use Rattle.numbers.specs.Choice.{lt-or-le}
 use Rattle.decoding.specs.Readings.{Within}
-use Rattle.code.specs.Sound.{Sound, largestReading}
+use Rattle.code.specs.Sound.{Sound, largestRecordReading}
 use Rattle.code.specs.SoundLaws.{made-of, made-good}
 use Rattle.code.specs.Entries.{firstBadReading}
 use Rattle.code.specs.EntriesLaws.{first-none, good-readings}
@@ -17,8 +17,8 @@ use Rattle.code.specs.declared.Code.{Code}
 use Rattle.code.specs.declared.Made.the-variants.{Good}
 use Rattle.record.specs.declared.Header.{Header}
 use Rattle.record.specs.declared.Header.the-variants.{Record}
-use Rattle.record.specs.Layout.{bytes, spread, recordOf, packed, unpacked, partLength, padOf}
-use Rattle.record.specs.LayoutLaws.{Below, Held, AllHeld, unpacked-packed, packed-unpacked, length-packed}
+use Rattle.record.specs.Layout.{AllHeld, bytes, spread, recordOf, packed, unpacked, partLength, padOf}
+use Rattle.record.specs.LayoutLaws.{Below, within-held, unpacked-packed, packed-unpacked, length-packed}
 use Rattle.record.specs.Reader.{codeOf, partOf, readingsOf, frameOf, railedBy, headerOf, partBy}
 use Rattle.record.specs.ReaderLaws.{Framed, framed-record, header-framed, frame-by, frame-whole, length-readings-of, length-part, rail-found, rail-none}
 
@@ -26,15 +26,11 @@ use Rattle.record.specs.ReaderLaws.{Framed, framed-record, header-framed
 pub record Begins (s : List ℕ) (c : Code) (l : List ℤ) (after : List ℕ) : Type 0 where
   pub sound : Sound c
   pub count : length l ≡ 2 ^ c .m
-  pub within : Within largestReading l
+  pub within : Within largestRecordReading l
   pub whole : s ≡ recordOf (c .r) (c .m) l ++ after
 
-within-held : (x : ℤ) → natAbs x ≤ largestReading → Held x
-within-held (pos n) h = omega arith
-within-held (negsuc n) h = omega arith
-
-all-held : (l : List ℤ) → Within largestReading l → AllHeld l
-all-held l h i = within-held (getD l i (pos 0)) (h i)
+pub all-held : (l : List ℤ) → Within largestRecordReading l → AllHeld l
+all-held l h i = within-held (getD l i (pos 0)) (omega (arith, h i))
 
 -- the pad of a record that the layout writes is 0
 packed-clear : (m : ℕ) (l : List ℤ) → length l ≡ 2 ^ m → padOf m (packed l) ≡ 0
@@ -50,8 +46,8 @@ module _ (s : List ℕ) (c : Code) (l : List ℤ) (after : List ℕ) (b : Begins
   unfolding recordOf packed
   apart = b .whole
 
-  said : codeOf (getD s 0 0) ≡ Good c
-  said =
+  pub begins-said : codeOf (getD s 0 0) ≡ Good c
+  begins-said =
       let r : (16 * c .m + c .r) % 16 ≡ c .r = omega (arith, b .sound .r-small, b .sound .m-small) in
       let m : (16 * c .m + c .r) / 16 ≡ c .m = omega (arith, b .sound .r-small, b .sound .m-small) in
       rw (apart, r, m) (made-good (c .r) (c .m) (b .sound .m-small) (b .sound .r-small))
@@ -67,16 +63,16 @@ module _ (s : List ℕ) (c : Code) (l : List ℤ) (after : List ℕ) (b : Begins
 
   framed : frameOf s ≡ Record c
   framed =
-      frame-by s (Good c) (λ z. omega (arith, long, z)) said
+      frame-by s (Good c) (λ z. omega (arith, long, z)) begins-said
       ∙ frame-whole c s (omega (arith, long)) (ap (padOf (c .m)) begins-part ∙ packed-clear (c .m) l (b .count))
 
   -- bytes that begin with a record are accepted
   pub begins-accepted : headerOf s ≡ Record c
   unfolding headerOf
   begins-accepted =
-      let none = first-none (pos 0) natAbs largestReading l (length l) (λ j h. b .within j) refl in
+      let none = first-none (pos 0) natAbs largestRecordReading l (length l) (λ j h. b .within j) refl in
       ap (λ (h : Header). railedBy h s) framed
-      ∙ rail-none c s _ (length l) refl (ap length begins-readings) (omega (arith, ap (firstBadReading largestReading) begins-readings, none))
+      ∙ rail-none c s _ (length l) refl (ap length begins-readings) (omega (arith, ap (firstBadReading largestRecordReading) begins-readings, none))
 
   -- and their packed part is handed back
   pub begins-handed-back : partBy (headerOf s) s ≡ packed l
@@ -93,18 +89,18 @@ first-byte first c e =
     let same = made-of (first % 16) (first / 16) c e .same in
     rw same (omega arith)
 
-good-by : (s : List ℕ) (c : Code) → headerOf s ≡ Record c → length (readingsOf c s) ≤ firstBadReading largestReading (readingsOf c s)
+good-by : (s : List ℕ) (c : Code) → headerOf s ≡ Record c → length (readingsOf c s) ≤ firstBadReading largestRecordReading (readingsOf c s)
 unfolding headerOf
 good-by s c e =
-    let place = firstBadReading largestReading (readingsOf c s) in
+    let place = firstBadReading largestRecordReading (readingsOf c s) in
     let railed : railedBy (Record c) s ≡ Record c = ap (λ (h : Header). railedBy h s) (sym (header-framed s c e)) ∙ e in
     ⊎-elim
     (λ k. let z : _≡_ {A = ℕ} 0 1 = cc (rail-found c s place (length (readingsOf c s)) refl refl k) in absurd (omega arith))
     (λ k. k)
     (lt-or-le place (length (readingsOf c s)))
 
-pub accepted-within : (s : List ℕ) (c : Code) → headerOf s ≡ Record c → Within largestReading (readingsOf c s)
-accepted-within s c e = good-readings largestReading (readingsOf c s) (good-by s c e)
+pub accepted-within : (s : List ℕ) (c : Code) → headerOf s ≡ Record c → Within largestRecordReading (readingsOf c s)
+accepted-within s c e = good-readings largestRecordReading (readingsOf c s) (good-by s c e)
 
 -- the packed part's readings, written again
 written : (s : List ℕ) (c : Code) → Below 256 s → Framed s c → s ≡ recordOf (c .r) (c .m) (readingsOf c s) ++ drop (suc (partLength (c .m))) s

@@ -1,14 +1,18 @@
--- Examples of the layout and of the header: 01's record, and the order 1, 8, 9, 4.
+-- Examples of the layout, of the header and of the writer: the rules' record, and the orders of refusals.
 use mathlib.Core.Path.{_≡_, refl}
 use mathlib.Core.List.{[], _∷_, _++_}
 use lib.IntN.{pos, negsuc}
+use lib.ListN.{replicate}
 use Rattle.decoding.specs.Examples.{sample}
 use Rattle.code.specs.Sound.{made}
 use Rattle.code.specs.Entries.{firstAbove}
-use Rattle.code.specs.declared.Refusal.the-variants.{Parameters, Entry, Torn, Pad}
+use Rattle.code.specs.declared.Refusal.the-variants.{Parameters, OutputLength, Entry, Torn, Pad}
 use Rattle.record.specs.declared.Header.the-variants.{Record, Refused}
+use Rattle.record.specs.declared.Written.the-variants as writer
+use Rattle.record.specs.declared.Written.the-variants.{Next}
 use Rattle.record.specs.Layout.{recordOf, packed, unpacked, partLength, padOf}
 use Rattle.record.specs.Reader.{frameOf, headerOf}
+use Rattle.record.specs.Writing.{told, writable, writing}
 
 pub record Examples : Type 0 where
   -- RM(1,2), readings 5, -2, 3, 1: 21 005 FFE 003 001
@@ -23,10 +27,17 @@ pub record Examples : Type 0 where
   pub lone-12 : headerOf (0x12 ∷ []) ≡ Refused Parameters
   pub lone-21 : headerOf (0x21 ∷ []) ≡ Refused Torn
   pub pad-before-rail : headerOf (0x00 ∷ 0x80 ∷ 0x01 ∷ []) ≡ Refused Pad
+  -- a record between two bytes that stay; one byte less is no room, and neither is a place beyond the end
+  pub written : writing 1 2 sample (replicate 9 0xAA) 1
+      ≡ told (Next 8) (0xAA ∷ 0x21 ∷ 0x00 ∷ 0x5F ∷ 0xFE ∷ 0x00 ∷ 0x30 ∷ 0x01 ∷ 0xAA ∷ [])
+  pub no-room : writing 1 2 sample (replicate 7 0xAA) 1 ≡ told (writer.Refused OutputLength) (replicate 7 0xAA)
+  pub beyond : writing 0 0 (pos 1 ∷ []) (0xAA ∷ []) 9 ≡ told (writer.Refused OutputLength) (0xAA ∷ [])
+  -- 4 comes before 3
+  pub bad-reading : writing 1 1 (pos 1 ∷ pos 2048 ∷ []) [] 0 ≡ told (writer.Refused (Entry 1)) []
   pub rail : headerOf (recordOf 1 1 (pos 1 ∷ negsuc 2047 ∷ [])) ≡ Refused (Entry 1)
 
 pub examples : Examples
-unfolding made firstAbove recordOf packed unpacked partLength padOf frameOf headerOf
+unfolding made firstAbove recordOf packed unpacked partLength padOf frameOf headerOf writable writing
 examples =
     record {
       record-12 = refl;
@@ -38,5 +49,9 @@ examples =
       lone-12 = refl;
       lone-21 = refl;
       pad-before-rail = refl;
+      written = refl;
+      no-room = refl;
+      beyond = refl;
+      bad-reading = refl;
       rail = refl;
     }

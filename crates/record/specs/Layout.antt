@@ -2,7 +2,7 @@
 -- Each field is a whole number of nibbles, four bits each: m one, r one, a reading three. All run most significant first, two nibbles to a byte.
 use mathlib.Core.List.{List, [], _∷_}
 use mathlib.Core.Bool.{cond}
-use Prim.Native.Nat.{ℕ, zero, suc, _+_, _-_, _*_, _/_, _%_, _^_}
+use Prim.Native.Nat.{ℕ, zero, suc, _+_, _-_, _*_, _/_, _%_, _^_, _<_}
 use lib.IntN.{ℤ, pos, negsuc}
 use lib.ListN.{getD}
 use lib.Dec.{ltb, eqb}
@@ -17,6 +17,14 @@ bytes (a ∷ b ∷ d) = (16 * a + b) ∷ bytes d
 abbrev pub nibbles : List ℕ → List ℕ
 nibbles [] = []
 nibbles (x ∷ s) = x / 16 ∷ x % 16 ∷ nibbles s
+
+-- a field of 12 bits holds -2,048 to 2,047
+abbrev pub Held : ℤ → Type 0
+Held (pos n) = n < 2048
+Held (negsuc n) = n < 2048
+
+abbrev pub AllHeld : List ℤ → Type 0
+AllHeld l = (i : ℕ) → Held (getD l i (pos 0))
 
 -- a reading as a field of 12 bits in two's complement, and back
 abbrev pub field : ℤ → ℕ

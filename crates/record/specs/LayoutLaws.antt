@@ -1,26 +1,21 @@
 -- Laws of the layout: packing and unpacking are inverse to each other; lengths; one reading by its number.
-use mathlib.Core.Path.{_≡_, refl, ap, sym}
+use mathlib.Core.Path.{_≡_, refl, ap, sym, _∙_}
 use mathlib.Core.List.{List, [], _∷_, _++_}
 use mathlib.Core.Logic.{⊎-elim}
 use Prim.Native.Nat.{ℕ, zero, suc, _+_, _-_, _*_, _/_, _%_, _^_, _≤_, _<_}
 use native.Mathlib.Omega.{arith}
 use native.Mathlib.Nat.{two-pow-succ}
-use lib.IntN.{ℤ, pos, negsuc, _-ℤ_}
+use lib.IntN.{ℤ, pos, negsuc, natAbs, _+ℤ_, _-ℤ_}
 use lib.ListN.{length, getD}
 use native.Mathlib.Decide.{ℕ-discrete}
 use borrow.Author.Tests.{lt-ltb, le-ltb, eq-eqb, ne-eqb}
 use Rattle.numbers.specs.Choice.{lt-or-le}
-use Rattle.numbers.specs.PartsLaws.{by-parts, sum-parts}
-use Rattle.record.specs.Layout.{bytes, nibbles, field, reading, spread, gathered, packed, unpacked, partLength, padOf, readingsIn}
+use Rattle.numbers.specs.PartsLaws.{parts, by-parts, sum-parts}
+use Rattle.record.specs.Layout.{bytes, nibbles, Held, AllHeld, field, reading, spread, gathered, recordOf, packed, unpacked, partLength, padOf, readingsIn}
 
 -- every entry is below b
 abbrev pub Below : ℕ → List ℕ → Type 0
 Below b l = (i : ℕ) → getD l i 0 < b
-
--- a 12-bit field holds -2,048 to 2,047
-abbrev pub Held : ℤ → Type 0
-Held (pos n) = n < 2048
-Held (negsuc n) = n < 2048
 
 pub field-below : (x : ℤ) → Held x → field x < 4096
 field-below (pos n) h = omega arith
@@ -70,10 +65,6 @@ nibbles-below (x ∷ p) h (suc (suc i)) = nibbles-below p (λ j. h (suc j)) i
 length-nibbles : (p : List ℕ) → length (nibbles p) ≡ 2 * length p
 length-nibbles [] = refl
 length-nibbles (x ∷ p) = omega (arith, length-nibbles p)
-
--- every reading fits its field
-abbrev pub AllHeld : List ℤ → Type 0
-AllHeld l = (i : ℕ) → Held (getD l i (pos 0))
 
 spread-below : (l : List ℤ) → AllHeld l → Below 16 (spread l)
 spread-below [] h i = below-nil 15 i
@@ -227,3 +218,87 @@ readings-past zero k h e = absurd (omega arith)
 readings-past (suc m) k h e =
     let d : suc m - 1 ≡ m = omega arith in
     rw d (rw (ne-eqb k (partLength m) (λ z. e (rw d z))))
+
+-- the bytes of two readings: their fields' first eight bits, the four bits in the middle of each side, the last eight
+pub byte-first : (k : ℕ) (l : List ℤ) → 2 * k < length l → getD (packed l) (3 * k) 0 ≡ field (getD l (2 * k) (pos 0)) / 16
+unfolding packed
+byte-first k [] h = absurd (omega arith)
+byte-first zero (x ∷ []) h = omega arith
+byte-first zero (x ∷ y ∷ l) h = omega arith
+byte-first (suc k) (x ∷ []) h = absurd (omega arith)
+byte-first (suc k) (x ∷ y ∷ l) h =
+    let d : 2 * suc k ≡ suc (suc (2 * k)) = omega arith in
+    let e : 3 * suc k ≡ suc (suc (suc (3 * k))) = omega arith in
+    rw (d, e) (byte-first k l (omega arith))
+
+pub byte-middle : (k : ℕ) (l : List ℤ) → 2 * k + 1 < length l
+    → getD (packed l) (3 * k + 1) 0 ≡ 16 * (field (getD l (2 * k) (pos 0)) % 16) + field (getD l (2 * k + 1) (pos 0)) / 256
+unfolding packed
+byte-middle k [] h = absurd (omega arith)
+byte-middle zero (x ∷ []) h = absurd (omega arith)
+byte-middle zero (x ∷ y ∷ l) h = refl
+byte-middle (suc k) (x ∷ []) h = absurd (omega arith)
+byte-middle (suc k) (x ∷ y ∷ l) h =
+    let d : 2 * suc k ≡ suc (suc (2 * k)) = omega arith in
+    let e : 3 * suc k + 1 ≡ suc (suc (suc (3 * k + 1))) = omega arith in
+    let f : suc (suc (2 * k)) + 1 ≡ suc (suc (2 * k + 1)) = omega arith in
+    rw (d, e, f) (byte-middle k l (omega arith))
+
+pub byte-last : (k : ℕ) (l : List ℤ) → 2 * k + 1 < length l → getD (packed l) (3 * k + 2) 0 ≡ field (getD l (2 * k + 1) (pos 0)) % 256
+unfolding packed
+byte-last k [] h = absurd (omega arith)
+byte-last zero (x ∷ []) h = absurd (omega arith)
+byte-last zero (x ∷ y ∷ l) h = omega arith
+byte-last (suc k) (x ∷ []) h = absurd (omega arith)
+byte-last (suc k) (x ∷ y ∷ l) h =
+    let d : 2 * suc k + 1 ≡ suc (suc (2 * k + 1)) = omega arith in
+    let e : 3 * suc k + 2 ≡ suc (suc (suc (3 * k + 2))) = omega arith in
+    rw (d, e) (byte-last k l (omega arith))
+
+-- the byte of a last single reading's last four bits, and the pad
+pub byte-pad : (k : ℕ) (l : List ℤ) → 2 * k + 1 ≡ length l → getD (packed l) (3 * k + 1) 0 ≡ 16 * (field (getD l (2 * k) (pos 0)) % 16)
+unfolding packed
+byte-pad k [] h = absurd (omega arith)
+byte-pad zero (x ∷ []) h = refl
+byte-pad zero (x ∷ y ∷ l) h = absurd (omega arith)
+byte-pad (suc k) (x ∷ []) h = absurd (omega arith)
+byte-pad (suc k) (x ∷ y ∷ l) h =
+    let d : 2 * suc k ≡ suc (suc (2 * k)) = omega arith in
+    let e : 3 * suc k + 1 ≡ suc (suc (suc (3 * k + 1))) = omega arith in
+    rw (d, e) (byte-pad k l (omega arith))
+
+-- how many bytes any readings take
+pub length-packed-any : (l : List ℤ) → length (packed l) ≡ (3 * length l + 1) / 2
+unfolding packed
+length-packed-any l = omega (arith, length-bytes (spread l), length-spread l)
+
+-- a field as code computes it: 4,096 added, and the rest of the division by that
+abbrev pub raised : ℤ → ℕ
+raised (pos n) = n + 4096
+raised (negsuc n) = 4095 - n
+
+pub raised-sum : (x : ℤ) → Held x → x +ℤ pos 4096 ≡ pos (raised x)
+raised-sum (pos n) h = refl
+raised-sum (negsuc n) h =
+    by-parts (negsuc n +ℤ pos 4096) (pos (4095 - n)) (omega (arith, sum-parts (negsuc n) (pos 4096), parts (negsuc n +ℤ pos 4096)))
+
+pub raised-small : (x : ℤ) → Held x → raised x < 8192
+raised-small (pos n) h = omega arith
+raised-small (negsuc n) h = omega arith
+
+pub raised-field : (x : ℤ) → Held x → raised x % 4096 ≡ field x
+raised-field (pos n) h = omega arith
+raised-field (negsuc n) h = omega arith
+
+-- a record is its first byte and its packed part
+pub record-parts : (r m : ℕ) (l : List ℤ) → recordOf r m l ≡ (16 * m + r) ∷ packed l
+unfolding recordOf packed
+record-parts r m l = refl
+
+pub length-record : (r m : ℕ) (l : List ℤ) → length l ≡ 2 ^ m → length (recordOf r m l) ≡ suc (partLength m)
+length-record r m l e = ap length (record-parts r m l) ∙ ap suc (length-packed m l e)
+
+-- a reading of this size fits its field
+pub within-held : (x : ℤ) → natAbs x < 2048 → Held x
+within-held (pos n) h = omega arith
+within-held (negsuc n) h = omega arith

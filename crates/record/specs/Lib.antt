@@ -2,9 +2,10 @@
 pub mod Layout
 pub mod Reader
 pub mod Unpacking
+pub mod Writing
 pub mod Searching
 pub mod Demands
--- Laws of the layout and of the reader; no second outcome; demand 1 is met
+-- Laws of the layout and of the reader; no second outcome; reading what was written; demand 1 is met
 pub mod LayoutLaws
 pub mod PairLaws
 pub mod ReaderLaws
@@ -12,6 +13,9 @@ pub mod Accepted
 pub mod HeaderLaws
 pub mod OnlyHeader
 pub mod UnpackingLaws
+pub mod WritingLaws
+pub mod WrittenRead
 pub mod DemandsMet
+pub mod WritingDemandMet
 -- Examples
 pub mod Examples

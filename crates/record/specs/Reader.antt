@@ -5,7 +5,7 @@ use Prim.Native.Nat.{ℕ, suc, _-_, _/_, _%_}
 use lib.IntN.{ℤ}
 use lib.ListN.{length, take, drop}
 use lib.Dec.{ltb, eqb}
-use Rattle.code.specs.Sound.{largestReading, made, Carried, carrying, carried}
+use Rattle.code.specs.Sound.{largestRecordReading, made, Carried, carrying, carried}
 use Rattle.code.specs.Entries.{firstBadReading}
 use Rattle.code.specs.declared.Code.{Code}
 use Rattle.code.specs.declared.Made.{Made}
@@ -48,7 +48,7 @@ frameOf (first ∷ s) = framedBy (codeOf first) (first ∷ s)
 abbrev pub railedBy : Header → List ℕ → Header
 railedBy (Refused why) s = Refused why
 railedBy (Record c) s =
-    let place = firstBadReading largestReading (readingsOf c s) in
+    let place = firstBadReading largestRecordReading (readingsOf c s) in
     cond (ltb place (length (readingsOf c s))) (Refused (Entry place)) (Record c)
 
 -- the code of the record that the bytes begin with, or the refusal

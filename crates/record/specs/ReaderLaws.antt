@@ -8,7 +8,7 @@ use lib.ListN.{length, getD, take, drop, length-drop}
 use lib.Seq.{length-take-le, getD-take, getD-drop}
 use borrow.Author.Tests.{lt-ltb, le-ltb, eq-eqb, ne-eqb}
 use Rattle.numbers.specs.Choice.{lt-or-le}
-use Rattle.code.specs.Sound.{Sound, largestReading}
+use Rattle.code.specs.Sound.{Sound, largestRecordReading}
 use Rattle.code.specs.Entries.{firstBadReading}
 use Rattle.code.specs.SoundLaws.{made-of, length-most}
 use Rattle.code.specs.declared.Code.{Code}
@@ -102,7 +102,7 @@ pub length-readings-of : (c : Code) (s : List ℕ) → suc (partLength (c .m)) �
 length-readings-of c s h = length-readings (c .m) (partOf c s) (length-part c s h)
 
 -- the two answers of the test for rails
-module _ (c : Code) (s : List ℕ) (place n : ℕ) (is : place ≡ firstBadReading largestReading (readingsOf c s)) (count : length (readingsOf c s) ≡ n) where
+module _ (c : Code) (s : List ℕ) (place n : ℕ) (is : place ≡ firstBadReading largestRecordReading (readingsOf c s)) (count : length (readingsOf c s) ≡ n) where
   pub rail-found : place < n → railedBy (Record c) s ≡ Refused (Entry place)
   rail-found h = rw (← is, count, lt-ltb place n h)
 
@@ -112,7 +112,7 @@ module _ (c : Code) (s : List ℕ) (place n : ℕ) (is : place ≡ firstBadReadi
 header-by : (s : List ℕ) (c : Code) (h : Header) → frameOf s ≡ h → railedBy h s ≡ Record c → frameOf s ≡ Record c
 header-by s c (Refused why) q e = let z : _≡_ {A = ℕ} 0 1 = cc in absurd (omega arith)
 header-by s c (Record d) q e =
-    let place = firstBadReading largestReading (readingsOf d s) in
+    let place = firstBadReading largestRecordReading (readingsOf d s) in
     ⊎-elim
     (λ k. let z : _≡_ {A = ℕ} 0 1 = cc (rail-found d s place (length (readingsOf d s)) refl refl k) in absurd (omega arith))
     (λ k. cc (rail-none d s place (length (readingsOf d s)) refl refl k))

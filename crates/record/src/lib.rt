@@ -1,18 +1,21 @@
-// Packed records: the layout, the reader, the unpacker, and the search of a record.
+// Packed records: the reader, the unpacker, the writer, and the search of a record.
 mod packing;
 
 ghost use mathlib.Core.Path.{_≡_};
 ghost use Prim.Native.Nat.{suc, _<_, _≤_};
 ghost use lib.ListN.{length};
-ghost use Rattle.code.specs.Sound.{Sound, largestM, largestReading};
+ghost use Rattle.code.specs.Sound.{Sound, largestM, largestRecordReading};
 ghost use Rattle.code.specs.Entries.{firstBadReading};
-ghost use Rattle.record.specs.Layout.{unpacked, partLength, readingsIn};
+ghost use Rattle.record.specs.Layout.{AllHeld, recordOf, unpacked, partLength, readingsIn};
 ghost use Rattle.record.specs.Reader.{codeOf, lengthBy, framedBy, frameOf};
 ghost use Rattle.record.specs.Reader.{railedBy, headerOf, told, partBy};
 ghost use Rattle.record.specs.Unpacking as Unpacking;
 ghost use Rattle.record.specs.Unpacking.{unpacking};
+ghost use Rattle.record.specs.Writing as Writing;
+ghost use Rattle.record.specs.Writing.{writable, writing};
 ghost use Rattle.search.specs.Outcome as Search;
 ghost use Rattle.record.specs.Searching.{searchingBy, searchingRecord};
+use code::Admitted;
 use code::Code;
 use code::Made;
 use code::Refusal;
@@ -21,6 +24,12 @@ use search::Searched;
 // What bytes begin with: a record of a code, or why not.
 pub enum Header {
     Record(Code),
+    Refused(Refusal),
+}
+
+// What writing a record answers: the place after it, or why not.
+pub enum Written {
+    Next(usize),
     Refused(Refusal),
 }
 
@@ -118,11 +127,11 @@ pub fn unpack(part: &[u8], readings: &mut [i16]) -> Unpacked
 // there is none.
 fn first_rail(part: &[u8], n: usize) -> usize
     requires { ⌜ (n ≤ 256) × (length (unpacked (now part)) ≡ n) ⌝ }
-    ensures { λ place. ⌜ place ≡ firstBadReading largestReading (unpacked (now (part .entry))) ⌝ }
+    ensures { λ place. ⌜ place ≡ firstBadReading largestRecordReading (unpacked (now (part .entry))) ⌝ }
 {
     let mut readings = [0i16; 256];
     packing::put_readings(part, &mut readings[0..n]);
-    code::first_bad_reading(&readings[0..n])
+    code::first_bad_record_reading(&readings[0..n])
 }
 
 // The refusal 4.
@@ -193,4 +202,54 @@ fn search_framed(s: &[u8], code: Code, allowed: u32, bits: &mut [u8], word: &mut
     let end = 1 + part_length(code);
     packing::put_readings(&s[1..end], &mut readings[0..n]);
     search::search_within(code.r, code.m, allowed, &readings[0..n], bits, word)
+}
+
+// The tests of the writer: 1, 2, 4, then 3, for a buffer of so many bytes. No sum here could wrap.
+fn writable(r: u32, m: u32, readings: &[i16], bytes: usize, place: usize) -> Admitted
+    ensures { λ answer. ⌜ answer ≡ writable r m (now (readings .entry)) bytes place ⌝ }
+{
+    let Made::Good(code) = Code::new(r, m) else {
+        return Admitted::Refused(Refusal::Parameters);
+    };
+    let n = code.length();
+    if readings.len() != n {
+        return Admitted::Refused(Refusal::InputLength);
+    }
+    let bad = code::first_bad_record_reading(readings);
+    if bad < n {
+        return Admitted::Refused(Refusal::Entry(bad));
+    }
+    if bytes < place {
+        return Admitted::Refused(Refusal::OutputLength);
+    }
+    if bytes - place < 1 + part_length(code) {
+        return Admitted::Refused(Refusal::OutputLength);
+    }
+    Admitted::Allowed(code)
+}
+
+// The record's first byte, and its packed part.
+fn put_record(code: Code, readings: &[i16], bytes: &mut [u8])
+    requires { ⌜ Sound code × AllHeld (now readings)
+        × (length (now bytes) ≡ length (recordOf (code .r) (code .m) (now readings))) ⌝ }
+    ensures { λ _. ⌜ now (bytes .exit) ≡ recordOf (code .r) (code .m) (now (readings .entry)) ⌝ }
+{
+    let end = bytes.len();
+    bytes[0] = (16 * code.m + code.r) as u8;
+    packing::put_packed(readings, &mut bytes[1..end]);
+}
+
+// Writes the record of the readings into the lent buffer, from the place on. All other bytes stay.
+pub fn write(r: u32, m: u32, readings: &[i16], buffer: &mut [u8], place: usize) -> Written
+    ensures { λ answer. ⌜ Writing.told answer (now (buffer .exit))
+        ≡ writing r m (now (readings .entry)) (now (buffer .entry)) place ⌝ }
+{
+    match writable(r, m, readings, buffer.len(), place) {
+        Admitted::Allowed(code) => {
+            let end = place + (1 + part_length(code));
+            put_record(code, readings, &mut buffer[place..end]);
+            Written::Next(end)
+        }
+        Admitted::Refused(why) => Written::Refused(why),
+    }
 }

@@ -3,7 +3,7 @@ ghost use mathlib.Core.Path.{_≡_};
 ghost use Prim.Native.Nat.{_*_, _/_, _<_};
 ghost use lib.ListN.{length};
 ghost use Rattle.numbers.specs.Front.{front};
-ghost use Rattle.record.specs.Layout.{reading, unpacked};
+ghost use Rattle.record.specs.Layout.{Held, AllHeld, field, reading, packed, unpacked};
 
 fn wide(x: u8) -> u16
     ensures { λ w. ⌜ (w ≡ x) × (w < 256) ⌝ }
@@ -51,5 +51,46 @@ pub fn put_readings(part: &[u8], readings: &mut [i16])
     if n % 2 == 1 {
         let j = n / 2;
         readings[2 * j] = signed(16 * wide(part[3 * j]) + wide(part[3 * j + 1]) / 16);
+    }
+}
+
+// A reading as a field of 12 bits: two's complement.
+fn field_of(reading: i16) -> u16
+    requires { ⌜ Held reading ⌝ }
+    ensures { λ f. ⌜ (f ≡ field reading) × (f < 4096) ⌝ }
+{
+    (reading + 4096) as u16 % 4096
+}
+
+// Three bytes of two readings a turn; a last single reading is left.
+fn put_packed_pairs(readings: &[i16], part: &mut [u8])
+    requires { ⌜ AllHeld (now readings) × (length (now part) ≡ length (packed (now readings))) ⌝ }
+    ensures { λ _. ⌜ now (part .exit) ≡ front (now (part .entry))
+        (packed (now (readings .entry))) (3 * (length (now (readings .entry)) / 2)) ⌝ }
+{
+    let pairs = readings.len() / 2;
+    let mut j = 0;
+    while j < pairs {
+        let a = field_of(readings[2 * j]);
+        let b = field_of(readings[2 * j + 1]);
+        part[3 * j] = (a / 16) as u8;
+        part[3 * j + 1] = (16 * (a % 16) + b / 256) as u8;
+        part[3 * j + 2] = (b % 256) as u8;
+        j += 1;
+    }
+}
+
+// The packed part of readings.
+pub fn put_packed(readings: &[i16], part: &mut [u8])
+    requires { ⌜ AllHeld (now readings) × (length (now part) ≡ length (packed (now readings))) ⌝ }
+    ensures { λ _. ⌜ now (part .exit) ≡ packed (now (readings .entry)) ⌝ }
+{
+    let n = readings.len();
+    put_packed_pairs(readings, part);
+    if n % 2 == 1 {
+        let j = n / 2;
+        let a = field_of(readings[2 * j]);
+        part[3 * j] = (a / 16) as u8;
+        part[3 * j + 1] = (16 * (a % 16)) as u8;
     }
 }

@@ -6,7 +6,7 @@ use lib.IntN.{ℤ, pos}
 use mathlib.Core.List.{List}
 use native.Mathlib.Omega.{arith}
 use Rattle.numbers.specs.Lent.{lent-again}
-use Rattle.code.specs.Sound.{largestReading}
+use Rattle.code.specs.Sound.{largestRecordReading}
 use Rattle.code.specs.Entries.{firstBadReading}
 use Rattle.record.specs.Layout.{unpacked}
 use borrow.Rule.Slice.PartMut.{same-len-mid}
@@ -15,7 +15,7 @@ use Rattle.record.proofs.first_rail.Statement.{statement}
 use Rattle.record.proofs.first_rail.Tie as tie
 use Rattle.record.proofs.first_rail.Reads as reads
 use Rattle.record.proofs.first_rail.Lts as lts
-use Rattle.code.proofs.first_bad_reading.Reads as first-bad-reading-reads
+use Rattle.code.proofs.first_bad_record_reading.Reads as first-bad-record-reading-reads
 use Rattle.record.proofs.packing.put_readings.Reads as put-readings-reads
 
 sub-put-readings : tie.Need-sub-put-readings
@@ -30,27 +30,27 @@ part-readings-end c = search needs
 put-readings-requires : tie.Need-put-readings-requires
 put-readings-requires c κs = search needs
 
-sub-first-bad-reading : tie.Need-sub-first-bad-reading
-sub-first-bad-reading c = search needs
+sub-first-bad-record-reading : tie.Need-sub-first-bad-record-reading
+sub-first-bad-record-reading c = search needs
 
-part-first-bad-reading-start : tie.Need-part-first-bad-reading-start
-part-first-bad-reading-start c = search needs
+part-first-bad-record-reading-start : tie.Need-part-first-bad-record-reading-start
+part-first-bad-record-reading-start c = search needs
 
-part-first-bad-reading-end : tie.Need-part-first-bad-reading-end
-part-first-bad-reading-end c =
+part-first-bad-record-reading-end : tie.Need-part-first-bad-record-reading-end
+part-first-bad-record-reading-end c =
     let put = c .before .before .put-readings in
     let n = c .before .before .before .before .before .args .n in
     omega (arith, same-len-mid 0 (n - 0) (replicate 256 (pos 0)) (put .last .1 .0) (put .kept .1 .0))
 
-first-bad-reading-requires : tie.Need-first-bad-reading-requires
-first-bad-reading-requires c κs = search needs
+first-bad-record-reading-requires : tie.Need-first-bad-record-reading-requires
+first-bad-record-reading-requires c κs = search needs
 
 returns : tie.Need-returns
 returns c =
     let put = c .before .before .before .before .put-readings in
     let g = c .before .before .before .before .before .before .before in
     let read = lent-again (g .args .n) (replicate 256 (pos 0)) (put .last .1 .0) (ap length (put .ensures) ∙ g .pre .1) ∙ put .ensures in
-    c .first-bad-reading .ensures ∙ ap (firstBadReading largestReading) read
+    c .first-bad-record-reading .ensures ∙ ap (firstBadReading largestRecordReading) read
 
 pub first-rail-spec : {M : Type 1} → statement M
 first-rail-spec =
@@ -60,8 +60,8 @@ first-rail-spec =
     part-readings-start
     part-readings-end
     put-readings-requires
-    sub-first-bad-reading
-    part-first-bad-reading-start
-    part-first-bad-reading-end
-    first-bad-reading-requires
+    sub-first-bad-record-reading
+    part-first-bad-record-reading-start
+    part-first-bad-record-reading-end
+    first-bad-record-reading-requires
     returns)

@@ -4,7 +4,7 @@ use native.Mathlib.Omega.{arith}
 use mathlib.Core.List.{List}
 use Prim.Native.Nat.{ℕ}
 use lib.ListN.{length}
-use Rattle.code.specs.Sound.{largestReading}
+use Rattle.code.specs.Sound.{largestRecordReading}
 use Rattle.code.specs.declared.Code.{Code}
 use Rattle.code.specs.Entries.{firstBadReading}
 use Rattle.record.specs.Layout.{unpacked}
@@ -52,10 +52,10 @@ module _ (c : tie.After-first-rail) where
   abbrev s : List ℕ
   s = c .before .before .before .before .before .args .s .now
 
-  found : c .first-rail .result ≡ firstBadReading largestReading (readingsOf code s)
+  found : c .first-rail .result ≡ firstBadReading largestRecordReading (readingsOf code s)
   found =
       c .first-rail .ensures
-      ∙ ap (λ (p : List ℕ). firstBadReading largestReading (unpacked p)) (part-taken code s _ (c .before .before .part-length .ensures))
+      ∙ ap (λ (p : List ℕ). firstBadReading largestRecordReading (unpacked p)) (part-taken code s _ (c .before .before .part-length .ensures))
 
   count : length (readingsOf code s) ≡ c .before .before .before .length .result
   count = length-readings-of code s (c .before .before .before .before .before .pre .1) ∙ sym (c .before .before .before .length .ensures)

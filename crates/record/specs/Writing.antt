@@ -1,0 +1,54 @@
+-- What writing a record tells and leaves, for all that it can be given: 1, 2, 4, then 3.
+use mathlib.Core.List.{List, _++_}
+use mathlib.Core.Bool.{cond, not}
+use Prim.Native.Nat.{ℕ, suc, _+_, _-_, _^_}
+use lib.IntN.{ℤ}
+use lib.ListN.{length, take, drop}
+use lib.Dec.{ltb, eqb}
+use Rattle.code.specs.Sound.{Carried, carrying, carried, largestRecordReading, made}
+use Rattle.code.specs.Entries.{firstBadReading}
+use Rattle.code.specs.Admitted.{ifMade}
+use Rattle.code.specs.declared.Code.{Code}
+use Rattle.code.specs.declared.Refusal.the-variants.{InputLength, OutputLength, Entry}
+use Rattle.code.specs.declared.Admitted.{Admitted}
+use Rattle.code.specs.declared.Admitted.the-variants as admission
+use Rattle.record.specs.declared.Written.{Written}
+use Rattle.record.specs.declared.Written.the-variants.{Next, Refused}
+use Rattle.record.specs.Layout.{recordOf, partLength}
+
+pub record WrittenOutcome : Type 0 where
+  -- all 0 where the record is written, else what the refusal carries
+  pub carry : Carried
+  -- the place after the record; 0 where refused
+  pub next : ℕ
+  -- the lent buffer as the call leaves it
+  pub buffer : List ℕ
+
+-- the answer in the rules' numbers
+abbrev pub told : Written → List ℕ → WrittenOutcome
+told (Next next) buffer = record { carry = carrying 0 0 0 0; next = next; buffer = buffer }
+told (Refused why) buffer = record { carry = carried why; next = 0; buffer = buffer }
+
+-- of a code: the readings l, and a record in a buffer of so many bytes from the place on
+abbrev pub writableBy : Code → List ℤ → ℕ → ℕ → Admitted
+writableBy c l bytes place =
+    let bad = firstBadReading largestRecordReading l in
+    cond (not (eqb (length l) (2 ^ c .m))) (admission.Refused InputLength)
+    (cond (ltb bad (length l)) (admission.Refused (Entry bad))
+    (cond (ltb (bytes - place) (suc (partLength (c .m)))) (admission.Refused OutputLength) (admission.Allowed c)))
+
+unfoldable pub writable : ℕ → ℕ → List ℤ → ℕ → ℕ → Admitted
+writable r m l bytes place = ifMade (made r m) (λ c. writableBy c l bytes place)
+
+-- the bytes x in d from the place on, in the place of as many
+abbrev pub laidAt : ℕ → List ℕ → List ℕ → List ℕ
+laidAt place x d = take place d ++ (x ++ drop (place + length x) d)
+
+abbrev pub writtenBy : Admitted → List ℤ → List ℕ → ℕ → WrittenOutcome
+writtenBy (admission.Refused why) l buffer place = told (Refused why) buffer
+writtenBy (admission.Allowed c) l buffer place =
+    let new = recordOf (c .r) (c .m) l in told (Next (place + length new)) (laidAt place new buffer)
+
+-- of r, m, the readings, the buffer and the place
+unfoldable pub writing : ℕ → ℕ → List ℤ → List ℕ → ℕ → WrittenOutcome
+writing r m l buffer place = writtenBy (writable r m l (length buffer) place) l buffer place

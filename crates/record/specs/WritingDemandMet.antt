@@ -1,0 +1,67 @@
+-- The outcomes of the writer meet demand 1.
+use mathlib.Core.Path.{_≡_, refl, ap, sym}
+use mathlib.Core.Logic.{inl, inr, ⊎-elim}
+use mathlib.Core.List.{List, [], _∷_}
+use Prim.Native.Nat.{ℕ, suc, _-_, _^_}
+use native.Mathlib.Omega.{arith}
+use native.Mathlib.Decide.{ℕ-discrete}
+use lib.IntN.{ℤ, pos, natAbs}
+use lib.ListN.{length}
+use Rattle.numbers.specs.Choice.{lt-or-le}
+use Rattle.code.specs.Sound.{largestM, largestRecordReading, rm}
+use Rattle.code.specs.SoundLaws.{made-large, made-crossed, made-good}
+use Rattle.code.specs.Entries.{firstBadReading}
+use Rattle.code.specs.Demand1.{refusedAs}
+use Rattle.code.specs.Demand1Laws.{Decides, demand-1, first-lowest}
+use Rattle.code.specs.declared.Refusal.{Refusal}
+use Rattle.code.specs.declared.Admitted.{Admitted}
+use Rattle.code.specs.declared.Admitted.the-variants as admission
+use Rattle.record.specs.Layout.{partLength}
+use Rattle.record.specs.LayoutLaws.{length-record}
+use Rattle.record.specs.Writing.{writable, writtenBy, writing}
+use Rattle.record.specs.WritingLaws.{not-made, not-long, not-good, no-room, may-write}
+use Rattle.record.specs.Demands.{writtenView, writeChecks, WriteDemand1}
+
+module _ (r m : ℕ) (l : List ℤ) (d : List ℕ) (place : ℕ) where
+  refuses : (why : Refusal) → admission.Refused why ≡ writable r m l (length d) place → writtenView (writing r m l d place) ≡ refusedAs why (d ∷ [])
+  unfolding writing
+  refuses why e = ap (λ (a : Admitted). writtenView (writtenBy a l d place)) (sym e)
+
+  write-decides : Decides (d ∷ []) (writtenView (writing r m l d place)) (writeChecks r m l d place)
+  unfolding writing
+  write-decides =
+      let bad = firstBadReading largestRecordReading l in
+      let n = length d in
+      ⊎-elim
+      (λ large. inl (inl large, refuses _ (not-made r m l n place (made-large r m large))))
+      (λ small. ⊎-elim
+      (λ crossed. inl (inr crossed, refuses _ (not-made r m l n place (made-crossed r m small crossed))))
+      (λ within.
+      let good = made-good r m small within in
+      inr (
+        λ x. ⊎-elim (λ y. omega arith) (λ y. omega arith) x,
+        elim (ℕ-discrete (length l) (2 ^ m)) [
+          | no f ↦ inl (f, refuses _ (not-long r m l n place (rm r m) good f))
+          | yes e ↦ inr (
+            λ f. f e,
+            ⊎-elim
+                (λ h. inl (first-lowest (pos 0) natAbs largestRecordReading l h, refuses _ (not-good r m l n place (rm r m) good e h)))
+                (λ h. inr (
+                  λ low. omega (arith, low .below),
+                  ⊎-elim
+                      (λ g. inl (omega (arith, length-record r m l e), refuses _ (no-room r m l n place (rm r m) good e h g)))
+                      (λ g. inr (
+                        λ x. omega (arith, length-record r m l e),
+                        rw (← may-write r m l n place (rm r m) good e h g) (refl, refl),
+                      ))
+                      (lt-or-le (n - place) (suc (partLength m))),
+                ))
+                (lt-or-le bad (length l)),
+          )
+        ],
+      ))
+      (lt-or-le m r))
+      (lt-or-le largestM m)
+
+  pub write-demand-1 : WriteDemand1 r m l d place
+  write-demand-1 = demand-1 (d ∷ []) (writtenView (writing r m l d place)) (writeChecks r m l d place) write-decides
