@@ -120,38 +120,38 @@ typedef struct {
 
 /* ---- Lengths, for a caller who has to lend memory: 0 where the code, or the first byte of a record, is refused */
 
-/* n = 2^m. Promise: length. */
+/* n = 2^m. Promise: pumpbox::cinorbis_length. */
 CINORBIS_CALL size_t cinorbis_length(uint32_t m);
 
-/* k, the number of information bits of RM(r,m): (m choose 0) + .. + (m choose r). Promise: dimension. */
+/* k, the number of information bits of RM(r,m): (m choose 0) + .. + (m choose r). Promise: pumpbox::cinorbis_dimension. */
 CINORBIS_CALL size_t cinorbis_dimension(uint32_t r, uint32_t m);
 
-/* How many bytes a record has, told by its first byte (§7). A number above 255 is no byte: 0. Promise: record_length. */
+/* How many bytes a record has, told by its first byte (§7). A number above 255 is no byte: 0. Promise: record::record_length. */
 CINORBIS_CALL size_t cinorbis_record_length(uint32_t first_byte);
 
 /* ---- Words (§1) */
 
-/* In: k information bits. Out: word, n bits. Refuses 1, 2, 3, 4. Promise: encode. */
+/* In: k information bits. Out: word, n bits. Refuses 1, 2, 3, 4. Promise: encode::encode. */
 CINORBIS_CALL uint32_t cinorbis_encode(uint32_t r, uint32_t m, const uint8_t *bits, size_t bits_length, uint8_t *word,
                                        size_t word_length, cinorbis_numbers *numbers);
 
-/* In: a word of n bits. Out: its k information bits. Refuses 1, 2, 3, 4, 5. Promise: inverse. */
+/* In: a word of n bits. Out: its k information bits. Refuses 1, 2, 3, 4, 5. Promise: encode::inverse. */
 CINORBIS_CALL uint32_t cinorbis_inverse(uint32_t r, uint32_t m, const uint8_t *word, size_t word_length, uint8_t *bits,
                                         size_t bits_length, cinorbis_numbers *numbers);
 
 /* ---- From readings to words (§3 to §5) */
 
 /* The quick reading, which may miss the best word. In: n readings. Out: k bits, a word of n bits, its penalty.
- * Refuses 1, 2, 3, 4. Promise: quick. */
+ * Refuses 1, 2, 3, 4. Promise: quick::quick. */
 CINORBIS_CALL uint32_t cinorbis_quick(uint32_t r, uint32_t m, const int16_t *readings, size_t readings_length, uint8_t *bits,
                                       size_t bits_length, uint8_t *word, size_t word_length, cinorbis_numbers *numbers);
 
 /* The search for the best word with the default allowance. In: n readings. Out: the k bits and the word of least penalty, that penalty,
- * the gap (above 0) and the visits. Refuses 1, 2, 3, 4, then 6 or 7. Promise: search. */
+ * the gap (above 0) and the visits. Refuses 1, 2, 3, 4, then 6 or 7. Promise: search::search. */
 CINORBIS_CALL uint32_t cinorbis_search(uint32_t r, uint32_t m, const int16_t *readings, size_t readings_length, uint8_t *bits,
                                        size_t bits_length, uint8_t *word, size_t word_length, cinorbis_numbers *numbers);
 
-/* The same with an allowance of visits, any number. Promise: search_within. */
+/* The same with an allowance of visits, any number. Promise: search::search_within. */
 CINORBIS_CALL uint32_t cinorbis_search_within(uint32_t r, uint32_t m, uint32_t allowed, const int16_t *readings,
                                               size_t readings_length, uint8_t *bits, size_t bits_length, uint8_t *word,
                                               size_t word_length, cinorbis_numbers *numbers);
@@ -170,7 +170,7 @@ CINORBIS_CALL uint32_t cinorbis_early_within(uint32_t r, uint32_t m, uint32_t al
 
 /* ---- Packed records (§7) */
 
-/* The record that the bytes begin with: its code and its packed part. Refuses 1, 8, 9, 4. Promise: header_of, packed. */
+/* The record that the bytes begin with: its code and its packed part. Refuses 1, 8, 9, 4. Promise: record::header_of, record::packed. */
 CINORBIS_CALL uint32_t cinorbis_record(const uint8_t *bytes, size_t bytes_length, cinorbis_part *part);
 
 /* Writes a record into a buffer, from a place on. In: n readings, none beyond the largest of a record. Out: the record's bytes in the buffer, all
@@ -180,12 +180,12 @@ CINORBIS_CALL uint32_t cinorbis_write_record(uint32_t r, uint32_t m, size_t plac
                                              uint8_t *buffer, size_t buffer_length, cinorbis_written *written);
 
 /* The readings of a packed part, as cinorbis_record gives it. In: the part's bytes. Out: its n readings; the numbers are all 0. Refuses 2
- * for a part of a length that no record has, 3 for a buffer of another length than its readings. Promise: unpack. */
+ * for a part of a length that no record has, 3 for a buffer of another length than its readings. Promise: record::unpack. */
 CINORBIS_CALL uint32_t cinorbis_unpack(const uint8_t *part, size_t part_length, int16_t *readings, size_t readings_length,
                                        cinorbis_numbers *numbers);
 
 /* The search of the record that the bytes begin with. Out as cinorbis_search_within. Refuses 1, 8, 9, 3, 4, then 6 or 7.
- * Promise: search_record. */
+ * Promise: record::search_record. */
 CINORBIS_CALL uint32_t cinorbis_search_record(uint32_t allowed, const uint8_t *bytes, size_t bytes_length, uint8_t *bits,
                                               size_t bits_length, uint8_t *word, size_t word_length, cinorbis_numbers *numbers);
 
