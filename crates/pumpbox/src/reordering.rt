@@ -2,11 +2,11 @@
 use crate::put_numbers;
 use reorder::Answer;
 ghost use mathlib.Core.Path.{_≡_};
-ghost use Rattle.reorder.specs.Outcome.{carriedIn, reordering, reorderingWord, undoing, multiplying};
+ghost use Rattle.reorder.specs.Outcome.{answerCarries, reordering, reorderingWord, undoing, multiplying};
 ghost use Rattle.pumpbox.specs.Reordered.{reorderTold, shownReordered};
 
 fn number_of(answer: Answer) -> u32
-    ensures { λ number. ⌜ number ≡ carriedIn answer .number ⌝ }
+    ensures { λ number. ⌜ number ≡ answerCarries answer .number ⌝ }
 {
     match answer {
         Answer::Done => 0,
@@ -15,7 +15,7 @@ fn number_of(answer: Answer) -> u32
 }
 
 fn place_of(answer: Answer) -> usize
-    ensures { λ place. ⌜ place ≡ carriedIn answer .place ⌝ }
+    ensures { λ place. ⌜ place ≡ answerCarries answer .place ⌝ }
 {
     match answer {
         Answer::Done => 0,

@@ -5,9 +5,9 @@ use Rattle.code.specs.Sound.{Carried}
 use Rattle.code.specs.RefusalLaws.{refusal-only, number-above}
 use Rattle.reorder.specs.declared.Answer.{Answer}
 use Rattle.reorder.specs.declared.Answer.the-variants.{Done, Refused}
-use Rattle.reorder.specs.Outcome.{Outcome, carriedIn, told}
+use Rattle.reorder.specs.Outcome.{Outcome, answerCarries, told}
 
-carried-only : (a b : Answer) → carriedIn a ≡ carriedIn b → a ≡ b
+carried-only : (a b : Answer) → answerCarries a ≡ answerCarries b → a ≡ b
 carried-only Done Done e = refl
 carried-only Done (Refused why) e = absurd (omega (arith, number-above why, ap (λ (c : Carried). c .number) e))
 carried-only (Refused why) Done e = absurd (omega (arith, number-above why, ap (λ (c : Carried). c .number) e))

@@ -22,12 +22,12 @@ pub record Outcome (B : Type 0) : Type 0 where
   pub lent : B
 
 -- the answer in the rules' numbers
-abbrev pub carriedIn : Answer → Carried
-carriedIn Done = carrying 0 0 0 0
-carriedIn (Refused why) = carried why
+abbrev pub answerCarries : Answer → Carried
+answerCarries Done = carrying 0 0 0 0
+answerCarries (Refused why) = carried why
 
 abbrev pub told : {B : Type 0} → Answer → B → Outcome B
-told answer lent = record { carry = carriedIn answer; lent = lent }
+told answer lent = record { carry = answerCarries answer; lent = lent }
 
 abbrev pub done : {B : Type 0} → B → Outcome B
 done lent = told Done lent
