@@ -43,8 +43,8 @@ pub record EarlyAnswer (r m : ℕ) (l : List ℤ) (o s : Outcome) : Type 0 where
   pub not-passed : 5 < o .number → passes r m (kinds r m) l ≡ false
 
 -- ---- A larger allowance changes nothing that was answered or refused, but for 6, as with the search
-abbrev pub LargerAllowance : ℕ → ℕ → List ℤ → List ℕ → List ℕ → Type 0
-LargerAllowance r m l bits word = (allowed more : ℕ) → allowed ≤ more
+abbrev pub EarlyLargerAllowance : ℕ → ℕ → List ℤ → List ℕ → List ℕ → Type 0
+EarlyLargerAllowance r m l bits word = (allowed more : ℕ) → allowed ≤ more
     → (answering r m allowed l bits word .number ≡ 6 → ⊥) → answering r m more l bits word ≡ answering r m allowed l bits word
 
 -- ---- Demand 3

@@ -36,7 +36,7 @@ use Rattle.search.specs.DemandsMet.{answered-kept, outcome-demands}
 use Rattle.early.specs.Outcome.{wordOnly, earlyBy, answering}
 use Rattle.early.specs.OutcomeLaws.{answering-refused, answering-sound}
 use Rattle.early.specs.WayLaws.{true-or-false, passed-is, failed-is}
-use Rattle.early.specs.Demands.{EarlyAnswer, LargerAllowance, EarlyDemand3}
+use Rattle.early.specs.Demands.{EarlyAnswer, EarlyLargerAllowance, EarlyDemand3}
 
 -- ---- outcomes of which on success only the word is given
 only-number : (o : Outcome) → wordOnly o .number ≡ o .number
@@ -138,8 +138,8 @@ way-kept : (b : Bool) (at-once s s′ : Outcome) → ((s .number ≡ 6 → ⊥) 
 way-kept true at-once s s′ f n = refl
 way-kept false at-once s s′ f n = ap wordOnly (f (λ e. n (only-number s ∙ e)))
 
-pub larger-allowance : (r m : ℕ) (l : List ℤ) (bits word : List ℕ) → LargerAllowance r m l bits word
-larger-allowance r m l bits word allowed more h =
+pub early-larger-allowance : (r m : ℕ) (l : List ℤ) (bits word : List ℕ) → EarlyLargerAllowance r m l bits word
+early-larger-allowance r m l bits word allowed more h =
     elim (decided r m l (length bits) (length word)) [
       | allows c e is a ↦ rw (answering-sound r m allowed l bits word c e, answering-sound r m more l bits word c e)
           (way-kept (passes (c .r) (c .m) (kinds (c .r) (c .m)) l) _ _ _ (answered-kept (c .m) (kinds (c .r) (c .m)) l bits word allowed more h))

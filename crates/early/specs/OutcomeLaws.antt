@@ -10,7 +10,7 @@ use borrow.Author.Tests.{ne-eqb}
 use Rattle.words.specs.Kinds.{kinds}
 use Rattle.decoding.specs.Answer.{answer}
 use Rattle.decoding.specs.Quick.{quickWord}
-use Rattle.sure.specs.Test.{tested}
+use Rattle.sure.specs.Test.{isSure}
 use Rattle.quick.specs.Outcome as Quick
 use Rattle.code.specs.declared.Code.{Code}
 use Rattle.code.specs.declared.Refusal.{Refusal}
@@ -60,11 +60,11 @@ module _ (c : Code) (allowed : ℕ) (l : List ℤ) (bits word : List ℕ) (p : �
   word-read = ap (λ (o : Quick.Outcome). o .word) read
 
   -- its test passes, or does not
-  pub at-once : tested (c .r) (c .m) l x ≡ true → (b′ x′ : List ℕ) → b′ ≡ b → x′ ≡ x → foundWith p 0 0 b′ x′ ≡ earlyBy c allowed l bits word
+  pub at-once : isSure (c .r) (c .m) l x ≡ true → (b′ x′ : List ℕ) → b′ ≡ b → x′ ≡ x → foundWith p 0 0 b′ x′ ≡ earlyBy c allowed l bits word
   at-once e b′ x′ f g =
       rw (rw word-read at e, f ∙ ap (λ (o : Quick.Outcome). o .bits) read, g ∙ word-read, ap (λ (o : Quick.Outcome). o .penalty) read)
 
-  pub by-search : tested (c .r) (c .m) l x ≡ false → (a : Searched) (bits′ word′ : List ℕ)
+  pub by-search : isSure (c .r) (c .m) l x ≡ false → (a : Searched) (bits′ word′ : List ℕ)
       → Search.told a bits′ word′ ≡ byAnswer allowed bits word (answer (c .m) (kinds (c .r) (c .m)) l allowed)
       → told (shortened a) bits′ word′ ≡ earlyBy c allowed l bits word
   by-search e a bits′ word′ f = rw (rw word-read at e) (shortened-told a bits′ word′ ∙ ap wordOnly f)

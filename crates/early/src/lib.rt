@@ -9,7 +9,7 @@ ghost use lib.IntN.{natAbs};
 ghost use lib.ListN.{length};
 ghost use Rattle.decoding.specs.Readings.{loss};
 ghost use Rattle.sure.specs.Sure.{largest, doubtAt, doubt};
-ghost use Rattle.sure.specs.Test.{tested};
+ghost use Rattle.sure.specs.Test.{isSure};
 ghost use Rattle.code.specs.Sound.{defaultAllowance};
 ghost use Rattle.code.specs.SoundInput.{SoundReadings};
 ghost use Rattle.early.specs.Outcome.{told, earlyBy, answering};
@@ -117,7 +117,7 @@ fn shortened(answer: Searched) -> Answered
 // Whether the sum along the word is below M times the code's distance, with the largest size as M.
 fn surely_right(code: Code, readings: &[i16], word: &[u8]) -> bool
     requires { ⌜ Testable code (now readings) (now word) ⌝ }
-    ensures { λ b. ⌜ b ≡ tested (code .r) (code .m) (now (readings .entry)) (now (word .entry)) ⌝ }
+    ensures { λ b. ⌜ b ≡ isSure (code .r) (code .m) (now (readings .entry)) (now (word .entry)) ⌝ }
 {
     let largest = largest_size(readings);
     doubt(largest, readings, word) < largest * (1u32 << (code.m - code.r))

@@ -6,6 +6,7 @@ pub mod ToldLaws
 pub mod AtOnce
 pub mod AtOnceLaws
 pub mod Lengths
+pub mod Reordered
 pub mod Unpacked
 pub mod Written
 pub mod WrittenLaws

@@ -9,12 +9,12 @@ use Rattle.decoding.specs.Quick.{quickWord}
 use Rattle.sure.specs.Sure.{largest, doubt, Sure}
 
 -- of a word x; never with M = 0, as nothing is below 0
-unfoldable pub tested : ℕ → ℕ → List ℤ → List ℕ → Bool
-tested r m l x = let M = largest l in ltb (doubt M l x) (M * 2 ^ (m - r))
+unfoldable pub isSure : ℕ → ℕ → List ℤ → List ℕ → Bool
+isSure r m l x = let M = largest l in ltb (doubt M l x) (M * 2 ^ (m - r))
 
 -- of the quick reading's word, in the set of ks
 abbrev pub passes : ℕ → ℕ → List ℕ → List ℤ → Bool
-passes r m ks l = tested r m l (quickWord m ks l)
+passes r m ks l = isSure r m l (quickWord m ks l)
 
 -- some word of the set has the property, for some M
 pub record SomeSure (r m : ℕ) (ks : List ℕ) (l : List ℤ) : Type 0 where

@@ -19,7 +19,7 @@ use Rattle.decoding.specs.Quick.{quickWord, quickBits, quickPenalty}
 use Rattle.decoding.specs.QuickLaws.{length-quick, bits-quick, length-quickBits, encoded-quick, quick-word}
 use Rattle.decoding.specs.TurnLaws.{length-turns, penalty-turns}
 use Rattle.sure.specs.Sure.{largest, doubt, Sure, Inside, SurelyRight}
-use Rattle.sure.specs.Test.{tested, passes, SomeSure}
+use Rattle.sure.specs.Test.{isSure, passes, SomeSure}
 use Rattle.sure.specs.LargestLaws.{within-largest, largest-sure}
 use Rattle.sure.specs.TurnedLaws.{largest-turned, sure-turned, turns-twice}
 use Rattle.sure.specs.SureLaws.{surely-right, quick-sure}
@@ -36,7 +36,7 @@ both-or-neither false false f g = refl
 module _ (r m : ℕ) (ks : List ℕ) (h : r ≤ m) (inside : Inside r m ks) where
   module _ (l : List ℤ) (long : length l ≡ 2 ^ m) where
     pub passes-sure : passes r m ks l ≡ true → Sure (largest l) r m l (quickWord m ks l)
-    unfolding tested
+    unfolding isSure
     passes-sure e =
         let M = largest l in
         let below = ltb-true (doubt M l (quickWord m ks l)) (M * 2 ^ (m - r)) e in
@@ -51,7 +51,7 @@ module _ (r m : ℕ) (ks : List ℕ) (h : r ≤ m) (inside : Inside r m ks) wher
     passes-right e = quick-sure (largest l) r m ks l h inside (passes-sure e)
 
     sure-passes : SomeSure r m ks l → passes r m ks l ≡ true
-    unfolding tested
+    unfolding isSure
     sure-passes s =
         let w = s .is-word in
         let sure = largest-sure (s .M) r m l (s .word) (word-length m ks (s .word) (inside .long) w) (s .sure) in

@@ -5,7 +5,7 @@ use Prim.Native.Nat.{ℕ, _-_, _*_, _^_, _%_}
 use native.Mathlib.Omega.{arith}
 use lib.Dec.{ltb}
 use Rattle.sure.specs.Sure.{doubt}
-use Rattle.sure.specs.Test.{tested}
+use Rattle.sure.specs.Test.{isSure}
 use Rattle.early.specs.TestedLaws.{summable, distance-made, bound-fits}
 use Rattle.early.proofs.surely_right.Statement.{statement}
 use Rattle.early.proofs.surely_right.Tie as tie
@@ -28,7 +28,7 @@ mul-result c =
     rw (distance-made (s .pre)) (record { fits = bound-fits (s .pre) (c .before .before .largest-size .ensures) })
 
 returns : tie.Need-returns
-unfolding tested
+unfolding isSure
 returns c =
     let s = c .before .before .before .before in
     let M = c .before .before .largest-size .ensures in
