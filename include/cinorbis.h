@@ -29,13 +29,14 @@ extern "C" {
 #endif
 
 /* Raised when a call is added or changed. */
-#define CINORBIS_VERSION 8
+#define CINORBIS_VERSION 9
 
 #define CINORBIS_LARGEST_M 8u
 #define CINORBIS_LARGEST_READING 2047
 /* The largest reading of a packed record, whose fields have 12 bits. */
 #define CINORBIS_LARGEST_RECORD_READING 2047
-#define CINORBIS_DEFAULT_ALLOWANCE 1000000u
+/* What the calls without an allowance of their own allow. A larger one never changes an answer or a tie (7) that was given. */
+#define CINORBIS_DEFAULT_ALLOWANCE 200000u
 /* Room for any word, and for the information bits of any code. */
 #define CINORBIS_LARGEST_N 256u
 /* The bytes of the longest record: its first, and 256 readings of 12 bits. */

@@ -113,7 +113,7 @@ static void search_refusals(void) {
     a = search(0, 1, tied, 2, contents(&gb), 1, contents(&gw), 2);
     CHECK(a.refusal == 0 && a.penalty == 0 && a.gap == 6, "%u %u %u", a.refusal, a.penalty, a.gap);
     end();
-    begin("the short call allows 1,000,000 visits");
+    begin("the short call allows 200,000 visits");
     int16_t l[256];
     int met = 0;
     for (int t = 0; t < 3; t++) {
@@ -122,7 +122,7 @@ static void search_refusals(void) {
         a = search(4, 8, l, 256, contents(&gb), 163, contents(&gw), 256);
         if (a.refusal == 6) {
             met++;
-            CHECK(a.visits == 1000000 && untouched(&gb) && untouched(&gw), "%u", a.visits);
+            CHECK(a.visits == 200000 && untouched(&gb) && untouched(&gw), "%u", a.visits);
         }
     }
     CHECK(met > 0, "no random reading of RM(4,8) ran out");

@@ -1,6 +1,8 @@
--- The rules' example: the bytes 21 00 5F FE 00 30 01 give its two lines. And the allowance that the program names is the short call's.
+-- The rules' example: the bytes 21 00 5F FE 00 30 01 give its two lines. And the program allows more visits than the short call.
 use mathlib.Core.Path.{_≡_, refl}
 use mathlib.Core.List.{[], _∷_}
+use Prim.Native.Nat.{_<_}
+use native.Mathlib.Omega.{arith}
 use Rattle.numbers.specs.Sums.{total, tabulate, sum}
 use Rattle.numbers.specs.Least.{least, without, next, firstWith}
 use Rattle.words.specs.Bits.{digit, ones}
@@ -21,5 +23,5 @@ pub example : output (0x21 ∷ 0x00 ∷ 0x5F ∷ 0xFE ∷ 0x00 ∷ 0x30 ∷ 0x01
 unfolding total tabulate sum least without next firstWith digit ones transform kind kinds allBits penalty penalties leastPenalty gap bestBits bestWord value walk walked answer made firstAbove unpacked partLength padOf headerOf bytesOf decimalWithin infoText figuresText answerLine refusedLine totalLine resultOf outputFrom output
 example = refl
 
-pub its-allowance : allowance ≡ defaultAllowance
-its-allowance = refl
+pub above-standing : defaultAllowance < allowance
+above-standing = omega arith

@@ -20,7 +20,7 @@ abbrev pub largestRecordReading : ℕ
 largestRecordReading = 2047
 
 abbrev pub defaultAllowance : ℕ
-defaultAllowance = 1000000
+defaultAllowance = 200000
 
 -- 0 ≤ r ≤ m ≤ 8
 pub record Sound (c : Code) : Type 0 where
