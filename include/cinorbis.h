@@ -190,7 +190,7 @@ CINORBIS_CALL uint32_t cinorbis_unpack(const uint8_t *part, size_t part_length, 
 CINORBIS_CALL uint32_t cinorbis_search_record(uint32_t allowed, const uint8_t *bytes, size_t bytes_length, uint8_t *bits,
                                               size_t bits_length, uint8_t *word, size_t word_length, cinorbis_numbers *numbers);
 
-/* ---- Turned position orders (§11)
+/* ---- Turned position orders (§14)
  *
  * A map of the n = 2^m positions is a table A of m by m bits, row by row (table[p * m + q]), and a row b of m bits: position j reads position
  * A*j + b, bits modulo 2. Row p of A gives bit p, column q reads bit q, bit 0 least. For m = 0 both are empty. These calls take m without r.

@@ -79,6 +79,8 @@ static void refusals_by_name(void) {
     named("a pad bit", cinorbis_record(pad, 3, &part), 9, CINORBIS_PAD);
     cinorbis_telegram telegram;
     cinorbis_numbers n;
+    static const uint8_t singular[1] = {0}, row[1] = {0};
+    named("a map that nothing undoes", cinorbis_undo_map(1, singular, 1, row, 1, bits, 1, word, 1, &n), 11, CINORBIS_MAP);
     for (int j = 0; j < 32; j++) readings[j] = -1;
     named("a telegram turned over", cinorbis_telegram_read(readings, 32, &telegram, &n), 13, CINORBIS_MARKER);
     named("a large tilt", cinorbis_telegram_write(0, 0, 1501, word, 32, &n), 14, CINORBIS_TILT);
