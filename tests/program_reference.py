@@ -1,4 +1,4 @@
-"""What the program must write for any bytes, from document 01 alone and sharing nothing with the crates: records, the walk by its text, and
+"""What the program must write for any bytes, from docs/RULES.md alone and sharing nothing with the crates: records, the walk by its text, and
 a list of all words where there are at most 2^12, with which the walk has to agree."""
 import functools
 

@@ -1,4 +1,4 @@
-/* Refusals and their order, with several faults at once; on refusal every buffer keeps its bytes, and the answer carries just what 01 says. */
+/* Refusals and their order, with several faults at once; on refusal every buffer keeps its bytes, and the answer carries just what the rules say. */
 #include "call.h"
 #include "check.h"
 #include "reference.h"

@@ -1,4 +1,4 @@
--- The layout of a packed record, fields to bytes and back (01, "Packed records and the program").
+-- The layout of a packed record, fields to bytes and back (docs/RULES.md, §7).
 -- Each field is a whole number of nibbles, four bits each: m one, r one, a reading three. All run most significant first, two nibbles to a byte.
 use mathlib.Core.Path.{_≡_}
 use mathlib.Core.List.{List, [], _∷_}

@@ -1,4 +1,4 @@
--- What the reader of packed records answers, as functions of the bytes handed in (01, "Packed records and the program").
+-- What the reader of packed records answers, as functions of the bytes handed in (docs/RULES.md, §7).
 use mathlib.Core.List.{List, [], _∷_}
 use mathlib.Core.Bool.{cond}
 use Prim.Native.Nat.{ℕ, suc, _-_, _/_, _%_}
@@ -43,7 +43,7 @@ unfoldable pub headerOf : List ℕ → Header
 headerOf [] = Refused Torn
 headerOf (first ∷ s) = headedBy (codeOf first) (first ∷ s)
 
--- the answer in 01's numbers: 0 for a record and the refusal's number else, the values that it carries, and r and m of a record
+-- the answer in the rules' numbers: 0 for a record and the refusal's number else, the values that it carries, and r and m of a record
 pub record HeaderOutcome : Type 0 where
   pub carry : Carried
   pub r : ℕ
