@@ -29,7 +29,7 @@ extern "C" {
 #endif
 
 /* Raised when a call is added or changed. */
-#define CINORBIS_VERSION 7
+#define CINORBIS_VERSION 8
 
 #define CINORBIS_LARGEST_M 8u
 #define CINORBIS_LARGEST_READING 2047
@@ -97,12 +97,12 @@ typedef struct {
     uint64_t place;   /* under 4 and 5 */
 } cinorbis_numbers;
 
-/* The record that some bytes begin with. All 0 when refused, but for the place under 4. */
+/* The record that some bytes begin with. All 0 when refused. */
 typedef struct {
     uint64_t r;
     uint64_t m;
     uint64_t length; /* of the packed part, which starts at the record's second byte; the next record starts at 1 + length */
-    uint64_t place;  /* under 4: the number of the reading */
+    uint64_t place;  /* 0: no record is refused as 4 */
 } cinorbis_part;
 
 /* What writing a record gives. Both 0 when refused, but for the place under 4. */
@@ -168,9 +168,9 @@ CINORBIS_CALL uint32_t cinorbis_early_within(uint32_t r, uint32_t m, uint32_t al
                                              uint8_t *bits, size_t bits_length, uint8_t *word, size_t word_length,
                                              cinorbis_numbers *numbers);
 
-/* ---- Packed records (§7) */
+/* ---- Packed records (§7). A packed -2048, the bottom rail, is read as -2047. */
 
-/* The record that the bytes begin with: its code and its packed part. Refuses 1, 8, 9, 4. Promise: record::header_of, record::packed. */
+/* The record that the bytes begin with: its code and its packed part. Refuses 1, 8, 9; never 4. Promise: record::header_of, record::packed. */
 CINORBIS_CALL uint32_t cinorbis_record(const uint8_t *bytes, size_t bytes_length, cinorbis_part *part);
 
 /* Writes a record into a buffer, from a place on. In: n readings, none beyond the largest of a record. Out: the record's bytes in the buffer, all
@@ -184,7 +184,7 @@ CINORBIS_CALL uint32_t cinorbis_write_record(uint32_t r, uint32_t m, size_t plac
 CINORBIS_CALL uint32_t cinorbis_unpack(const uint8_t *part, size_t part_length, int16_t *readings, size_t readings_length,
                                        cinorbis_numbers *numbers);
 
-/* The search of the record that the bytes begin with. Out as cinorbis_search_within. Refuses 1, 8, 9, 3, 4, then 6 or 7.
+/* The search of the record that the bytes begin with. Out as cinorbis_search_within. Refuses 1, 8, 9, 3, then 6 or 7; never 4.
  * Promise: record::search_record. */
 CINORBIS_CALL uint32_t cinorbis_search_record(uint32_t allowed, const uint8_t *bytes, size_t bytes_length, uint8_t *bits,
                                               size_t bits_length, uint8_t *word, size_t word_length, cinorbis_numbers *numbers);
