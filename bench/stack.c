@@ -21,6 +21,11 @@ static void *search(void *a) {
     return a;
 }
 
+static void *early(void *a) {
+    refusal = cinorbis_early(4, 8, readings, 256, bits, 163, word, 256, &numbers);
+    return a;
+}
+
 static void *quick(void *a) {
     refusal = cinorbis_quick(4, 8, readings, 256, bits, 163, word, 256, &numbers);
     return a;
@@ -68,11 +73,12 @@ int main(void) {
     if (posix_memalign((void **)&stack, 4096, ROOM)) return 1;
     for (int j = 0; j < 256; j++) readings[j] = (int16_t)((j * 7919) % 4095 - 2047);
     ground = used(nothing);
-    bounded("encode", encode, 0, 512);
+    bounded("encode", encode, 0, 640);
     bounded("inverse", inverse, 0, 800);
     bounded("quick reading", quick, 0, 2600);
     /* the readings are of no word: the walk goes to its end and runs out of visits */
     bounded("search", search, 6, 106000);
+    bounded("early answer", early, 6, 107000);
     printf("%d passed, %d failed\n", passed, failed);
     return failed != 0;
 }

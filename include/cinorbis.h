@@ -29,7 +29,7 @@ extern "C" {
 #endif
 
 /* Raised when a call is added or changed. */
-#define CINORBIS_VERSION 5
+#define CINORBIS_VERSION 8
 
 #define CINORBIS_LARGEST_M 8u
 #define CINORBIS_LARGEST_READING 2047
@@ -51,7 +51,7 @@ extern "C" {
 /* Why a call refused (§6). Where several apply a call gives the one that it checks first: the order beside each call. */
 enum cinorbis_refusal {
     CINORBIS_DONE = 0,
-    CINORBIS_PARAMETERS = 1,    /* m > 8 or r > m */
+    CINORBIS_PARAMETERS = 1,    /* m > 8 or r > m (maps of positions: only m > 8) */
     CINORBIS_INPUT_LENGTH = 2,  /* an input's length is not n (information bits: k) */
     CINORBIS_OUTPUT_LENGTH = 3, /* an output's length is not n (information bits: k) */
     CINORBIS_ENTRY = 4,         /* a reading beyond the largest, or a bit byte above 1; place: the lowest such entry */
@@ -60,6 +60,7 @@ enum cinorbis_refusal {
     CINORBIS_TIED = 7,          /* search: two words share the least penalty; penalty and visits are given */
     CINORBIS_TORN = 8,          /* record: it ends before its last byte */
     CINORBIS_PAD = 9,           /* record: a pad bit is 1 */
+    CINORBIS_MAP = 11,          /* maps of positions: a byte of a table or row is above 1, or no map undoes the map */
     CINORBIS_MARKER = 13,       /* telegram: its marker is set, as when the link is turned over */
     CINORBIS_TILT = 14,         /* telegram: the tilt is above 1500 */
     CINORBIS_ZERO_TILT = 15,    /* telegram: a tilt of zero with direction 1 */
@@ -79,6 +80,7 @@ static inline const char *cinorbis_refusal_text(uint32_t refusal) {
     case CINORBIS_TIED: return "tied: two words share the least penalty";
     case CINORBIS_TORN: return "the record ends before its last byte";
     case CINORBIS_PAD: return "a pad bit of the record is 1";
+    case CINORBIS_MAP: return "no map of positions: a byte is above 1, or nothing undoes it";
     case CINORBIS_MARKER: return "the telegram's marker is set: the link is turned over";
     case CINORBIS_TILT: return "the telegram's tilt is above 15.00 degrees";
     case CINORBIS_ZERO_TILT: return "the telegram has a direction and no tilt";
@@ -95,12 +97,12 @@ typedef struct {
     uint64_t place;   /* under 4 and 5 */
 } cinorbis_numbers;
 
-/* The record that some bytes begin with. All 0 when refused, but for the place under 4. */
+/* The record that some bytes begin with. All 0 when refused. */
 typedef struct {
     uint64_t r;
     uint64_t m;
     uint64_t length; /* of the packed part, which starts at the record's second byte; the next record starts at 1 + length */
-    uint64_t place;  /* under 4: the number of the reading */
+    uint64_t place;  /* 0: no record is refused as 4 */
 } cinorbis_part;
 
 /* What writing a record gives. Both 0 when refused, but for the place under 4. */
@@ -118,45 +120,57 @@ typedef struct {
 
 /* ---- Lengths, for a caller who has to lend memory: 0 where the code, or the first byte of a record, is refused */
 
-/* n = 2^m. Promise: length. */
+/* n = 2^m. Promise: pumpbox::cinorbis_length. */
 CINORBIS_CALL size_t cinorbis_length(uint32_t m);
 
-/* k, the number of information bits of RM(r,m): (m choose 0) + .. + (m choose r). Promise: dimension. */
+/* k, the number of information bits of RM(r,m): (m choose 0) + .. + (m choose r). Promise: pumpbox::cinorbis_dimension. */
 CINORBIS_CALL size_t cinorbis_dimension(uint32_t r, uint32_t m);
 
-/* How many bytes a record has, told by its first byte (§7). A number above 255 is no byte: 0. Promise: record_length. */
+/* How many bytes a record has, told by its first byte (§7). A number above 255 is no byte: 0. Promise: record::record_length. */
 CINORBIS_CALL size_t cinorbis_record_length(uint32_t first_byte);
 
 /* ---- Words (§1) */
 
-/* In: k information bits. Out: word, n bits. Refuses 1, 2, 3, 4. Promise: encode. */
+/* In: k information bits. Out: word, n bits. Refuses 1, 2, 3, 4. Promise: encode::encode. */
 CINORBIS_CALL uint32_t cinorbis_encode(uint32_t r, uint32_t m, const uint8_t *bits, size_t bits_length, uint8_t *word,
                                        size_t word_length, cinorbis_numbers *numbers);
 
-/* In: a word of n bits. Out: its k information bits. Refuses 1, 2, 3, 4, 5. Promise: inverse. */
+/* In: a word of n bits. Out: its k information bits. Refuses 1, 2, 3, 4, 5. Promise: encode::inverse. */
 CINORBIS_CALL uint32_t cinorbis_inverse(uint32_t r, uint32_t m, const uint8_t *word, size_t word_length, uint8_t *bits,
                                         size_t bits_length, cinorbis_numbers *numbers);
 
 /* ---- From readings to words (§3 to §5) */
 
 /* The quick reading, which may miss the best word. In: n readings. Out: k bits, a word of n bits, its penalty.
- * Refuses 1, 2, 3, 4. Promise: quick. */
+ * Refuses 1, 2, 3, 4. Promise: quick::quick. */
 CINORBIS_CALL uint32_t cinorbis_quick(uint32_t r, uint32_t m, const int16_t *readings, size_t readings_length, uint8_t *bits,
                                       size_t bits_length, uint8_t *word, size_t word_length, cinorbis_numbers *numbers);
 
 /* The search for the best word with the default allowance. In: n readings. Out: the k bits and the word of least penalty, that penalty,
- * the gap (above 0) and the visits. Refuses 1, 2, 3, 4, then 6 or 7. Promise: search. */
+ * the gap (above 0) and the visits. Refuses 1, 2, 3, 4, then 6 or 7. Promise: search::search. */
 CINORBIS_CALL uint32_t cinorbis_search(uint32_t r, uint32_t m, const int16_t *readings, size_t readings_length, uint8_t *bits,
                                        size_t bits_length, uint8_t *word, size_t word_length, cinorbis_numbers *numbers);
 
-/* The same with an allowance of visits, any number. Promise: search_within. */
+/* The same with an allowance of visits, any number. Promise: search::search_within. */
 CINORBIS_CALL uint32_t cinorbis_search_within(uint32_t r, uint32_t m, uint32_t allowed, const int16_t *readings,
                                               size_t readings_length, uint8_t *bits, size_t bits_length, uint8_t *word,
                                               size_t word_length, cinorbis_numbers *numbers);
 
-/* ---- Packed records (§7) */
+/* The early answer: the quick reading's word at once where it is surely the best one (§4, "Surely right", with the largest size as M), else by the
+ * search with the default allowance. In: n readings. Out: the k bits and the word of least penalty, and that penalty; gap and visits are 0.
+ * Refuses 1, 2, 3, 4, then 6 or 7 where the search was needed, each as cinorbis_search gives it. It pays where most words arrive clean and the readings
+ * are clipped near the word's own size (README.md, "Speed"). Promise: early. */
+CINORBIS_CALL uint32_t cinorbis_early(uint32_t r, uint32_t m, const int16_t *readings, size_t readings_length, uint8_t *bits,
+                                      size_t bits_length, uint8_t *word, size_t word_length, cinorbis_numbers *numbers);
 
-/* The record that the bytes begin with: its code and its packed part. Refuses 1, 8, 9, 4. Promise: header_of, packed. */
+/* The same with an allowance of visits, any number: with 0 it never walks. Promise: early_within. */
+CINORBIS_CALL uint32_t cinorbis_early_within(uint32_t r, uint32_t m, uint32_t allowed, const int16_t *readings, size_t readings_length,
+                                             uint8_t *bits, size_t bits_length, uint8_t *word, size_t word_length,
+                                             cinorbis_numbers *numbers);
+
+/* ---- Packed records (§7). A packed -2048, the bottom rail, is read as -2047. */
+
+/* The record that the bytes begin with: its code and its packed part. Refuses 1, 8, 9; never 4. Promise: record::header_of, record::packed. */
 CINORBIS_CALL uint32_t cinorbis_record(const uint8_t *bytes, size_t bytes_length, cinorbis_part *part);
 
 /* Writes a record into a buffer, from a place on. In: n readings, none beyond the largest of a record. Out: the record's bytes in the buffer, all
@@ -166,14 +180,43 @@ CINORBIS_CALL uint32_t cinorbis_write_record(uint32_t r, uint32_t m, size_t plac
                                              uint8_t *buffer, size_t buffer_length, cinorbis_written *written);
 
 /* The readings of a packed part, as cinorbis_record gives it. In: the part's bytes. Out: its n readings; the numbers are all 0. Refuses 2
- * for a part of a length that no record has, 3 for a buffer of another length than its readings. Promise: unpack. */
+ * for a part of a length that no record has, 3 for a buffer of another length than its readings. Promise: record::unpack. */
 CINORBIS_CALL uint32_t cinorbis_unpack(const uint8_t *part, size_t part_length, int16_t *readings, size_t readings_length,
                                        cinorbis_numbers *numbers);
 
-/* The search of the record that the bytes begin with. Out as cinorbis_search_within. Refuses 1, 8, 9, 3, 4, then 6 or 7.
- * Promise: search_record. */
+/* The search of the record that the bytes begin with. Out as cinorbis_search_within. Refuses 1, 8, 9, 3, then 6 or 7; never 4.
+ * Promise: record::search_record. */
 CINORBIS_CALL uint32_t cinorbis_search_record(uint32_t allowed, const uint8_t *bytes, size_t bytes_length, uint8_t *bits,
                                               size_t bits_length, uint8_t *word, size_t word_length, cinorbis_numbers *numbers);
+
+/* ---- Turned position orders (§11)
+ *
+ * A map of the n = 2^m positions is a table A of m by m bits, row by row (table[p * m + q]), and a row b of m bits: position j reads position
+ * A*j + b, bits modulo 2. Row p of A gives bit p, column q reads bit q, bit 0 least. For m = 0 both are empty. These calls take m without r.
+ * Some map undoes the map, or it is refused as 11. If a word is the best for some readings, the reordered word is the best for the reordered
+ * readings, with the same penalty and gap; information bits and visits may differ. */
+
+/* In: a map, and n readings. Out: n readings in its order. Refuses 1, 2, 3, 11, 4. Promise: reorder. */
+CINORBIS_CALL uint32_t cinorbis_reorder(uint32_t m, const uint8_t *table, size_t table_length, const uint8_t *row, size_t row_length,
+                                        const int16_t *readings, size_t readings_length, int16_t *out, size_t out_length,
+                                        cinorbis_numbers *numbers);
+
+/* The same on n bits. Promise: reorder_word. */
+CINORBIS_CALL uint32_t cinorbis_reorder_word(uint32_t m, const uint8_t *table, size_t table_length, const uint8_t *row, size_t row_length,
+                                             const uint8_t *word, size_t word_length, uint8_t *out, size_t out_length,
+                                             cinorbis_numbers *numbers);
+
+/* In: a map. Out: the map that undoes it. Refuses 1, 2, 3, 11. Promise: undo_map. */
+CINORBIS_CALL uint32_t cinorbis_undo_map(uint32_t m, const uint8_t *table, size_t table_length, const uint8_t *row, size_t row_length,
+                                         uint8_t *table_out, size_t table_out_length, uint8_t *row_out, size_t row_out_length,
+                                         cinorbis_numbers *numbers);
+
+/* In: two maps. Out: the map that reorders as the first and then the second do, (A1*A2, A1*b2 + b1). Refuses 1, 2, 3, 11.
+ * Promise: product_map. */
+CINORBIS_CALL uint32_t cinorbis_product_map(uint32_t m, const uint8_t *table1, size_t table1_length, const uint8_t *row1, size_t row1_length,
+                                            const uint8_t *table2, size_t table2_length, const uint8_t *row2, size_t row2_length,
+                                            uint8_t *table_out, size_t table_out_length, uint8_t *row_out, size_t row_out_length,
+                                            cinorbis_numbers *numbers);
 
 /* ---- Tilt telegrams (§10): a word of RM(2,5) that carries cylinder, direction and tilt, and a marker. If the link is turned over, so that every
  * reading is negated, the reader never shows a tilt: it gives 13 exactly where it would have shown the telegram. */

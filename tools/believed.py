@@ -80,11 +80,16 @@ def words(text):
 
 
 def contracts(path):
-    """The definitions that the contracts of a file's public functions cite."""
+    """The definitions that the contracts of a file's public calls cite: of a module that the crate keeps to itself, only its exports to C.
+    A function that asks something of its caller is an inner one."""
     text = read(path)
+    module = os.path.basename(path)[: -len(".rt")]
+    whole = module == "lib" or re.search(rf"^pub mod {module};", read(os.path.join(os.path.dirname(path), "lib.rt")), re.M)
     names, modules = imports(text, "ghost ")
     roots = []
-    for contract in re.findall(r"^pub (?:extern \"C\" )?fn \w+(.*?)^\{", text, re.M | re.S):
+    for contract in re.findall(rf"^pub (?:extern \"C\" ){'?' if whole else ''}fn \w+(.*?)^\{{", text, re.M | re.S):
+        if "requires" in contract:
+            continue
         roots += [meant(name, modules.get(short) if short else names.get(name)) for short, name in words(contract)]
     return [root for root in roots if root]
 

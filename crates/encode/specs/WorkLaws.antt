@@ -9,7 +9,7 @@ use Rattle.numbers.specs.Sums.{sum}
 use Rattle.numbers.specs.Lent.{lent-again}
 use Rattle.words.specs.Bits.{Bits}
 use Rattle.words.specs.Word.{transform}
-use Rattle.words.specs.Kinds.{kinds, dimension, fill, encoded}
+use Rattle.words.specs.Kinds.{kinds, dimension, fill}
 use Rattle.words.specs.Inverse.{takenBack}
 use Rattle.words.specs.TransformLaws.{length-transform}
 use Rattle.words.specs.KindLaws.{length-kinds, sum-kinds, bits-kinds}
@@ -23,6 +23,10 @@ module _ (n : ℕ) (z k : List ℕ) (long : length k ≡ length (midOf 0 (n - 0)
   pub still-within : n ≤ length z → n ≤ length (putMid 0 (n - 0) z k)
   still-within h = omega (arith, same-len-mid 0 (n - 0) z k long)
 
+-- the row of information bits is transformed
+pub filled-asked : (r m : ℕ) (u bits : List ℕ) → u ≡ fill (kinds r m) bits → Bits bits → (length u ≡ 2 ^ m) × Bits u
+filled-asked r m u bits f b = rw f (length-fill (kinds r m) bits ∙ length-kinds r m, bits-fill (kinds r m) bits b)
+
 module _ (r m n : ℕ) (z k : List ℕ) (is : k ≡ kinds r m) (e : n ≡ 2 ^ m) where
   -- it is read again as the kinds
   pub kinds-read : midOf 0 (n - 0) (putMid 0 (n - 0) z k) ≡ kinds r m
@@ -33,16 +37,9 @@ module _ (r m n : ℕ) (z k : List ℕ) (is : k ≡ kinds r m) (e : n ≡ 2 ^ m)
   fill-asked bits word b w =
       rw kinds-read (w ∙ sym (length-kinds r m), omega (arith, sum-kinds r m))
 
-  -- the row that they fill, and its word
-  module _ (u bits : List ℕ) (f : u ≡ fill (midOf 0 (n - 0) (putMid 0 (n - 0) z k)) bits) where
-    is-filled : u ≡ fill (kinds r m) bits
-    is-filled = f ∙ ap (λ (ks : List ℕ). fill ks bits) kinds-read
-
-    pub filled-asked : Bits bits → (length u ≡ 2 ^ m) × Bits u
-    filled-asked b = rw is-filled (length-fill (kinds r m) bits ∙ length-kinds r m, bits-fill (kinds r m) bits b)
-
-    pub filled-word : (x : List ℕ) → x ≡ transform m u → x ≡ encoded m (kinds r m) bits
-    filled-word x t = t ∙ ap (transform m) is-filled
+  -- the row that they fill
+  pub filled-row : (u bits : List ℕ) → u ≡ fill (midOf 0 (n - 0) (putMid 0 (n - 0) z k)) bits → u ≡ fill (kinds r m) bits
+  filled-row u bits f = f ∙ ap (λ (ks : List ℕ). fill ks bits) kinds-read
 
   -- the row of a word, in a second such array
   module _ (x u : List ℕ) (long : length x ≡ 2 ^ m) (t : u ≡ transform m x) where

@@ -6,7 +6,7 @@ ghost use mathlib.Core.Path.{_≡_};
 ghost use lib.ListN.{length};
 ghost use Rattle.numbers.specs.Sums.{sum};
 ghost use Rattle.words.specs.Bits.{Bits};
-ghost use Rattle.words.specs.Kinds.{kinds, encoded};
+ghost use Rattle.words.specs.Kinds.{kinds, fill, encoded};
 ghost use Rattle.words.specs.Inverse.{takenBack};
 ghost use Rattle.code.specs.SoundInput.{SoundInput};
 ghost use Rattle.encode.specs.Outcome.{told, encoding, inverting, takingBack};
@@ -60,16 +60,28 @@ pub fn inverse(r: u32, m: u32, word: &[u8], bits: &mut [u8]) -> Encoded
     take_back(code, word, bits)
 }
 
+// The row u of the information bits. The few kinds of a short row are written out for it.
+fn put_row(code: Code, bits: &[u8], row: &mut [u8])
+    requires { ⌜ SoundInput code (length (now bits)) (length (now row)) (Bits (now bits)) ⌝ }
+    ensures { λ _. ⌜ now (row .exit) ≡ fill (kinds (code .r) (code .m)) (now (bits .entry)) ⌝ }
+{
+    if 3 <= code.m {
+        half::fill_code(code.r, code.m, bits, row);
+        return;
+    }
+    let mut kinds = [0u8; 8];
+    let n = code.length();
+    code::put_kinds(code, &mut kinds[0..n]);
+    half::fill(&kinds[0..n], bits, row);
+}
+
 // The row u goes into the buffer, whatever it held, and is transformed there.
 fn put_word(code: Code, bits: &[u8], word: &mut [u8])
     requires { ⌜ SoundInput code (length (now bits)) (length (now word)) (Bits (now bits)) ⌝ }
     ensures { λ _. ⌜ now (word .exit)
         ≡ encoded (code .m) (kinds (code .r) (code .m)) (now (bits .entry)) ⌝ }
 {
-    let mut kinds = [0u8; 256];
-    let n = code.length();
-    code::put_kinds(code, &mut kinds[0..n]);
-    half::fill(&kinds[0..n], bits, word);
+    put_row(code, bits, word);
     half::transform(word, code.m as usize);
 }
 

@@ -6,4 +6,6 @@ pub mod LayerLaws
 pub mod Eight
 pub mod EightLaws
 pub mod FillLaws
+pub mod EightKinds
+pub mod EightKindsLaws
 pub mod Takeable

@@ -1,18 +1,19 @@
 // On lent bytes: fold, the in-place transform, filling a row with information bits and taking
 // them back.
 ghost use mathlib.Core.Path.{_≡_};
-ghost use Prim.Native.Nat.{_+_, _*_, _^_, _≤_, _<_};
+ghost use Prim.Native.Nat.{_+_, _*_, _-_, _^_, _≤_, _<_};
 ghost use mathlib.Core.List.{_++_};
 ghost use lib.ListN.{length, drop};
 ghost use Rattle.numbers.specs.Sums.{sum};
 ghost use Rattle.words.specs.Bits.{Bits};
 ghost use Rattle.words.specs.Word.{transform};
-ghost use Rattle.words.specs.Kinds.{fill, pick};
+ghost use Rattle.words.specs.Kinds.{kinds, fill, pick};
 ghost use Rattle.words.specs.Inverse.{firstFrozenOne};
 ghost use Rattle.code.specs.Sound.{largestM};
 ghost use Rattle.half.specs.Fold.{folded};
 ghost use Rattle.half.specs.Layers.{onFront, blocks, Steps, layer, layers};
 ghost use Rattle.half.specs.Eight.{packed, unpacked, bytesAdded, pairsAdded, foursAdded};
+ghost use Rattle.half.specs.EightKinds.{eightKinds, Fillable};
 ghost use Rattle.half.specs.Takeable.{Takeable};
 
 // Adds the second h bits of a word into its first h, modulo 2; the word may go on after them.
@@ -187,6 +188,59 @@ pub fn fill(kinds: &[u8], bits: &[u8], row: &mut [u8])
             used += 1;
         }
         i += 1;
+    }
+}
+
+// Eight indices of which those with d ones or more carry information; how many bits they take.
+// The kinds are constants, so that the compiler makes straight code of each arm.
+fn fill_eight(d: u32, bits: &[u8], row: &mut [u8]) -> usize
+    requires { ⌜ (length (now row) ≡ 8) × (sum (eightKinds d) ≤ length (now bits)) ⌝ }
+    ensures { λ taken. ⌜ (now (row .exit) ≡ fill (eightKinds d) (now (bits .entry)))
+        × (taken ≡ sum (eightKinds d)) ⌝ }
+{
+    match d {
+        0 => {
+            fill(&[1, 1, 1, 1, 1, 1, 1, 1], bits, row);
+            8
+        }
+        1 => {
+            fill(&[0, 1, 1, 1, 1, 1, 1, 1], bits, row);
+            7
+        }
+        2 => {
+            fill(&[0, 0, 0, 1, 0, 1, 1, 1], bits, row);
+            4
+        }
+        3 => {
+            fill(&[0, 0, 0, 0, 0, 0, 0, 1], bits, row);
+            1
+        }
+        _ => {
+            fill(&[0, 0, 0, 0, 0, 0, 0, 0], bits, row);
+            0
+        }
+    }
+}
+
+fn still_needed(need: u32, ones: u32) -> u32
+    ensures { λ d. ⌜ d ≡ need - ones ⌝ }
+{
+    if need <= ones { 0 } else { need - ones }
+}
+
+// The row u of RM(r,m), eight indices at a time: the ones of a block's start are spared.
+pub fn fill_code(r: u32, m: u32, bits: &[u8], row: &mut [u8])
+    requires { ⌜ Fillable r m (now bits) (now row) ⌝ }
+    ensures { λ _. ⌜ now (row .exit) ≡ fill (kinds r m) (now (bits .entry)) ⌝ }
+{
+    let n = row.len();
+    let mut s = 0;
+    let mut used = 0;
+    while s < n {
+        let d = still_needed(m - r, usize::count_ones(s));
+        let e = s + 8;
+        used += fill_eight(d, &bits[used..], &mut row[s..e]);
+        s = e;
     }
 }
 

@@ -1,26 +1,21 @@
-// The walk's memory: the value at the next index, a bit put on the path and taken back.
+// The walk's memory: the value at the next index of the path. The path's bits stand in path, and
+// one scratch array holds the rows of the blocks that lead to an index. The word of the block
+// before a row is made where the row needs it.
 ghost use mathlib.Core.Path.{_≡_};
-ghost use mathlib.Core.List.{_++_, _∷_, []};
-ghost use Prim.Native.Nat.{_+_, _^_, _≤_, _<_};
-ghost use lib.ListN.{length, take};
+ghost use Prim.Native.Nat.{_+_, _-_, _^_, _%_, _≤_, _<_, max};
+ghost use lib.ListN.{length, take, drop};
 ghost use Rattle.numbers.specs.Lowest.{LowestOne};
 ghost use Rattle.words.specs.Bits.{Bits};
+ghost use Rattle.words.specs.Word.{transform};
 ghost use Rattle.decoding.specs.Readings.{sizes};
-ghost use Rattle.rows.specs.Rows.{rowOf};
-ghost use Rattle.memory.specs.Memory.{pathOf, StandsFor, StandsBefore};
 ghost use Rattle.decoding.specs.Walk.{value};
-ghost use Rattle.memory.specs.Blocks.{joined, parted};
-ghost use Rattle.memory.specs.Ready.{
-  BlocksReady,
-  RowReady,
-  RowsMade,
-  TopReady,
-  ValueReady,
-};
+ghost use Rattle.rows.specs.Rows.{rowOf, withRow};
+ghost use Rattle.memory.specs.Memory.{below, newRow, remade, Arrays, Made, Stands};
+ghost use Rattle.memory.specs.Memory.{Highest, LowReady, RowsReady, Top, ValueReady};
 
 // 2^m, the length of a row.
 fn power(m: usize) -> usize
-    requires { ⌜ m ≤ 8 ⌝ }
+    requires { ⌜ 2 ^ m ≤ 256 ⌝ }
     ensures { λ n. ⌜ n ≡ 2 ^ m ⌝ }
 {
     1usize << m
@@ -34,148 +29,305 @@ fn lowest_one(i: usize) -> usize
     usize::trailing_zeros(i) as usize
 }
 
-// Puts together to words the blocks of 2, 4, .. 2^b bytes that end before e.
-fn join_blocks(half: &mut [u8], e: usize, b: usize)
-    requires { ⌜ BlocksReady e b (now half) ⌝ }
-    ensures { λ _. ⌜ now (half .exit) ≡ joined e b (now (half .entry)) ⌝ }
+// The place of the highest one of x, or 0.
+fn highest_one(x: usize) -> usize
+    ensures { λ t. ⌜ Highest x t ⌝ }
 {
-    let mut t = 0;
-    while t < b {
-        let h = power(t);
-        half::fold(&mut half[e - h - h..e], h);
-        t += 1;
-    }
+    63 - usize::leading_zeros(x | 1) as usize
 }
 
-// Takes the same blocks apart, the largest first.
-fn part_blocks(half: &mut [u8], e: usize, b: usize)
-    requires { ⌜ BlocksReady e b (now half) ⌝ }
-    ensures { λ _. ⌜ now (half .exit) ≡ parted e b (now (half .entry)) ⌝ }
+fn greater(a: usize, b: usize) -> usize
+    ensures { λ c. ⌜ c ≡ max a b ⌝ }
 {
-    let mut t = b;
-    while 0 < t {
-        t -= 1;
-        let h = power(t);
-        half::fold(&mut half[e - h - h..e], h);
-    }
+    if a < b { b } else { a }
 }
 
-// Puts the bit of index i on the path.
-pub fn put(half: &mut [u8; 256], m: usize, i: usize, bit: u8)
-    requires { ⌜ (m ≤ 8) × (i < 2 ^ m) × (bit < 2) × Bits (now half) ⌝ }
-    ensures { λ _. ⌜
-        (pathOf m (i + 1) (take (2 ^ m) (now (half .exit)))
-        ≡ pathOf m i (take (2 ^ m) (now (half .entry))) ++ bit ∷ [])
-        × Bits (now (half .exit)) ⌝ }
+// Of the rows that stand for index was, the highest that has to be made again for index i: of a
+// block that does not hold both, or that starts at i, where a bit may have changed before it.
+fn top(m: usize, was: usize, i: usize) -> usize
+    requires { ⌜ (0 < m) × (2 ^ m ≤ 256) × (was < 2 ^ m) × (i < 2 ^ m) ⌝ }
+    ensures { λ t. ⌜ Top m was i t ⌝ }
 {
-    half[i] = bit;
-    let e = i + 1;
-    let b = lowest_one(e);
-    join_blocks(half, e, b);
+    greater(highest_one(was ^ i), lowest_one(i | power(m - 1)))
 }
 
-// Takes the bit of index i back.
-pub fn take_back(half: &mut [u8; 256], m: usize, i: usize)
-    requires { ⌜ (m ≤ 8) × (i < 2 ^ m) × Bits (now half) ⌝ }
-    ensures { λ _. ⌜
-        (pathOf m i (take (2 ^ m) (now (half .exit)))
-        ≡ take i (pathOf m (i + 1) (take (2 ^ m) (now (half .entry)))))
-        × Bits (now (half .exit)) ⌝ }
+// The word of the h bits that end before e.
+fn left_word(path: &[u8], word: &mut [u8], e: usize, h: usize, t: usize)
+    requires { ⌜ (h ≤ e) × (e ≤ length (now path)) × (h ≤ length (now word)) × (h ≡ 2 ^ t)
+        × Bits (now path) ⌝ }
+    ensures { λ _. ⌜ take h (now (word .exit))
+        ≡ transform t (take h (drop (e - h) (now (path .entry)))) ⌝ }
 {
-    let e = i + 1;
-    let b = lowest_one(e);
-    part_blocks(half, e, b);
+    half::put_row(&path[e - h..e], &mut word[0..h], t);
 }
 
-// Makes the rows below the row of 2^m sums stand for index i of the path in it.
-fn make_rows(rows: &mut [i32], half: &[u8], m: usize, i: usize)
-    requires { ⌜ RowReady m i (now rows) (now half) ⌝ }
-    ensures { λ _. ⌜
-        RowsMade m (pathOf m i (now (half .entry))) (now (rows .entry)) (now (rows .exit)) ⌝ }
+// The same of two bits, by straight code.
+fn word_of_2(path: &[u8], word: &mut [u8], e: usize)
+    requires { ⌜ (2 ≤ e) × (e ≤ length (now path)) × (2 ≤ length (now word))
+        × Bits (now path) ⌝ }
+    ensures { λ _. ⌜ take 2 (now (word .exit))
+        ≡ transform 1 (take 2 (drop (e - 2) (now (path .entry)))) ⌝ }
 {
-    if m == 0 {
-        return;
-    }
-    let h = half.len() / 2;
-    if i < h {
-        rows::lower_row(rows, h);
-        make_rows(rows, &half[0..h], m - 1, i);
-        return;
-    }
-    rows::upper_row(rows, h, half);
-    make_rows(rows, &half[h..], m - 1, i - h);
+    let b = path[e - 1];
+    let a = (path[e - 2] + b) % 2;
+    word[0] = a;
+    word[1] = b;
 }
 
-// Makes all rows stand for index i of the path.
-fn make_all(readings: &[i16], rows: &mut [i32], half: &[u8], m: usize, i: usize)
-    requires { ⌜ TopReady m i (now readings) (now rows) (now half) ⌝ }
-    ensures { λ _. ⌜ StandsFor m (now (readings .entry)) i (now (half .entry)) (now (rows .exit)) ⌝ }
+// And of four.
+fn word_of_4(path: &[u8], word: &mut [u8], e: usize)
+    requires { ⌜ (4 ≤ e) × (e ≤ length (now path)) × (4 ≤ length (now word))
+        × Bits (now path) ⌝ }
+    ensures { λ _. ⌜ take 4 (now (word .exit))
+        ≡ transform 2 (take 4 (drop (e - 4) (now (path .entry)))) ⌝ }
 {
-    let n = readings.len();
-    let h = n / 2;
-    if i < h {
-        rows::lower_top(readings, rows, h);
-        make_rows(rows, &half[0..h], m - 1, i);
-        return;
-    }
-    rows::upper_top(readings, rows, h, half);
-    make_rows(rows, &half[h..n], m - 1, i - h);
+    let q = path[e - 3];
+    let d = path[e - 1];
+    let c = (path[e - 2] + d) % 2;
+    let b = (q + d) % 2;
+    let a = ((path[e - 4] + q) % 2 + c) % 2;
+    word[0] = a;
+    word[1] = b;
+    word[2] = c;
+    word[3] = d;
 }
 
-// Makes the rows below the row of 2^m sums stand for its first index.
-fn lower_rows(rows: &mut [i32], m: usize)
-    requires { ⌜ (m ≤ 8) × (2 ^ m + 2 ^ m ≤ length (now rows))
-        × (sizes (rowOf (2 ^ m) (now rows)) < 2 ^ 31) ⌝ }
-    ensures { λ _. ⌜ RowsMade m [] (now (rows .entry)) (now (rows .exit)) ⌝ }
+// The row of 2^t sums for index i, from the row of twice as many.
+fn row(rows: &mut [i32], path: &[u8], word: &mut [u8], t: usize, i: usize)
+    requires { ⌜ (2 ^ t + 2 ^ t + (2 ^ t + 2 ^ t) ≤ 256) × (i < 256)
+        × Arrays (now rows) (now path) × (length (now word) ≡ 256)
+        × (sizes (rowOf (2 ^ t + 2 ^ t) (now rows)) < 2 ^ 31) ⌝ }
+    ensures { λ _. ⌜ now (rows .exit) ≡ newRow t i (now (path .entry)) (now (rows .entry)) ⌝ }
 {
-    let mut t = m;
-    while 0 < t {
-        t -= 1;
-        let h = power(t);
-        rows::lower_row(rows, h);
-    }
-}
-
-// Rows that stand for the index before i are made to stand for i.
-fn refresh(readings: &[i16], rows: &mut [i32], half: &[u8], m: usize, i: usize)
-    requires { ⌜ TopReady m i (now readings) (now rows) (now half)
-        × (0 < i)
-        × StandsBefore m (now readings) i (now half) (now rows) ⌝ }
-    ensures { λ _. ⌜ StandsFor m (now (readings .entry)) i (now (half .entry)) (now (rows .exit)) ⌝ }
-{
-    let t = lowest_one(i);
     let h = power(t);
-    if h + h == readings.len() {
-        rows::upper_top(readings, rows, h, half);
-        lower_rows(rows, t);
+    let b = i / h;
+    if b % 2 == 1 {
+        left_word(path, word, b * h, h, t);
+        rows::upper_row(rows, h, word);
         return;
     }
-    rows::upper_row(rows, h, &half[i - h..i]);
-    lower_rows(rows, t);
+    rows::lower_row(rows, h);
 }
 
-// The value at index i of the path that half holds, and rows that stand for i. Where fresh, they
-// stand for the index before, and only those of the blocks that start at i are made again.
-pub fn value(
+// The same from all readings.
+fn top_row(readings: &[i16], rows: &mut [i32], path: &[u8], word: &mut [u8], t: usize, i: usize)
+    requires { ⌜ (2 ^ t + 2 ^ t ≤ 256) × (i < 256)
+        × Arrays (now rows) (now path) × (length (now word) ≡ 256)
+        × (length (now readings) ≡ 2 ^ t + 2 ^ t) ⌝ }
+    ensures { λ _. ⌜ now (rows .exit) ≡ withRow (2 ^ t) (now (rows .entry))
+        (below t i (now (path .entry)) (now (readings .entry))) ⌝ }
+{
+    let h = power(t);
+    let b = i / h;
+    if b % 2 == 1 {
+        left_word(path, word, b * h, h, t);
+        rows::upper_top(readings, rows, h, word);
+        return;
+    }
+    rows::lower_top(readings, rows, h);
+}
+
+// The highest row that is made.
+fn first_row(
     readings: &[i16],
-    rows: &mut [i32; 256],
-    half: &[u8; 256],
+    rows: &mut [i32],
+    path: &[u8],
+    word: &mut [u8],
     m: usize,
-    fresh: bool,
+    t: usize,
+    i: usize,
+)
+    requires { ⌜ (length (now readings) ≡ 256)
+        × Arrays (now rows) (now path) × (length (now word) ≡ 256)
+        × RowsReady m (take (2 ^ m) (now readings)) (now path) i t (now rows) ⌝ }
+    ensures { λ _. ⌜ Made m (take (2 ^ m) (now (readings .entry))) (now (path .entry)) i t
+        (now (rows .exit)) ⌝ }
+{
+    if t + 1 == m {
+        let n = power(m);
+        top_row(&readings[0..n], rows, path, word, t, i);
+        return;
+    }
+    row(rows, path, word, t, i);
+}
+
+// The row of 2^high sums and all below it, by loops.
+fn make_rows(
+    readings: &[i16],
+    rows: &mut [i32],
+    path: &[u8],
+    word: &mut [u8],
+    m: usize,
+    high: usize,
+    i: usize,
+)
+    requires { ⌜ (length (now readings) ≡ 256)
+        × Arrays (now rows) (now path) × (length (now word) ≡ 256)
+        × RowsReady m (take (2 ^ m) (now readings)) (now path) i high (now rows) ⌝ }
+    ensures { λ _. ⌜ Made m (take (2 ^ m) (now (readings .entry))) (now (path .entry)) i 0
+        (now (rows .exit)) ⌝ }
+{
+    first_row(readings, rows, path, word, m, high, i);
+    let mut t = high;
+    while 0 < t {
+        t -= 1;
+        row(rows, path, word, t, i);
+    }
+}
+
+// The row of four sums for index i, from the row of eight. Here and below rows of up to four sums
+// are made with their length as a constant, so that the compiler writes the loops out.
+fn row_of_4(rows: &mut [i32], path: &[u8], word: &mut [u8], i: usize)
+    requires { ⌜ LowReady 3 i (now path) (now rows) × (length (now word) ≡ 256) ⌝ }
+    ensures { λ _. ⌜ now (rows .exit) ≡ newRow 2 i (now (path .entry)) (now (rows .entry)) ⌝ }
+{
+    let b = i / 4;
+    if b % 2 == 1 {
+        word_of_4(path, word, b * 4);
+        rows::upper_row(rows, 4, word);
+        return;
+    }
+    rows::lower_row(rows, 4);
+}
+
+// The row of two sums, from the row of four.
+fn row_of_2(rows: &mut [i32], path: &[u8], word: &mut [u8], i: usize)
+    requires { ⌜ LowReady 2 i (now path) (now rows) × (length (now word) ≡ 256) ⌝ }
+    ensures { λ _. ⌜ now (rows .exit) ≡ newRow 1 i (now (path .entry)) (now (rows .entry)) ⌝ }
+{
+    let b = i / 2;
+    if b % 2 == 1 {
+        word_of_2(path, word, b * 2);
+        rows::upper_row(rows, 2, word);
+        return;
+    }
+    rows::lower_row(rows, 2);
+}
+
+// The row of one sum, from the row of two; a word of one bit is that bit.
+fn row_of_1(rows: &mut [i32], path: &[u8], i: usize)
+    requires { ⌜ LowReady 1 i (now path) (now rows) ⌝ }
+    ensures { λ _. ⌜ now (rows .exit) ≡ newRow 0 i (now (path .entry)) (now (rows .entry)) ⌝ }
+{
+    if i % 2 == 1 {
+        rows::upper_row(rows, 1, &path[i - 1..i]);
+        return;
+    }
+    rows::lower_row(rows, 1);
+}
+
+// The rows of less than 2^k sums, at most three of them, for any index.
+fn low_rows(rows: &mut [i32], path: &[u8], word: &mut [u8], k: usize, i: usize)
+    requires { ⌜ (0 < k) × LowReady k i (now path) (now rows) × (length (now word) ≡ 256) ⌝ }
+    ensures { λ _. ⌜ now (rows .exit) ≡ remade k i (now (path .entry)) (now (rows .entry)) ⌝ }
+{
+    if k == 3 {
+        row_of_4(rows, path, word, i);
+        row_of_2(rows, path, word, i);
+        row_of_1(rows, path, i);
+        return;
+    }
+    if k == 2 {
+        row_of_2(rows, path, word, i);
+        row_of_1(rows, path, i);
+        return;
+    }
+    row_of_1(rows, path, i);
+}
+
+// The same where i starts a block of one index and none of two: one row.
+fn start_of_1(rows: &mut [i32], path: &[u8], i: usize)
+    requires { ⌜ (i % 2 ≡ 1) × LowReady 1 i (now path) (now rows) ⌝ }
+    ensures { λ _. ⌜ now (rows .exit) ≡ remade 1 i (now (path .entry)) (now (rows .entry)) ⌝ }
+{
+    rows::upper_row(rows, 1, &path[i - 1..i]);
+}
+
+// Of two and none of four: two rows.
+fn start_of_2(rows: &mut [i32], path: &[u8], word: &mut [u8], i: usize)
+    requires { ⌜ (i % 4 ≡ 2) × LowReady 2 i (now path) (now rows)
+        × (length (now word) ≡ 256) ⌝ }
+    ensures { λ _. ⌜ now (rows .exit) ≡ remade 2 i (now (path .entry)) (now (rows .entry)) ⌝ }
+{
+    word_of_2(path, word, i);
+    rows::upper_row(rows, 2, word);
+    rows::lower_row(rows, 1);
+}
+
+// Of four and none of eight: three rows.
+fn start_of_4(rows: &mut [i32], path: &[u8], word: &mut [u8], i: usize)
+    requires { ⌜ (i % 8 ≡ 4) × LowReady 3 i (now path) (now rows)
+        × (length (now word) ≡ 256) ⌝ }
+    ensures { λ _. ⌜ now (rows .exit) ≡ remade 3 i (now (path .entry)) (now (rows .entry)) ⌝ }
+{
+    word_of_4(path, word, i);
+    rows::upper_row(rows, 4, word);
+    rows::lower_row(rows, 2);
+    rows::lower_row(rows, 1);
+}
+
+// The value at index i of the path, wherever the rows stand.
+fn any_value(
+    readings: &[i16; 256],
+    rows: &mut [i32; 256],
+    path: &[u8; 256],
+    word: &mut [u8; 256],
+    m: usize,
+    was: usize,
     i: usize,
 ) -> i32
-    requires { ⌜ ValueReady (now readings) m fresh i (now rows) (now half) ⌝ }
+    requires { ⌜ ValueReady m (take (2 ^ m) (now readings)) (now path) was i (now rows) ⌝ }
     ensures { λ r. ⌜
-        (r ≡ value m (now (readings .entry)) (pathOf m i (take (2 ^ m) (now (half .entry)))))
-        × StandsFor m (now (readings .entry)) i (now (half .entry)) (now (rows .exit)) ⌝ }
+        (r ≡ value m (take (2 ^ m) (now (readings .entry))) (take i (now (path .entry))))
+        × Stands m (take (2 ^ m) (now (readings .entry))) (now (path .entry)) i i
+        (now (rows .exit)) ⌝ }
 {
     if m == 0 {
         return readings[0] as i32;
     }
-    if fresh && 0 < i {
-        refresh(readings, rows, half, m, i);
+    let high = top(m, was, i);
+    if high < 3 && high + 1 < m {
+        low_rows(rows, path, word, high + 1, i);
         return rows[1];
     }
-    make_all(readings, rows, half, m, i);
+    make_rows(readings, rows, path, word, m, high, i);
     rows[1]
+}
+
+// The value at index i of the path. The rows stand for index was, and then for i. Most often i
+// comes next, and then three rows of four suffice for seven indices in eight; two places call
+// any_value, so that the compiler keeps it out of that short way.
+pub fn value(
+    readings: &[i16; 256],
+    rows: &mut [i32; 256],
+    path: &[u8; 256],
+    word: &mut [u8; 256],
+    m: usize,
+    was: usize,
+    i: usize,
+) -> i32
+    requires { ⌜ ValueReady m (take (2 ^ m) (now readings)) (now path) was i (now rows) ⌝ }
+    ensures { λ r. ⌜
+        (r ≡ value m (take (2 ^ m) (now (readings .entry))) (take i (now (path .entry))))
+        × Stands m (take (2 ^ m) (now (readings .entry))) (now (path .entry)) i i
+        (now (rows .exit)) ⌝ }
+{
+    if m < 4 {
+        return any_value(readings, rows, path, word, m, was, i);
+    }
+    if was + 1 == i {
+        if i % 2 == 1 {
+            start_of_1(rows, path, i);
+            return rows[1];
+        }
+        if i % 4 == 2 {
+            start_of_2(rows, path, word, i);
+            return rows[1];
+        }
+        if i % 8 == 4 {
+            start_of_4(rows, path, word, i);
+            return rows[1];
+        }
+    }
+    any_value(readings, rows, path, word, m, was, i)
 }

@@ -3,7 +3,10 @@ pub mod Told
 -- The parts of the answers, and laws
 pub mod Answers
 pub mod ToldLaws
+pub mod AtOnce
+pub mod AtOnceLaws
 pub mod Lengths
+pub mod Reordered
 pub mod Unpacked
 pub mod Written
 pub mod WrittenLaws

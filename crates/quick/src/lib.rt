@@ -34,7 +34,7 @@ pub fn quick(r: u32, m: u32, readings: &[i16], bits: &mut [u8], word: &mut [u8])
 }
 
 // The work, once no test refuses.
-fn take_reading(code: Code, readings: &[i16], bits: &mut [u8], word: &mut [u8]) -> u32
+pub fn take_reading(code: Code, readings: &[i16], bits: &mut [u8], word: &mut [u8]) -> u32
     requires { ⌜ SoundReadings code (now readings) (length (now bits)) (length (now word)) ⌝ }
     ensures { λ penalty. ⌜ done penalty (now (bits .exit)) (now (word .exit))
         ≡ readingBy code (now (readings .entry)) ⌝ }

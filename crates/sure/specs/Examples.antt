@@ -18,7 +18,7 @@ use Rattle.decoding.specs.Walk.{value, walk, walked}
 use Rattle.decoding.specs.Answer.{found, tied, answer}
 use Rattle.decoding.specs.Examples.{sample}
 use Rattle.sure.specs.Sure.{largest, doubt, Sure, SurelyRight}
-use Rattle.sure.specs.MarginLaws.{within-largest}
+use Rattle.sure.specs.LargestLaws.{within-largest}
 use Rattle.sure.specs.SureLaws.{inside-code, quick-sure}
 
 -- 7 9 -6 -8 -9 2 8 -1

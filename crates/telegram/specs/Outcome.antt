@@ -57,23 +57,23 @@ pub record ReadOutcome : Type 0 where
   -- all fields 0 under every refusal
   pub telegram : Telegram
 
-abbrev pub nothing : Telegram
-nothing = record { cylinder = 0; direction = 0; tilt = 0 }
+abbrev pub noTelegram : Telegram
+noTelegram = record { cylinder = 0; direction = 0; tilt = 0 }
 
 abbrev pub showing : Telegram → ℕ → ℕ → ℕ → ReadOutcome
 showing t penalty gap visits = record { carry = carrying 0 0 penalty visits; gap = gap; telegram = t }
 
-abbrev pub unread : Fault → ReadOutcome
-unread why = record { carry = faultCarries why; gap = 0; telegram = nothing }
+abbrev pub faulted : Fault → ReadOutcome
+faulted why = record { carry = faultCarries why; gap = 0; telegram = noTelegram }
 
 -- the answer in the rules' numbers
 abbrev pub told : Heard → ReadOutcome
 told (hear.Shown t penalty gap visits) = showing t penalty gap visits
-told (hear.Refused why) = unread why
+told (hear.Refused why) = faulted why
 
 abbrev pub shownIf : Tested → Telegram → ℕ → ℕ → ℕ → ReadOutcome
 shownIf Good t penalty gap visits = showing t penalty gap visits
-shownIf (Bad why) t penalty gap visits = unread why
+shownIf (Bad why) t penalty gap visits = faulted why
 
 -- of the information bits that the search found, and their penalty, gap and visits: the reader's tests
 abbrev pub judged : List ℕ → ℕ → ℕ → ℕ → ReadOutcome
@@ -81,15 +81,15 @@ judged b penalty gap visits = shownIf (readerFault (markerOf b) (telegramOf b)) 
 
 -- what the search refused
 abbrev pub passedOn : Search.Outcome → ReadOutcome
-passedOn o = record { carry = carrying (o .number) (o .place) (o .penalty) (o .visits); gap = o .gap; telegram = nothing }
+passedOn o = record { carry = carrying (o .number) (o .place) (o .penalty) (o .visits); gap = o .gap; telegram = noTelegram }
 
 abbrev pub heard : Search.Outcome → ReadOutcome
 heard o = cond (eqb (o .number) 0) (judged (o .bits) (o .penalty) (o .gap) (o .visits)) (passedOn o)
 
 -- the search of RM(2,5) into buffers of its own
-abbrev pub searched : ℕ → List ℤ → Search.Outcome
-searched allowed l = Search.searching 2 5 allowed l (replicate 16 0) (replicate 32 0)
+abbrev pub linkSearch : ℕ → List ℤ → Search.Outcome
+linkSearch allowed l = Search.searching 2 5 allowed l (replicate 16 0) (replicate 32 0)
 
 -- of the allowance and the readings
 unfoldable pub readingTelegram : ℕ → List ℤ → ReadOutcome
-readingTelegram allowed l = heard (searched allowed l)
+readingTelegram allowed l = heard (linkSearch allowed l)

@@ -34,7 +34,7 @@ use Rattle.telegram.specs.declared.Fault.the-variants.{Link}
 use Rattle.telegram.specs.Telegram.{binary, telegramBits, wordOf}
 use Rattle.telegram.specs.TelegramLaws.{length-bits, bits-bits}
 use Rattle.telegram.specs.Faults.{writerFault}
-use Rattle.telegram.specs.Outcome.{refused, writtenIf, writingTelegram, unread, judged, heard, searched, readingTelegram}
+use Rattle.telegram.specs.Outcome.{refused, writtenIf, writingTelegram, faulted, judged, heard, linkSearch, readingTelegram}
 
 -- ---- RM(2,5)
 pub dimension-25 : dimension 2 5 ≡ 16
@@ -102,12 +102,12 @@ module _ (cylinder direction tilt : ℕ) (word : List ℕ) where
 
 -- ---- the reader
 module _ (allowed : ℕ) (l : List ℤ) where
-  pub reading-found : searched allowed l .number ≡ 0
-      → readingTelegram allowed l ≡ (let o = searched allowed l in judged (o .bits) (o .penalty) (o .gap) (o .visits))
+  pub reading-found : linkSearch allowed l .number ≡ 0
+      → readingTelegram allowed l ≡ (let o = linkSearch allowed l in judged (o .bits) (o .penalty) (o .gap) (o .visits))
   unfolding readingTelegram
-  reading-found e = rw (eq-eqb (searched allowed l .number) 0 e)
+  reading-found e = rw (eq-eqb (linkSearch allowed l .number) 0 e)
 
-  pub reading-refused : (why : Refusal) (b w : List ℕ) → searched allowed l ≡ Search.refused why b w → readingTelegram allowed l ≡ unread (Link why)
+  pub reading-refused : (why : Refusal) (b w : List ℕ) → linkSearch allowed l ≡ Search.refused why b w → readingTelegram allowed l ≡ faulted (Link why)
   unfolding readingTelegram
   reading-refused why b w e =
       ap heard e ∙ rw (ne-eqb (Search.refused why b w .number) 0 (λ z. omega (arith, number-above why)))
@@ -127,7 +127,7 @@ Passed l = SoundSearch 2 5 l bits₀ word₀
 -- or give their refusal
 pub data Tests (allowed : ℕ) (l : List ℤ) : Type 0 where
   passed : Passed l → Tests allowed l
-  stopped : (why : Refusal) → searched allowed l ≡ Search.refused why bits₀ word₀ → carried why .number < 5 → Tests allowed l
+  stopped : (why : Refusal) → linkSearch allowed l ≡ Search.refused why bits₀ word₀ → carried why .number < 5 → Tests allowed l
 
 pub tests : (allowed : ℕ) (l : List ℤ) → Tests allowed l
 tests allowed l =
@@ -140,18 +140,18 @@ tests allowed l =
 pub record FoundBest (allowed : ℕ) (l : List ℤ) : Type 0 where
   pub passes : Passed l
   pub enough : needed 5 (kinds 2 5) l ≤ allowed
-  pub best : let o = searched allowed l in BestFound 5 (kinds 2 5) l (o .bits) (o .word) (o .penalty) (o .gap)
-  pub visits-are : searched allowed l .visits ≡ needed 5 (kinds 2 5) l
+  pub best : let o = linkSearch allowed l in BestFound 5 (kinds 2 5) l (o .bits) (o .word) (o .penalty) (o .gap)
+  pub visits-are : linkSearch allowed l .visits ≡ needed 5 (kinds 2 5) l
 
 module _ (allowed : ℕ) (l : List ℤ) where
-  by-answer : Passed l → searched allowed l .number ≡ 0 → (a : Answer) → searched allowed l ≡ byAnswer allowed bits₀ word₀ a → FoundBest allowed l
+  by-answer : Passed l → linkSearch allowed l .number ≡ 0 → (a : Answer) → linkSearch allowed l ≡ byAnswer allowed bits₀ word₀ a → FoundBest allowed l
   by-answer x n (found b w p g v) e =
       let d = outcome-demands bits₀ word₀ x .demand-2 allowed (found b w p g v) .0 e in
       record { passes = x; enough = d .0; best = rw e (d .1); visits-are = rw e (d .2) }
   by-answer x n (tied p v) e = absurd (omega (arith, ap (λ (o : Search.Outcome). o .number) e))
   by-answer x n outOfVisits e = absurd (omega (arith, ap (λ (o : Search.Outcome). o .number) e))
 
-  pub found-all : searched allowed l .number ≡ 0 → FoundBest allowed l
+  pub found-all : linkSearch allowed l .number ≡ 0 → FoundBest allowed l
   found-all n =
       elim (tests allowed l) [
         | passed x ↦ by-answer x n (answer 5 (kinds 2 5) l allowed) (sound-answered bits₀ word₀ x allowed)
@@ -159,29 +159,29 @@ module _ (allowed : ℕ) (l : List ℤ) where
       ]
 
   -- under another allowance that is large enough, the same
-  pub found-again : FoundBest allowed l → (allowed′ : ℕ) → needed 5 (kinds 2 5) l ≤ allowed′ → searched allowed′ l ≡ searched allowed l
+  pub found-again : FoundBest allowed l → (allowed′ : ℕ) → needed 5 (kinds 2 5) l ≤ allowed′ → linkSearch allowed′ l ≡ linkSearch allowed l
   found-again f allowed′ h =
-      let o = searched allowed l in
+      let o = linkSearch allowed l in
       let d = outcome-demands bits₀ word₀ (f .passes) .demand-2 in
       let a = found (o .bits) (o .word) (o .penalty) (o .gap) (o .visits) in
       d allowed′ a .1 (h, f .best, f .visits-are) ∙ sym (d allowed a .1 (f .enough, f .best, f .visits-are))
 
-  pub out-of-visits : Passed l → allowed < needed 5 (kinds 2 5) l → searched allowed l ≡ Search.refused (OutOfVisits allowed) bits₀ word₀
+  pub out-of-visits : Passed l → allowed < needed 5 (kinds 2 5) l → linkSearch allowed l ≡ Search.refused (OutOfVisits allowed) bits₀ word₀
   out-of-visits x h = outcome-demands bits₀ word₀ x .demand-2 allowed outOfVisits .1 h
 
   -- the bits that it leaves are 16 information bits
-  pub found-long : FoundBest allowed l → length (searched allowed l .bits) ≡ 16
+  pub found-long : FoundBest allowed l → length (linkSearch allowed l .bits) ≡ 16
   found-long f = f .best .information .0 ∙ sum-25
 
-  pub found-bits : FoundBest allowed l → Bits (searched allowed l .bits)
+  pub found-bits : FoundBest allowed l → Bits (linkSearch allowed l .bits)
   found-bits f = f .best .information .1
 
   -- so in the reader, with what the search's answer is
-  module _ (p g v : ℕ) (b w : List ℕ) (e : Search.foundWith p g v b w ≡ searched allowed l) where
+  module _ (p g v : ℕ) (b w : List ℕ) (e : Search.foundWith p g v b w ≡ linkSearch allowed l) where
     pub judged-bits : Bits b × (length b ≡ 16)
     judged-bits =
         let f = found-all (ap (λ (o : Search.Outcome). o .number) (sym e)) in
-        let same : b ≡ searched allowed l .bits = ap (λ (o : Search.Outcome). o .bits) e in
+        let same : b ≡ linkSearch allowed l .bits = ap (λ (o : Search.Outcome). o .bits) e in
         (subst Bits (sym same) (found-bits f), ap length same ∙ found-long f)
 
     pub judged-reading : judged b p g v ≡ readingTelegram allowed l

@@ -13,12 +13,12 @@ use Rattle.telegram.specs.declared.Telegram.{Telegram}
 use Rattle.telegram.specs.declared.Fault.the-variants.{Link, Marker}
 use Rattle.telegram.specs.Telegram.{wordOf}
 use Rattle.telegram.specs.Faults.{Writable}
-use Rattle.telegram.specs.Outcome.{done, writingTelegram, nothing, showing, unread, searched, readingTelegram}
+use Rattle.telegram.specs.Outcome.{done, writingTelegram, noTelegram, showing, faulted, linkSearch, readingTelegram}
 
 -- the search of the readings finds the telegram's word
 pub record Finds (allowed : ℕ) (l : List ℤ) (t : Telegram) : Type 0 where
-  pub answers : searched allowed l .number ≡ 0
-  pub finds : searched allowed l .word ≡ wordOf t
+  pub answers : linkSearch allowed l .number ≡ 0
+  pub finds : linkSearch allowed l .word ≡ wordOf t
 
 -- a link that is turned over: every reading negated
 abbrev pub turned : List ℤ → List ℤ
@@ -34,7 +34,7 @@ pub record WriteTheorems : Type 0 where
 pub record ReadTheorems : Type 0 where
   -- What was written is read, for any readings whose search finds the written word.
   pub written-read : (t : Telegram) → Writable t → (allowed : ℕ) (l : List ℤ) → Finds allowed l t
-      → (let o = searched allowed l in readingTelegram allowed l ≡ showing t (o .penalty) (o .gap) (o .visits))
+      → (let o = linkSearch allowed l in readingTelegram allowed l ≡ showing t (o .penalty) (o .gap) (o .visits))
   -- Every readable telegram is one that the writer accepts, and its word is the one that was found.
   pub read-written : (allowed : ℕ) (l : List ℤ) → readingTelegram allowed l .carry .number ≡ 0
       → Writable (readingTelegram allowed l .telegram) × Finds allowed l (readingTelegram allowed l .telegram)
@@ -44,9 +44,9 @@ pub record ReadTheorems : Type 0 where
 
 pub record TurnedTheorems (l : List ℤ) : Type 0 where
   -- If every reading is negated, the reader refuses with 13 and shows nothing if the walk on the negated readings stays within its allowance,
-  pub marked : (allowed : ℕ) → needed 5 (kinds 2 5) (turned l) ≤ allowed → readingTelegram allowed (turned l) ≡ unread Marker
+  pub marked : (allowed : ℕ) → needed 5 (kinds 2 5) (turned l) ≤ allowed → readingTelegram allowed (turned l) ≡ faulted Marker
   -- else with 6.
-  pub out : (allowed : ℕ) → allowed < needed 5 (kinds 2 5) (turned l) → readingTelegram allowed (turned l) ≡ unread (Link (OutOfVisits allowed))
+  pub out : (allowed : ℕ) → allowed < needed 5 (kinds 2 5) (turned l) → readingTelegram allowed (turned l) ≡ faulted (Link (OutOfVisits allowed))
   -- The negated walk needs exactly as many visits, so under one allowance it is 13 exactly where the upright one was read.
   pub same-visits : needed 5 (kinds 2 5) (turned l) ≡ needed 5 (kinds 2 5) l
   pub exactly : (allowed : ℕ) → (readingTelegram allowed (turned l) .carry .number ≡ 13) ↔ (readingTelegram allowed l .carry .number ≡ 0)
@@ -55,7 +55,7 @@ pub record TurnedTheorems (l : List ℤ) : Type 0 where
 abbrev pub NeverShown : Type 0
 NeverShown =
     (t : Telegram) → Writable t → (l : List ℤ) (allowed allowed′ : ℕ) → Finds allowed l t
-    → (let o = readingTelegram allowed′ (turned l) in (0 < o .carry .number) × (o .telegram ≡ nothing))
+    → (let o = readingTelegram allowed′ (turned l) in (0 < o .carry .number) × (o .telegram ≡ noTelegram))
 
 -- how many telegrams these are: numbered from 0, each once
 abbrev pub telegrams : ℕ

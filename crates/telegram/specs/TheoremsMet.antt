@@ -32,7 +32,7 @@ use Rattle.telegram.specs.Telegram.{binary, bitsWith, telegramBits, tele
 use Rattle.telegram.specs.TelegramLaws.{length-bits, bits-bits, marker-bits, telegram-bits, fits-telegram, bits-telegram}
 use Rattle.telegram.specs.Faults.{Writable, writerFault, readerFault}
 use Rattle.telegram.specs.FaultLaws.{fault-above, Own, own-reader, writer-good, good-writer, reader-good, good-reader, writable-fits, read-writable}
-use Rattle.telegram.specs.Outcome.{WriteOutcome, done, writtenIf, writingTelegram, ReadOutcome, showing, unread, shownIf, judged, passedOn, searched, readingTelegram}
+use Rattle.telegram.specs.Outcome.{WriteOutcome, done, writtenIf, writingTelegram, ReadOutcome, showing, faulted, shownIf, judged, passedOn, linkSearch, readingTelegram}
 use Rattle.telegram.specs.OutcomeLaws.{dimension-25, sum-25, writing-tested, reading-found, reading-refused}
 use Rattle.telegram.specs.OutcomeLaws.{Passed, tests, passed, stopped, FoundBest, found-all, found-again, out-of-visits, found-long, found-bits}
 use Rattle.telegram.specs.Theorems.{Finds, turned, WriteTheorems, ReadTheorems, TurnedTheorems, NeverShown, telegrams, ordinal, Counted, Theorems}
@@ -87,7 +87,7 @@ judged-upright t w p g v =
     ap₂ (λ (k : ℕ) (u : Telegram). shownIf (readerFault k u) u p g v) (marker-bits 0 t) (telegram-bits 0 t (writable-fits w))
     ∙ ap (λ (x : Tested). shownIf x t p g v) (reader-good t w)
 
-judged-turned : (t : Telegram) (p g v : ℕ) → judged (xors (telegramBits t) markerAlone) p g v ≡ unread Marker
+judged-turned : (t : Telegram) (p g v : ℕ) → judged (xors (telegramBits t) markerAlone) p g v ≡ faulted Marker
 unfolding binary
 judged-turned t p g v = refl
 
@@ -96,13 +96,13 @@ module _ (allowed : ℕ) (l : List ℤ) (t : Telegram) (w : Writable t) (h : Fin
   sent : FoundBest allowed l
   sent = found-all allowed l (h .answers)
 
-  sent-bits : searched allowed l .bits ≡ telegramBits t
+  sent-bits : linkSearch allowed l .bits ≡ telegramBits t
   sent-bits =
-      bits-only (searched allowed l .bits) (telegramBits t) (sent .best .information) (information t) (sent .best .gives ∙ h .finds)
+      bits-only (linkSearch allowed l .bits) (telegramBits t) (sent .best .information) (information t) (sent .best .gives ∙ h .finds)
 
-  written-read : let o = searched allowed l in readingTelegram allowed l ≡ showing t (o .penalty) (o .gap) (o .visits)
+  written-read : let o = linkSearch allowed l in readingTelegram allowed l ≡ showing t (o .penalty) (o .gap) (o .visits)
   written-read =
-      let o = searched allowed l in
+      let o = linkSearch allowed l in
       reading-found allowed l (h .answers)
       ∙ ap (λ (b : List ℕ). judged b (o .penalty) (o .gap) (o .visits)) sent-bits
       ∙ judged-upright t w (o .penalty) (o .gap) (o .visits)
@@ -116,7 +116,7 @@ module _ (allowed : ℕ) (l : List ℤ) (t : Telegram) (w : Writable t) (h : Fin
 
   module _ (allowed′ : ℕ) where
     module _ (k : needed 5 (kinds 2 5) (turned l) ≤ allowed′) where
-      again : searched allowed′ l ≡ searched allowed l
+      again : linkSearch allowed′ l ≡ linkSearch allowed l
       again = found-again allowed l sent allowed′ (rw (← same-visits) k)
 
       still-finds : Finds allowed′ l t
@@ -126,10 +126,10 @@ module _ (allowed : ℕ) (l : List ℤ) (t : Telegram) (w : Writable t) (h : Fin
             finds = ap (λ (o : Search.Outcome). o .word) again ∙ h .finds;
           }
 
-      marked : readingTelegram allowed′ (turned l) ≡ unread Marker
+      marked : readingTelegram allowed′ (turned l) ≡ faulted Marker
       unfolding ones-word
       marked =
-          let o = searched allowed′ (turned l) in
+          let o = linkSearch allowed′ (turned l) in
           let plus = outcome-demands (replicate 16 0) (replicate 32 0) (sent .passes) .demand-3-all-ones ones-word (replicate 16 0) (replicate 32 0) (sym dimension-25) refl .same-search allowed′ .0 in
           let bits : o .bits ≡ xors (telegramBits t) markerAlone =
           plus .bits-added (still-finds .answers) ∙ ap (λ (b : List ℕ). xors b markerAlone) (ap (λ (s : Search.Outcome). s .bits) again ∙ sent-bits) in
@@ -138,10 +138,10 @@ module _ (allowed : ℕ) (l : List ℤ) (t : Telegram) (w : Writable t) (h : Fin
           ∙ judged-turned t (o .penalty) (o .gap) (o .visits)
 
     module _ (k : allowed′ < needed 5 (kinds 2 5) (turned l)) where
-      out : readingTelegram allowed′ (turned l) ≡ unread (Link (OutOfVisits allowed′))
+      out : readingTelegram allowed′ (turned l) ≡ faulted (Link (OutOfVisits allowed′))
       out = reading-refused allowed′ (turned l) (OutOfVisits allowed′) (replicate 16 0) (replicate 32 0) (out-of-visits allowed′ (turned l) turned-passed k)
 
-      out-upright : readingTelegram allowed′ l ≡ unread (Link (OutOfVisits allowed′))
+      out-upright : readingTelegram allowed′ l ≡ faulted (Link (OutOfVisits allowed′))
       out-upright =
           reading-refused allowed′ l (OutOfVisits allowed′) (replicate 16 0) (replicate 32 0)
           (out-of-visits allowed′ l (sent .passes) (rw (← same-visits) k))
@@ -173,9 +173,9 @@ never-shown t w l allowed allowed′ h =
     (lt-or-le allowed′ (needed 5 (kinds 2 5) (turned l)))
 
 -- ---- what is read
-reading-other : (allowed : ℕ) (l : List ℤ) → (searched allowed l .number ≡ 0 → ⊥) → readingTelegram allowed l ≡ passedOn (searched allowed l)
+reading-other : (allowed : ℕ) (l : List ℤ) → (linkSearch allowed l .number ≡ 0 → ⊥) → readingTelegram allowed l ≡ passedOn (linkSearch allowed l)
 unfolding readingTelegram
-reading-other allowed l n = rw (ne-eqb (searched allowed l .number) 0 n)
+reading-other allowed l n = rw (ne-eqb (linkSearch allowed l .number) 0 n)
 
 shown-good : (x : Tested) (t : Telegram) (p g v : ℕ) → shownIf x t p g v .carry .number ≡ 0 → x ≡ Good
 shown-good Good t p g v e = refl
@@ -186,13 +186,13 @@ shown-own : (x : Tested) (t : Telegram) (p g v : ℕ) → Own x → shownIf x t 
 shown-own Good t p g v o e = omega arith
 shown-own (Bad why) t p g v o e = omega arith
 
-module _ (allowed : ℕ) (l : List ℤ) (n : searched allowed l .number ≡ 0) where
+module _ (allowed : ℕ) (l : List ℤ) (n : linkSearch allowed l .number ≡ 0) where
   abbrev b : List ℕ
-  b = searched allowed l .bits
+  b = linkSearch allowed l .bits
 
   read-found : readingTelegram allowed l .carry .number ≡ 0 → Writable (readingTelegram allowed l .telegram) × Finds allowed l (readingTelegram allowed l .telegram)
   read-found z =
-      let o = searched allowed l in
+      let o = linkSearch allowed l in
       let f = found-all allowed l n in
       let long = found-long allowed l f in
       let bits = found-bits allowed l f in
@@ -208,9 +208,9 @@ module _ (allowed : ℕ) (l : List ℤ) (n : searched allowed l .number ≡ 0) w
         record { answers = n; finds = sym (f .best .gives) ∙ ap (encoded 5 (kinds 2 5)) (sym whole) },
       )
 
-read-six : (allowed : ℕ) (l : List ℤ) → readingTelegram allowed l .carry .number ≡ 6 → searched allowed l .number ≡ 6
+read-six : (allowed : ℕ) (l : List ℤ) → readingTelegram allowed l .carry .number ≡ 6 → linkSearch allowed l .number ≡ 6
 read-six allowed l e =
-    let o = searched allowed l in
+    let o = linkSearch allowed l in
     elim (ℕ-discrete (o .number) 0) [
       | yes n ↦ absurd
           (shown-own (readerFault (markerOf (o .bits)) (telegramOf (o .bits))) (telegramOf (o .bits)) (o .penalty) (o .gap) (o .visits)
@@ -228,7 +228,7 @@ read-theorems =
     record {
       written-read = λ t w allowed l h. written-read allowed l t w h;
       read-written = λ allowed l z.
-          elim (ℕ-discrete (searched allowed l .number) 0) [
+          elim (ℕ-discrete (linkSearch allowed l .number) 0) [
             | yes n ↦ read-found allowed l n z
             | no n ↦ absurd (n (ap (λ (r : ReadOutcome). r .carry .number) (sym (reading-other allowed l n)) ∙ z))
           ];

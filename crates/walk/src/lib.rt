@@ -1,45 +1,82 @@
-// The walk: the frozen step and the information step call each other; the number of indices still
-// to choose falls.
+// The walk: two steps that call each other in turn. The frozen step goes on at any index: it takes
+// the one extension of each frozen index, up to an information index, which it hands to the
+// information step, or to the end, where the full path is held. The information step takes both
+// extensions and hands each on to the frozen step at the next index. So the number of indices
+// still to choose never grows, and falls from one information step to the next.
+//
+// What the walk holds and counts stands in state, by place, and is changed where it stands:
+// 0 how many full paths are held, 1 the penalty of best, 2 that of second, 3 the visits, 4 whether
+// a visit was wanted that is not allowed, 5 the index that the rows stand for, 6 m, 7 the
+// allowance. Nothing is handed back, so that the last call of a step takes no stack of its own.
 ghost use mathlib.Core.Path.{_≡_};
-ghost use mathlib.Core.Bool.{false};
-ghost use Prim.Native.Nat.{ℕ, _^_, _≤_, _<_};
-ghost use lib.ListN.{length, getD, take};
+ghost use Prim.Native.Nat.{_+_, _^_, _≤_, _<_};
+ghost use lib.ListN.{length, getD, take, set, replicate};
+ghost use lib.Dec.{eqb};
 ghost use Rattle.decoding.specs.Quick.{hard};
-ghost use Rattle.walk.specs.Progress.{counted, drops};
-ghost use Rattle.walk.specs.Progress.{Finished, Ready, Stepped, Walkable, Walked};
+ghost use Rattle.walk.specs.Progress.{drops, seen, standing};
+ghost use Rattle.walk.specs.Progress.{Finished, Shows, StepAsked, StepGiven, Visited};
+ghost use Rattle.walk.specs.Progress.{ValueAsked, ValueGiven, Walkable, Walked};
 
-// What the walk holds: the penalties of full paths, which stand beside it as words, and the visits.
-pub struct Progress {
-    // how many full paths are held: none, the best, best and second
-    pub held: u32,
-    pub best: u32,
-    pub second: u32,
-    pub visits: u32,
-    // the walk wanted a visit that is not allowed
-    pub out: bool,
+fn wide(x: u32) -> usize
+    ensures { λ r. ⌜ r ≡ x ⌝ }
+{
+    x as usize
+}
+
+fn next(visits: u32, allowed: u32) -> u32
+    requires { ⌜ visits < allowed ⌝ }
+    ensures { λ r. ⌜ r ≡ visits + 1 ⌝ }
+{
+    visits + 1
 }
 
 // One visit more, or out: tested before it is counted, so that no allowance wraps.
-fn visit(state: Progress, allowed: u32) -> Progress
-    ensures { λ r. ⌜ r ≡ counted allowed state ⌝ }
+fn visit(state: &mut [u32; 8]) -> bool
+    requires { ⌜ length (now state) ≡ 8 ⌝ }
+    ensures { λ r. ⌜ Visited (now (state .entry)) r (now (state .exit)) ⌝ }
 {
-    if state.visits < allowed {
-        return Progress {
-            visits: state.visits + 1,
-            ..state
-        };
+    let visits = state[3];
+    let allowed = state[7];
+    if visits < allowed {
+        state[3] = next(visits, allowed);
+        return true;
     }
-    Progress { out: true, ..state }
+    state[4] = 1;
+    false
 }
 
-// Two full paths are held, and the penalty is not below the second's.
-fn dropped(state: Progress, penalty: u32) -> bool
-    ensures { λ r. ⌜ r ≡ drops state penalty ⌝ }
+// The penalty is not below the second's; while no second is held, that is above all penalties.
+fn dropped(state: &[u32; 8], penalty: u32) -> bool
+    ensures { λ r. ⌜ r ≡ drops (seen (now (state .entry))) penalty ⌝ }
 {
-    if state.held < 2 {
-        return false;
-    }
-    state.second <= penalty
+    state[2] <= penalty
+}
+
+// The rows are made for index i now.
+fn stands(state: &mut [u32; 8], i: usize) -> usize
+    requires { ⌜ (length (now state) ≡ 8) × (i < 256) ⌝ }
+    ensures { λ r. ⌜ (r ≡ getD (now (state .entry)) 5 0)
+        × Shows (now (state .exit)) (standing i (seen (now (state .entry)))) ⌝ }
+{
+    let was = state[5];
+    state[5] = i as u32;
+    wide(was)
+}
+
+// The path has all its bits.
+fn full(state: &[u32; 8], i: usize) -> bool
+    requires { ⌜ 2 ^ getD (now state) 6 0 ≤ 256 ⌝ }
+    ensures { λ r. ⌜ r ≡ eqb i (2 ^ getD (now (state .entry)) 6 0) ⌝ }
+{
+    let m = state[6];
+    i == 1usize << m
+}
+
+fn put(path: &mut [u8; 256], i: usize, bit: u8)
+    requires { ⌜ i < 256 ⌝ }
+    ensures { λ _. ⌜ now (path .exit) ≡ set (now (path .entry)) i bit ⌝ }
+{
+    path[i] = bit;
 }
 
 // The bit that the value speaks for.
@@ -66,224 +103,209 @@ fn copy(from: &[u8; 256], to: &mut [u8; 256], n: usize)
 
 // A full path is held: as best, when the old best becomes second, or as second.
 fn finish(
-    half: &[u8; 256],
+    path: &[u8; 256],
     best: &mut [u8; 256],
     second: &mut [u8; 256],
     n: usize,
     penalty: u32,
-    state: Progress,
-) -> Progress
-    requires { ⌜ (n ≤ 256) × (state .out ≡ false) ⌝ }
-    ensures { λ r. ⌜ ((m : ℕ) → n ≡ 2 ^ m → Finished m penalty state
-        (now (half .entry)) (now (best .entry)) (now (second .entry))
-        r (now (best .exit)) (now (second .exit))) ⌝ }
+    state: &mut [u32; 8],
+)
+    requires { ⌜ (n ≤ 256) × (n ≡ 2 ^ getD (now state) 6 0) × (length (now state) ≡ 8) ⌝ }
+    ensures { λ _. ⌜ (length (now (state .exit)) ≡ 8)
+        × Finished penalty (seen (now (state .entry)))
+        (now (path .entry)) (now (best .entry)) (now (second .entry))
+        (seen (now (state .exit))) (now (best .exit)) (now (second .exit)) ⌝ }
 {
-    if state.held == 0 {
-        copy(half, best, n);
-        return Progress {
-            held: 1,
-            best: penalty,
-            ..state
-        };
+    if state[0] == 0 {
+        copy(path, best, n);
+        state[0] = 1;
+        state[1] = penalty;
+        return;
     }
-    if penalty < state.best {
+    let old = state[1];
+    state[0] = 2;
+    if penalty < old {
         copy(best, second, n);
-        copy(half, best, n);
-        return Progress {
-            held: 2,
-            best: penalty,
-            second: state.best,
-            ..state
-        };
+        copy(path, best, n);
+        state[2] = old;
+        state[1] = penalty;
+        return;
     }
-    copy(half, second, n);
-    Progress {
-        held: 2,
-        second: penalty,
-        ..state
-    }
+    copy(path, second, n);
+    state[2] = penalty;
 }
 
-// The path goes on at index i, with this penalty: it is full, or two extensions follow, or one.
-fn frozen_step(
-    readings: &[i16],
-    kinds: &[u8],
+// The value at index i of the path.
+fn value_at(
+    readings: &[i16; 256],
     rows: &mut [i32; 256],
-    half: &mut [u8; 256],
+    path: &[u8; 256],
+    word: &mut [u8; 256],
+    state: &mut [u32; 8],
+    i: usize,
+) -> i32
+    requires { ⌜ ValueAsked (now readings) (now rows) (now path) (now state) i ⌝ }
+    ensures { λ r. ⌜ ValueGiven (now (readings .entry)) (now (path .entry)) (now (state .entry)) i
+        r (now (rows .exit)) (now (state .exit)) ⌝ }
+{
+    let m = state[6];
+    let was = stands(state, i);
+    memory::value(readings, rows, path, word, wide(m), was, i)
+}
+
+// The path of the first `from` bits, of this penalty, goes on with a 0 at each frozen index: up to
+// an information index or the end, or until an extension is dropped or not allowed.
+fn frozen_step(
+    readings: &[i16; 256],
+    kinds: &[u8; 256],
+    rows: &mut [i32; 256],
+    path: &mut [u8; 256],
+    word: &mut [u8; 256],
     best: &mut [u8; 256],
     second: &mut [u8; 256],
-    m: usize,
-    allowed: u32,
-    fresh: bool,
-    i: usize,
+    state: &mut [u32; 8],
+    from: usize,
     penalty: u32,
-    state: Progress,
-) -> Progress
-    requires { ⌜ Ready m (now readings) (now kinds) (now rows) (now half)
-        (now best) (now second) fresh i penalty state ⌝ }
-    ensures { λ r. ⌜ Stepped allowed m (now (readings .entry)) (now (kinds .entry)) i penalty
-        state (now (half .entry)) (now (best .entry)) (now (second .entry))
-        r (now (half .exit)) (now (best .exit)) (now (second .exit)) ⌝ }
+)
+    requires { ⌜ StepAsked (now readings) (now kinds) (now rows) (now path)
+        (now best) (now second) (now state) from penalty ⌝ }
+    ensures { λ _. ⌜ StepGiven (now (readings .entry)) (now (kinds .entry)) (now (path .entry))
+        (now (best .entry)) (now (second .entry)) (now (state .entry)) from penalty
+        (now (rows .exit)) (now (path .exit)) (now (best .exit)) (now (second .exit))
+        (now (state .exit)) ⌝ }
 {
-    if i == readings.len() {
-        return finish(half, best, second, i, penalty, state);
+    let mut i = from;
+    let mut sum = penalty;
+    while !full(state, i) {
+        if kinds[i] != 0 {
+            info_step(
+                readings,
+                kinds,
+                rows,
+                path,
+                word,
+                best,
+                second,
+                state,
+                i,
+                sum,
+            );
+            return;
+        }
+        if !visit(state) {
+            return;
+        }
+        let value = value_at(readings, rows, path, word, state, i);
+        sum += rows::loss(value, 0);
+        if dropped(state, sum) {
+            // it is counted all the same
+            return;
+        }
+        put(path, i, 0);
+        i += 1;
     }
-    if kinds[i] != 0 {
-        return info_step(
-            readings,
-            kinds,
-            rows,
-            half,
-            best,
-            second,
-            m,
-            allowed,
-            fresh,
-            i,
-            penalty,
-            state,
-        );
-    }
-    let seen = visit(state, allowed);
-    if seen.out {
-        return seen;
-    }
-    let value = memory::value(readings, rows, half, m, fresh, i);
-    let after = penalty + rows::loss(value, 0);
-    if dropped(seen, after) {
-        // it is counted all the same
-        return seen;
-    }
-    memory::put(half, m, i, 0);
-    let end = frozen_step(
-        readings,
-        kinds,
-        rows,
-        half,
-        best,
-        second,
-        m,
-        allowed,
-        true,
-        i + 1,
-        after,
-        seen,
-    );
-    memory::take_back(half, m, i);
-    end
+    finish(path, best, second, i, sum, state);
 }
 
 // Both extensions at an information index i: first the bit that the value speaks for, which adds
-// nothing, so that it is not dropped; when everything under it is done, the other.
+// nothing, so that it is not dropped; when everything under it is done, the other. Where the walk
+// under the first wanted a visit that is not allowed, none is left for the other.
 fn info_step(
-    readings: &[i16],
-    kinds: &[u8],
+    readings: &[i16; 256],
+    kinds: &[u8; 256],
     rows: &mut [i32; 256],
-    half: &mut [u8; 256],
+    path: &mut [u8; 256],
+    word: &mut [u8; 256],
     best: &mut [u8; 256],
     second: &mut [u8; 256],
-    m: usize,
-    allowed: u32,
-    fresh: bool,
+    state: &mut [u32; 8],
     i: usize,
     penalty: u32,
-    state: Progress,
-) -> Progress
-    requires { ⌜ Ready m (now readings) (now kinds) (now rows) (now half)
-        (now best) (now second) fresh i penalty state ⌝ }
-    requires { ⌜ (i < 2 ^ m) × (getD (now kinds) i 0 ≡ 0 → ⊥) ⌝ }
-    ensures { λ r. ⌜ Stepped allowed m (now (readings .entry)) (now (kinds .entry)) i penalty
-        state (now (half .entry)) (now (best .entry)) (now (second .entry))
-        r (now (half .exit)) (now (best .exit)) (now (second .exit)) ⌝ }
+)
+    requires { ⌜ StepAsked (now readings) (now kinds) (now rows) (now path)
+        (now best) (now second) (now state) i penalty
+        × (i < 2 ^ getD (now state) 6 0) × (getD (now kinds) i 0 ≡ 0 → ⊥) ⌝ }
+    ensures { λ _. ⌜ StepGiven (now (readings .entry)) (now (kinds .entry)) (now (path .entry))
+        (now (best .entry)) (now (second .entry)) (now (state .entry)) i penalty
+        (now (rows .exit)) (now (path .exit)) (now (best .exit)) (now (second .exit))
+        (now (state .exit)) ⌝ }
 {
-    let seen = visit(state, allowed);
-    if seen.out {
-        return seen;
+    if !visit(state) {
+        return;
     }
-    let value = memory::value(readings, rows, half, m, fresh, i);
+    let value = value_at(readings, rows, path, word, state, i);
     let first = first_bit(value);
     let other = 1 - first;
     let after = penalty + rows::loss(value, other);
-    memory::put(half, m, i, first);
-    let under = frozen_step(
+    put(path, i, first);
+    frozen_step(
         readings,
         kinds,
         rows,
-        half,
+        path,
+        word,
         best,
         second,
-        m,
-        allowed,
-        true,
+        state,
         i + 1,
         penalty,
-        seen,
     );
-    memory::take_back(half, m, i);
-    if under.out {
-        return under;
+    if !visit(state) {
+        return;
     }
-    let again = visit(under, allowed);
-    if again.out {
-        return again;
+    if dropped(state, after) {
+        return;
     }
-    if dropped(again, after) {
-        return again;
-    }
-    memory::put(half, m, i, other);
-    let end = frozen_step(
+    put(path, i, other);
+    frozen_step(
         readings,
         kinds,
         rows,
-        half,
+        path,
+        word,
         best,
         second,
-        m,
-        allowed,
-        false,
+        state,
         i + 1,
         after,
-        again,
     );
-    memory::take_back(half, m, i);
-    end
 }
 
-// The whole walk under an allowance. The words of the full paths that it holds are in best and
-// second.
+// The whole walk under an allowance. The rows of bits of the full paths that it holds are in best
+// and second.
 pub fn walk(
-    readings: &[i16],
-    kinds: &[u8],
-    m: usize,
+    readings: &[i16; 256],
+    kinds: &[u8; 256],
+    m: u32,
     allowed: u32,
     best: &mut [u8; 256],
     second: &mut [u8; 256],
-) -> Progress
-    requires { ⌜ Walkable m (now readings) (now kinds) (now best) (now second) ⌝ }
-    ensures { λ r. ⌜ Walked allowed m (now (readings .entry)) (now (kinds .entry)) r
+    state: &mut [u32; 8],
+)
+    requires { ⌜ (now state ≡ replicate 8 0)
+        × Walkable m (take (2 ^ m) (now readings)) (take (2 ^ m) (now kinds))
+        (now best) (now second) ⌝ }
+    ensures { λ _. ⌜ Walked allowed m (take (2 ^ m) (now (readings .entry)))
+        (take (2 ^ m) (now (kinds .entry))) (seen (now (state .exit)))
         (now (best .exit)) (now (second .exit)) ⌝ }
 {
     let mut rows = [0i32; 256];
-    let mut half = [0u8; 256];
-    let none = Progress {
-        held: 0,
-        best: 0,
-        second: 0,
-        visits: 0,
-        out: false,
-    };
+    let mut path = [0u8; 256];
+    let mut word = [0u8; 256];
+    state[2] = 4294967295;
+    state[5] = (1u32 << m) - 1;
+    state[6] = m;
+    state[7] = allowed;
     frozen_step(
         readings,
         kinds,
         &mut rows,
-        &mut half,
+        &mut path,
+        &mut word,
         best,
         second,
-        m,
-        allowed,
-        false,
+        state,
         0,
         0,
-        none,
-    )
+    );
 }

@@ -1,28 +1,61 @@
--- `walk::walk` meets its contract.
-use mathlib.Core.Path.{ap, _∙_}
-use mathlib.Core.List.{List}
-use Prim.Native.Nat.{ℕ, _^_}
-use lib.ListN.{take, replicate}
+-- `walk`: the first step is asked and gives what the whole walk does; no row stands yet.
+use mathlib.Core.Path.{_≡_}
+use Prim.Native.Nat.{ℕ, _*_, _%_, _^_, _≤_}
+use native.Mathlib.Omega.{arith}
+use native.Mathlib.Nat.{one-mul, mod-eq-of-lt}
+use lib.IntN.{pos}
+use lib.ListN.{replicate, length-replicate}
+use lib.Pow.{pow-pos}
+use Rattle.memory.specs.TopLaws.{exponent-small}
 use Rattle.words.specs.TransformLaws.{bits-zeros}
-use Rattle.decoding.specs.Walk.{start}
-use Rattle.decoding.specs.Allowance.{Limited, walkWithin}
-use Rattle.memory.specs.MemoryLaws.{path-none}
-use Rattle.walk.specs.StepLaws.{start-ready}
+use Rattle.walk.specs.StartLaws.{start-asked, start-given}
+use borrow.Author.Needs.{needs}
 use Rattle.walk.proofs.walk.Statement.{statement}
 use Rattle.walk.proofs.walk.Tie as tie
 
+power-is : (m : ℕ) → 2 ^ m ≤ 256 → (1 * 2 ^ m) % 4294967296 ≡ 2 ^ m
+power-is m h = rw one-mul (mod-eq-of-lt (omega (arith, h)))
+
+element-write-state : tie.Need-element-write-state
+element-write-state c = search needs
+
+shl-state : tie.Need-shl-state
+shl-state c = omega (arith, exponent-small (c .args .m) (c .pre .1 .room))
+
+sub-state : tie.Need-sub-state
+sub-state c = omega (arith, power-is (c .args .m) (c .pre .1 .room), pow-pos (c .args .m))
+
+element-write-state-2 : tie.Need-element-write-state-2
+element-write-state-2 c = search needs
+
+element-write-state-3 : tie.Need-element-write-state-3
+element-write-state-3 c = search needs
+
+element-write-state-4 : tie.Need-element-write-state-4
+element-write-state-4 c = search needs
+
 frozen-step-requires : tie.Need-frozen-step-requires
-frozen-step-requires c κs = start-ready (c .before .before .before .before .before .pre) _ _ (bits-zeros 256)
+frozen-step-requires c κs =
+    let g = c .before .before .before .before .before .before in
+    start-asked (g .args .m) ((1 * 2 ^ g .args .m) % 4294967296) (g .args .allowed) (g .args .readings .now) (g .args .kinds .now)
+    (g .args .best .now) (g .args .second .now) (power-is (g .args .m) (g .pre .1 .room)) (g .pre .0) (g .pre .1)
+    (replicate 256 (pos 0)) (replicate 256 0) (length-replicate {A = ℕ} 256 0) (bits-zeros 256)
 
 returns : tie.Need-returns
 returns c =
-    let s = c .before .before .before .before .before .before in
-    let none = path-none (s .args .m) (take (2 ^ s .args .m) (replicate 256 0)) in
-    let onward : List ℕ → Limited = λ u. walkWithin (s .args .allowed) (s .args .m) (s .args .readings .now) (s .args .kinds .now) u 0 start in
-    record {
-      walks = c .frozen-step .ensures .walks ∙ ap onward none;
-      words = c .frozen-step .ensures .words;
-    }
+    let g = c .before .before .before .before .before .before .before in
+    start-given (g .args .m) ((1 * 2 ^ g .args .m) % 4294967296) (g .args .allowed) (g .args .readings .now) (g .args .kinds .now)
+    (g .args .best .now) (g .args .second .now) (power-is (g .args .m) (g .pre .1 .room)) (g .pre .0) (c .frozen-step .ensures)
 
 pub walk-spec : {M : Type 1} → statement M
-walk-spec = tie.close (tie.spec frozen-step-requires returns)
+walk-spec =
+    tie.close
+    (tie.spec
+    element-write-state
+    shl-state
+    sub-state
+    element-write-state-2
+    element-write-state-3
+    element-write-state-4
+    frozen-step-requires
+    returns)

@@ -1,0 +1,50 @@
+-- What `early_within` tells and leaves, for all that it can be given (C-15): at once where C-14's test passes, else what the search gives.
+use mathlib.Core.Bool.{cond}
+use mathlib.Core.List.{List}
+use Prim.Native.Nat.{ℕ}
+use lib.IntN.{ℤ}
+use lib.ListN.{length}
+use lib.Dec.{eqb}
+use Rattle.words.specs.Kinds.{kinds}
+use Rattle.decoding.specs.Quick.{quickWord, quickBits, quickPenalty}
+use Rattle.decoding.specs.Answer.{answer}
+use Rattle.sure.specs.Test.{passes}
+use Rattle.code.specs.declared.Code.{Code}
+use Rattle.code.specs.declared.Admitted.{Admitted}
+use Rattle.code.specs.declared.Admitted.the-variants as admission
+use Rattle.code.specs.Admitted.{admitted}
+use Rattle.search.specs.declared.Searched.{Searched}
+use Rattle.search.specs.declared.Searched.the-variants as search
+use Rattle.search.specs.Outcome.{Outcome, foundWith, refused, byAnswer}
+use Rattle.search.specs.Outcome as Search
+use Rattle.early.specs.declared.Answered.{Answered}
+use Rattle.early.specs.declared.Answered.the-variants.{Best, Refused}
+
+-- the answer as a search's, of which it has neither gap nor visits
+abbrev pub asSearched : Answered → Searched
+asSearched (Best penalty) = search.Found penalty 0 0
+asSearched (Refused why) = search.Refused why
+
+-- the answer in the rules' numbers
+abbrev pub told : Answered → List ℕ → List ℕ → Outcome
+told a bits word = Search.told (asSearched a) bits word
+
+-- a search's outcome: on success only word, bits and penalty
+abbrev pub wordOnly : Outcome → Outcome
+wordOnly o = cond (eqb (o .number) 0) (foundWith (o .penalty) 0 0 (o .bits) (o .word)) o
+
+-- where tests 1 to 4 refuse nothing: the quick reading if C-14's test passes, else by the search
+abbrev pub earlyBy : Code → ℕ → List ℤ → List ℕ → List ℕ → Outcome
+earlyBy c allowed l bits word =
+    let ks = kinds (c .r) (c .m) in
+    cond (passes (c .r) (c .m) ks l)
+    (foundWith (quickPenalty (c .m) ks l) 0 0 (quickBits (c .m) ks l) (quickWord (c .m) ks l))
+    (wordOnly (byAnswer allowed bits word (answer (c .m) ks l allowed)))
+
+abbrev pub afterTests : Admitted → ℕ → List ℤ → List ℕ → List ℕ → Outcome
+afterTests (admission.Allowed c) allowed l bits word = earlyBy c allowed l bits word
+afterTests (admission.Refused why) allowed l bits word = refused why bits word
+
+-- of r, m, the allowance, the readings, and the buffers for the information bits and the word
+unfoldable pub answering : ℕ → ℕ → ℕ → List ℤ → List ℕ → List ℕ → Outcome
+answering r m allowed l bits word = afterTests (admitted r m l (length bits) (length word)) allowed l bits word

@@ -1,0 +1,100 @@
+// Turned position orders: reordering by a map of positions, undo maps and products.
+use crate::put_numbers;
+use reorder::Answer;
+ghost use mathlib.Core.Path.{_≡_};
+ghost use Rattle.reorder.specs.Outcome.{answerCarries, reordering, reorderingWord, undoing, multiplying};
+ghost use Rattle.pumpbox.specs.Reordered.{reorderTold, shownReordered};
+
+fn number_of(answer: Answer) -> u32
+    ensures { λ number. ⌜ number ≡ answerCarries answer .number ⌝ }
+{
+    match answer {
+        Answer::Done => 0,
+        Answer::Refused(why) => why.number(),
+    }
+}
+
+fn place_of(answer: Answer) -> usize
+    ensures { λ place. ⌜ place ≡ answerCarries answer .place ⌝ }
+{
+    match answer {
+        Answer::Done => 0,
+        Answer::Refused(why) => why.place(),
+    }
+}
+
+#[no_mangle]
+pub extern "C" fn cinorbis_reorder(
+    m: u32,
+    table: &[u8],
+    row: &[u8],
+    readings: &[i16],
+    out: &mut [i16],
+    numbers: &mut [u64; 4],
+) -> u32
+    ensures { λ number. ⌜ reorderTold number (now (numbers .exit)) (now (out .exit))
+        ≡ shownReordered (reordering m (now (table .entry)) (now (row .entry))
+        (now (readings .entry)) (now (out .entry))) ⌝ }
+{
+    let answer = reorder::reorder(m, table, row, readings, out);
+    put_numbers(numbers, 0, 0, 0, place_of(answer));
+    number_of(answer)
+}
+
+#[no_mangle]
+pub extern "C" fn cinorbis_reorder_word(
+    m: u32,
+    table: &[u8],
+    row: &[u8],
+    word: &[u8],
+    out: &mut [u8],
+    numbers: &mut [u64; 4],
+) -> u32
+    ensures { λ number. ⌜ reorderTold number (now (numbers .exit)) (now (out .exit))
+        ≡ shownReordered (reorderingWord m (now (table .entry)) (now (row .entry))
+        (now (word .entry)) (now (out .entry))) ⌝ }
+{
+    let answer = reorder::reorder_word(m, table, row, word, out);
+    put_numbers(numbers, 0, 0, 0, place_of(answer));
+    number_of(answer)
+}
+
+#[no_mangle]
+pub extern "C" fn cinorbis_undo_map(
+    m: u32,
+    table: &[u8],
+    row: &[u8],
+    out: &mut [u8],
+    outrow: &mut [u8],
+    numbers: &mut [u64; 4],
+) -> u32
+    ensures { λ number. ⌜ reorderTold number (now (numbers .exit))
+        (now (out .exit), now (outrow .exit))
+        ≡ shownReordered (undoing m (now (table .entry)) (now (row .entry))
+        (now (out .entry)) (now (outrow .entry))) ⌝ }
+{
+    let answer = reorder::undo_map(m, table, row, out, outrow);
+    put_numbers(numbers, 0, 0, 0, place_of(answer));
+    number_of(answer)
+}
+
+#[no_mangle]
+pub extern "C" fn cinorbis_product_map(
+    m: u32,
+    table1: &[u8],
+    row1: &[u8],
+    table2: &[u8],
+    row2: &[u8],
+    out: &mut [u8],
+    outrow: &mut [u8],
+    numbers: &mut [u64; 4],
+) -> u32
+    ensures { λ number. ⌜ reorderTold number (now (numbers .exit))
+        (now (out .exit), now (outrow .exit))
+        ≡ shownReordered (multiplying m (now (table1 .entry)) (now (row1 .entry))
+        (now (table2 .entry)) (now (row2 .entry)) (now (out .entry)) (now (outrow .entry))) ⌝ }
+{
+    let answer = reorder::product_map(m, table1, row1, table2, row2, out, outrow);
+    put_numbers(numbers, 0, 0, 0, place_of(answer));
+    number_of(answer)
+}

@@ -1,0 +1,9 @@
+-- Definitions: what each call tells and leaves; what C-20 says of the calls; inside, what the tests on lengths give
+pub mod Outcome
+pub mod Turned
+pub mod Work
+-- That it holds, and that no second outcome meets a promise
+pub mod TurnedMet
+pub mod OnlyOutcome
+-- Laws
+pub mod OutcomeLaws
