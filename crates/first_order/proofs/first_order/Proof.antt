@@ -15,7 +15,7 @@ use Rattle.first_order.proofs.first_order.Tie as tie
 returns : tie.Need-returns
 returns c =
     let a = c .before .before .before .args in
-    other-order (a .r) (a .m) (a .readings .now) (a .bits .now) (a .word .now) (c .before .if1 .taken)
+    other-order (a .r) (a .m) (a .readings .now) (a .bits .now) (a .word .now) (c .if1 .taken)
 
 admit-requires : tie.Need-admit-requires
 admit-requires c κs = search needs
@@ -47,7 +47,7 @@ returns-2 c =
     let l = a .readings .now in
     let why = c .before .why .given in
     test-refused (a .r) (a .m) l (a .bits .now) (a .word .now) (why .0 .0) (sym (why .1) ∙ c .before .before .before .admit .ensures)
-    ∙ first-order (a .r) (a .m) l (a .bits .now) (a .word .now) (c .before .before .before .before .before .if1 .left)
+    ∙ first-order (a .r) (a .m) l (a .bits .now) (a .word .now) (c .before .before .before .before .if1 .left)
 
 same-length : tie.Need-same-length
 same-length c = search needs
@@ -64,7 +64,7 @@ returns-3 c =
     let same = allowed-code 1 (a .m) l (length (a .bits .now)) (length (a .word .now)) (code .0 .0) is in
     c .before .before .before .before .decode .ensures
     ∙ ap (λ (d : Code). asSearch (d .m) l (a .bits .now) (a .word .now)) same
-    ∙ first-order (a .r) (a .m) l (a .bits .now) (a .word .now) (c .before .before .before .before .before .before .before .before .before .before .before .before .before .if1 .left)
+    ∙ first-order (a .r) (a .m) l (a .bits .now) (a .word .now) (c .before .before .before .before .before .before .before .before .before .before .before .before .if1 .left)
 
 pub first-order-spec : {M : Type 1} → statement M
 first-order-spec =
