@@ -29,7 +29,7 @@ extern "C" {
 #endif
 
 /* Raised when a call is added or changed. */
-#define CINORBIS_VERSION 9
+#define CINORBIS_VERSION 10
 
 #define CINORBIS_LARGEST_M 8u
 #define CINORBIS_LARGEST_READING 2047
@@ -168,6 +168,11 @@ CINORBIS_CALL uint32_t cinorbis_early(uint32_t r, uint32_t m, const int16_t *rea
 CINORBIS_CALL uint32_t cinorbis_early_within(uint32_t r, uint32_t m, uint32_t allowed, const int16_t *readings, size_t readings_length,
                                              uint8_t *bits, size_t bits_length, uint8_t *word, size_t word_length,
                                              cinorbis_numbers *numbers);
+
+/* First-order words (§13): the best word of RM(1,m), m from 1 to 8, without a walk. In: n readings. Out: as cinorbis_search with an allowance as large as
+ * the whole tree, but visits are always 0. Refuses 1 (also for r other than 1, and m = 0), 2, 3, 4, then 7; never 6. Promise: first_order::first_order. */
+CINORBIS_CALL uint32_t cinorbis_first_order(uint32_t r, uint32_t m, const int16_t *readings, size_t readings_length, uint8_t *bits,
+                                            size_t bits_length, uint8_t *word, size_t word_length, cinorbis_numbers *numbers);
 
 /* ---- Packed records (§7). A packed -2048, the bottom rail, is read as -2047. */
 
