@@ -10,19 +10,70 @@
 #define ROOM (1 << 20)
 static unsigned char *stack;
 static int16_t readings[256];
-static uint8_t bits[256], word[256];
+static uint8_t bits[256], word[256], record[CINORBIS_LARGEST_RECORD];
+static cinorbis_telegram shown;
+static cinorbis_written written;
+static uint8_t table[64], row[8];
+static int16_t moved[256];
 static cinorbis_numbers numbers;
 static volatile uint32_t refusal;
 
 static void *nothing(void *a) { return a; }
 
+/* the walk is deepest where every index carries information */
 static void *search(void *a) {
-    refusal = cinorbis_search(4, 8, readings, 256, bits, 163, word, 256, &numbers);
+    refusal = cinorbis_search(8, 8, readings, 256, bits, 256, word, 256, &numbers);
     return a;
 }
 
 static void *early(void *a) {
-    refusal = cinorbis_early(4, 8, readings, 256, bits, 163, word, 256, &numbers);
+    refusal = cinorbis_early(8, 8, readings, 256, bits, 256, word, 256, &numbers);
+    return a;
+}
+
+static void *search_record(void *a) {
+    refusal = cinorbis_search_record(CINORBIS_DEFAULT_ALLOWANCE, record, sizeof record, bits, 256, word, 256, &numbers);
+    return a;
+}
+
+static void *telegram(void *a) {
+    refusal = cinorbis_telegram_read(readings, 32, &shown, &numbers);
+    return a;
+}
+
+static void *first_order(void *a) {
+    refusal = cinorbis_first_order(1, 8, readings, 256, bits, 9, word, 256, &numbers);
+    return a;
+}
+
+/* the map that leaves every position where it is */
+static void *reorder(void *a) {
+    refusal = cinorbis_reorder(8, table, 64, row, 8, readings, 256, moved, 256, &numbers);
+    return a;
+}
+
+static void *undo_map(void *a) {
+    refusal = cinorbis_undo_map(8, table, 64, row, 8, bits, 64, word, 8, &numbers);
+    return a;
+}
+
+static void *product_map(void *a) {
+    refusal = cinorbis_product_map(8, table, 64, row, 8, table, 64, row, 8, bits, 64, word, 8, &numbers);
+    return a;
+}
+
+static void *write_record(void *a) {
+    refusal = cinorbis_write_record(8, 8, 0, readings, 256, record, sizeof record, &written);
+    return a;
+}
+
+static void *unpack(void *a) {
+    refusal = cinorbis_unpack(record + 1, sizeof record - 1, moved, 256, &numbers);
+    return a;
+}
+
+static void *write_telegram(void *a) {
+    refusal = cinorbis_telegram_write(5, 1, 1234, word, 32, &numbers);
     return a;
 }
 
@@ -71,14 +122,26 @@ static void bounded(const char *name, void *(*call)(void *), uint32_t expected, 
 
 int main(void) {
     if (posix_memalign((void **)&stack, 4096, ROOM)) return 1;
-    for (int j = 0; j < 256; j++) readings[j] = (int16_t)((j * 7919) % 4095 - 2047);
+    for (int j = 0; j < 256; j++) readings[j] = (int16_t)(((j * 7919) % 4095 - 2047) | 1); /* none is 0 */
     ground = used(nothing);
-    bounded("encode", encode, 0, 640);
+    for (int p = 0; p < 8; p++) table[9 * p] = 1;
+    if (cinorbis_write_record(8, 8, 0, readings, 256, record, sizeof record, &written) != CINORBIS_DONE) return 1;
+    bounded("encode", encode, 0, 512);
     bounded("inverse", inverse, 0, 800);
     bounded("quick reading", quick, 0, 2600);
-    /* the readings are of no word: the walk goes to its end and runs out of visits */
-    bounded("search", search, 6, 106000);
-    bounded("early answer", early, 6, 107000);
+    bounded("search", search, 0, 45000);
+    bounded("search of a record", search_record, 0, 46000);
+    bounded("early answer", early, 0, 46000);
+    /* two words of RM(1,8) share the least penalty */
+    bounded("first-order words", first_order, CINORBIS_TIED, 2000);
+    bounded("reordering", reorder, 0, 800);
+    bounded("undo map", undo_map, 0, 800);
+    bounded("product of maps", product_map, 0, 800);
+    bounded("writing a record", write_record, 0, 500);
+    bounded("unpacking", unpack, 0, 500);
+    bounded("writing a telegram", write_telegram, 0, 500);
+    /* readings of no telegram: the word found has the marker set */
+    bounded("reading a telegram", telegram, CINORBIS_MARKER, 6000);
     printf("%d passed, %d failed\n", passed, failed);
     return failed != 0;
 }

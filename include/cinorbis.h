@@ -29,13 +29,14 @@ extern "C" {
 #endif
 
 /* Raised when a call is added or changed. */
-#define CINORBIS_VERSION 7
+#define CINORBIS_VERSION 10
 
 #define CINORBIS_LARGEST_M 8u
 #define CINORBIS_LARGEST_READING 2047
 /* The largest reading of a packed record, whose fields have 12 bits. */
 #define CINORBIS_LARGEST_RECORD_READING 2047
-#define CINORBIS_DEFAULT_ALLOWANCE 1000000u
+/* What the calls without an allowance of their own allow. A larger one never changes an answer or a tie (7) that was given. */
+#define CINORBIS_DEFAULT_ALLOWANCE 200000u
 /* Room for any word, and for the information bits of any code. */
 #define CINORBIS_LARGEST_N 256u
 /* The bytes of the longest record: its first, and 256 readings of 12 bits. */
@@ -97,12 +98,12 @@ typedef struct {
     uint64_t place;   /* under 4 and 5 */
 } cinorbis_numbers;
 
-/* The record that some bytes begin with. All 0 when refused, but for the place under 4. */
+/* The record that some bytes begin with. All 0 when refused. */
 typedef struct {
     uint64_t r;
     uint64_t m;
     uint64_t length; /* of the packed part, which starts at the record's second byte; the next record starts at 1 + length */
-    uint64_t place;  /* under 4: the number of the reading */
+    uint64_t place;  /* 0: no record is refused as 4 */
 } cinorbis_part;
 
 /* What writing a record gives. Both 0 when refused, but for the place under 4. */
@@ -156,26 +157,31 @@ CINORBIS_CALL uint32_t cinorbis_search_within(uint32_t r, uint32_t m, uint32_t a
                                               size_t readings_length, uint8_t *bits, size_t bits_length, uint8_t *word,
                                               size_t word_length, cinorbis_numbers *numbers);
 
-/* The early answer: the quick reading's word at once where it is surely the best one (§4, "Surely right", with the largest size as M), else by the
+/* The early answer: the quick reading's word at once where it is surely the best one (§10), else by the
  * search with the default allowance. In: n readings. Out: the k bits and the word of least penalty, and that penalty; gap and visits are 0.
  * Refuses 1, 2, 3, 4, then 6 or 7 where the search was needed, each as cinorbis_search gives it. It pays where most words arrive clean and the readings
- * are clipped near the word's own size (README.md, "Speed"). Promise: early. */
+ * are clipped near the word's own size (README.md, "Speed"). Promise: early::early. */
 CINORBIS_CALL uint32_t cinorbis_early(uint32_t r, uint32_t m, const int16_t *readings, size_t readings_length, uint8_t *bits,
                                       size_t bits_length, uint8_t *word, size_t word_length, cinorbis_numbers *numbers);
 
-/* The same with an allowance of visits, any number: with 0 it never walks. Promise: early_within. */
+/* The same with an allowance of visits, any number: with 0 it never walks. Promise: early::early_within. */
 CINORBIS_CALL uint32_t cinorbis_early_within(uint32_t r, uint32_t m, uint32_t allowed, const int16_t *readings, size_t readings_length,
                                              uint8_t *bits, size_t bits_length, uint8_t *word, size_t word_length,
                                              cinorbis_numbers *numbers);
 
-/* ---- Packed records (§7) */
+/* First-order words (§13): the best word of RM(1,m), m from 1 to 8, without a walk. In: n readings. Out: as cinorbis_search with an allowance as large as
+ * the whole tree, but visits are always 0. Refuses 1 (also for r other than 1, and m = 0), 2, 3, 4, then 7; never 6. Promise: first_order::first_order. */
+CINORBIS_CALL uint32_t cinorbis_first_order(uint32_t r, uint32_t m, const int16_t *readings, size_t readings_length, uint8_t *bits,
+                                            size_t bits_length, uint8_t *word, size_t word_length, cinorbis_numbers *numbers);
 
-/* The record that the bytes begin with: its code and its packed part. Refuses 1, 8, 9, 4. Promise: record::header_of, record::packed. */
+/* ---- Packed records (§7). A packed -2048, the bottom rail, is read as -2047. */
+
+/* The record that the bytes begin with: its code and its packed part. Refuses 1, 8, 9; never 4. Promise: record::header_of, record::packed. */
 CINORBIS_CALL uint32_t cinorbis_record(const uint8_t *bytes, size_t bytes_length, cinorbis_part *part);
 
 /* Writes a record into a buffer, from a place on. In: n readings, none beyond the largest of a record. Out: the record's bytes in the buffer, all
  * other bytes as they were, and the place after the record, where the next one can go. cinorbis_record_length(16 * m + r) is how many bytes it
- * takes. Refuses 1, 2, 4, then 3 where the buffer has too little room from the place on; any place may be given. Promise: write. */
+ * takes. Refuses 1, 2, 4, then 3 where the buffer has too little room from the place on; any place may be given. Promise: record::write. */
 CINORBIS_CALL uint32_t cinorbis_write_record(uint32_t r, uint32_t m, size_t place, const int16_t *readings, size_t readings_length,
                                              uint8_t *buffer, size_t buffer_length, cinorbis_written *written);
 
@@ -184,41 +190,41 @@ CINORBIS_CALL uint32_t cinorbis_write_record(uint32_t r, uint32_t m, size_t plac
 CINORBIS_CALL uint32_t cinorbis_unpack(const uint8_t *part, size_t part_length, int16_t *readings, size_t readings_length,
                                        cinorbis_numbers *numbers);
 
-/* The search of the record that the bytes begin with. Out as cinorbis_search_within. Refuses 1, 8, 9, 3, 4, then 6 or 7.
+/* The search of the record that the bytes begin with. Out as cinorbis_search_within. Refuses 1, 8, 9, 3, then 6 or 7; never 4.
  * Promise: record::search_record. */
 CINORBIS_CALL uint32_t cinorbis_search_record(uint32_t allowed, const uint8_t *bytes, size_t bytes_length, uint8_t *bits,
                                               size_t bits_length, uint8_t *word, size_t word_length, cinorbis_numbers *numbers);
 
-/* ---- Turned position orders (§14)
+/* ---- Turned position orders (§12)
  *
  * A map of the n = 2^m positions is a table A of m by m bits, row by row (table[p * m + q]), and a row b of m bits: position j reads position
  * A*j + b, bits modulo 2. Row p of A gives bit p, column q reads bit q, bit 0 least. For m = 0 both are empty. These calls take m without r.
  * Some map undoes the map, or it is refused as 11. If a word is the best for some readings, the reordered word is the best for the reordered
  * readings, with the same penalty and gap; information bits and visits may differ. */
 
-/* In: a map, and n readings. Out: n readings in its order. Refuses 1, 2, 3, 11, 4. Promise: reorder. */
+/* In: a map, and n readings. Out: n readings in its order. Refuses 1, 2, 3, 11, 4. Promise: reorder::reorder. */
 CINORBIS_CALL uint32_t cinorbis_reorder(uint32_t m, const uint8_t *table, size_t table_length, const uint8_t *row, size_t row_length,
                                         const int16_t *readings, size_t readings_length, int16_t *out, size_t out_length,
                                         cinorbis_numbers *numbers);
 
-/* The same on n bits. Promise: reorder_word. */
+/* The same on n bits. Promise: reorder::reorder_word. */
 CINORBIS_CALL uint32_t cinorbis_reorder_word(uint32_t m, const uint8_t *table, size_t table_length, const uint8_t *row, size_t row_length,
                                              const uint8_t *word, size_t word_length, uint8_t *out, size_t out_length,
                                              cinorbis_numbers *numbers);
 
-/* In: a map. Out: the map that undoes it. Refuses 1, 2, 3, 11. Promise: undo_map. */
+/* In: a map. Out: the map that undoes it. Refuses 1, 2, 3, 11. Promise: reorder::undo_map. */
 CINORBIS_CALL uint32_t cinorbis_undo_map(uint32_t m, const uint8_t *table, size_t table_length, const uint8_t *row, size_t row_length,
                                          uint8_t *table_out, size_t table_out_length, uint8_t *row_out, size_t row_out_length,
                                          cinorbis_numbers *numbers);
 
 /* In: two maps. Out: the map that reorders as the first and then the second do, (A1*A2, A1*b2 + b1). Refuses 1, 2, 3, 11.
- * Promise: product_map. */
+ * Promise: reorder::product_map. */
 CINORBIS_CALL uint32_t cinorbis_product_map(uint32_t m, const uint8_t *table1, size_t table1_length, const uint8_t *row1, size_t row1_length,
                                             const uint8_t *table2, size_t table2_length, const uint8_t *row2, size_t row2_length,
                                             uint8_t *table_out, size_t table_out_length, uint8_t *row_out, size_t row_out_length,
                                             cinorbis_numbers *numbers);
 
-/* ---- Tilt telegrams (§10): a word of RM(2,5) that carries cylinder, direction and tilt, and a marker. If the link is turned over, so that every
+/* ---- Tilt telegrams (§11): a word of RM(2,5) that carries cylinder, direction and tilt, and a marker. If the link is turned over, so that every
  * reading is negated, the reader never shows a tilt: it gives 13 exactly where it would have shown the telegram. */
 
 /* Out: word, 32 bits. Refuses 3, 14, 15, 16; the numbers are 0. Promise: telegram::write. */

@@ -4,12 +4,14 @@ The outputs come from tests/program_reference.py.
 
     tests/make_captures.py            compares the stored files with what it makes
     tests/make_captures.py --write    writes them
+    tests/make_captures.py --find     looks for the seed of the capture with a long walk, from 0 on
 """
+import itertools
 import os
 import random
 import sys
 
-from program_reference import fold, information, output, pack
+from program_reference import ALLOWED, fold, information, output, pack, search
 
 HERE = os.path.dirname(os.path.abspath(__file__))
 
@@ -21,8 +23,27 @@ def noisy(rng, r, m, level, loud):
     return [max(-2047, min(2047, (-loud if x else loud) + rng.randint(-level, level))) for x in word]
 
 
+# what the library's short call allows
+STANDING = 200_000
+# the first seed whose record needs more visits than that and is answered by the program: 201,958 visits; 0 needs 131,305 and 1 needs 178,963
+LONG_WALK = 2
+
+
+def long_walk(seed):
+    return noisy(random.Random(seed), 3, 7, 1200, 500)
+
+
+def find():
+    for seed in itertools.count():
+        result = search(3, 7, tuple(long_walk(seed)))
+        print(seed, *result[-1:] if result[0] == "found" else result, flush=True)
+        if result[0] == "found" and STANDING < result[-1] <= ALLOWED:
+            return 0 if seed == LONG_WALK else 1
+
+
 def captures():
     rng = random.Random(20260101)
+    rng_loud = random.Random(12)
     example = bytes.fromhex("21005FFE003001")
     tie = pack(0, 0, [0])
     yield "empty", b""
@@ -37,12 +58,14 @@ def captures():
     yield "r_above_m", example + b"\x12" + example
     yield "bottom_rail", pack(1, 2, [5, -2, -2048, 1]) + example
     yield "pad_before_rail", b"\x00\x80\x01" + example
+    yield "loud_hull", b"".join(pack(r, m, [max(-2048, min(2047, 5 * v)) for v in noisy(rng_loud, r, m, 500, 450)]) for r, m in [(1, 3), (2, 5), (1, 4), (0, 0), (2, 4)])
     yield "rails", pack(1, 2, [2047, -2047, 2047, 2047]) + pack(0, 0, [-2047]) + pack(0, 0, [2047])
     yield "tie", tie + example + pack(1, 2, [0, 0, 0, 0])
     yield "each_pad", b"".join(pack(0, 0, [3], pad) for pad in range(16))
     yield "m_eight", pack(1, 8, noisy(rng, 1, 8, 900, 700)) + pack(4, 8, noisy(rng, 4, 8, 60, 600)) + pack(8, 8, noisy(rng, 8, 8, 90, 600))
     yield "out_of_visits", pack(4, 8, [rng.randint(-2047, 2047) for _ in range(256)]) + example
     yield "each_code", b"".join(pack(r, m, noisy(rng, r, m, 400, 500)) for m in range(6) for r in range(m + 1))
+    yield "long_walk", pack(3, 7, long_walk(LONG_WALK)) + example
     yield "long", b"".join(pack(1, 2, [5, -2, 3, 1]) for _ in range(10240))
 
 
@@ -59,6 +82,8 @@ def packed_text(path):
 
 
 def main():
+    if sys.argv[1:] == ["--find"]:
+        return find()
     write = sys.argv[1:] == ["--write"]
     files = {}
     for name, capture in captures():

@@ -1,4 +1,4 @@
-"""What the program must write for any bytes, from document 01 alone and sharing nothing with the crates: records, the walk by its text, and
+"""What the program must write for any bytes, from docs/RULES.md alone and sharing nothing with the crates: records, the walk by its text, and
 a list of all words where there are at most 2^12, with which the walk has to agree."""
 import functools
 
@@ -113,8 +113,6 @@ def walk(r, m, readings, allowed):
 @functools.lru_cache
 def search(r, m, readings):
     """('found', bits, penalty, gap, visits), or ('refused', number)."""
-    if any(abs(v) > 2047 for v in readings):
-        return ("refused", 4)
     try:
         held, visits = walk(r, m, readings, ALLOWED)
     except OutOfVisits:
@@ -156,7 +154,8 @@ def output(capture):
             result = ("refused", 9)
         else:
             fields = [int(text[12 * j : 12 * j + 12], 2) for j in range(2**m)]
-            result = search(r, m, tuple(f - 4096 if f >= 2048 else f for f in fields))
+            # the bottom rail, -2,048, is read as -2,047
+            result = search(r, m, tuple(max(-2047, f - 4096) if f >= 2048 else f for f in fields))
         w = read + refused
         if result[0] == "found":
             _, bits, least, gap, visits = result

@@ -1,4 +1,4 @@
-/* Every bench figure of document 01, those that are proved as well, run through the library. */
+/* Every bench figure, those that are proved as well, run through the library. */
 #include "call.h"
 #include "check.h"
 #include "reference.h"

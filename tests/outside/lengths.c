@@ -40,7 +40,7 @@ static int bit_at(const uint8_t *bytes, size_t i) { return bytes[i / 8] >> (7 - 
 static int field_at(const uint8_t *part, size_t j) {
     int value = 0;
     for (size_t i = 12 * j; i < 12 * j + 12; i++) value = 2 * value + bit_at(part, i);
-    return value < 2048 ? value : value - 4096;
+    return value == 2048 ? -2047 : value < 2048 ? value : value - 4096; /* the bottom rail is read as -2,047 */
 }
 
 /* how many readings a part of so many bytes holds, 0 where no record has such a part */
@@ -58,6 +58,8 @@ static void unpacked(void) {
             size_t n = readings_in(bytes), room = n + (size_t)off;
             if (off < 0 && n == 0) room = 1;
             for (size_t i = 0; i < bytes; i++) part[i] = (uint8_t)random64();
+            /* every other part begins with the bottom rail or a neighbour of it */
+            if (bytes >= 2 && random_below(2)) part[0] = 0x80, part[1] = (uint8_t)(16 * random_below(3) + part[1] % 16);
             arm(&readings);
             int16_t *out = (int16_t *)(void *)contents(&readings);
             cinorbis_numbers a;

@@ -1,4 +1,4 @@
-/* Refusals and their order, with several faults at once; on refusal every buffer keeps its bytes, and the answer carries just what 01 says. */
+/* Refusals and their order, with several faults at once; on refusal every buffer keeps its bytes, and the answer carries just what the rules say. */
 #include "call.h"
 #include "check.h"
 #include "reference.h"
@@ -113,7 +113,7 @@ static void search_refusals(void) {
     a = search(0, 1, tied, 2, contents(&gb), 1, contents(&gw), 2);
     CHECK(a.refusal == 0 && a.penalty == 0 && a.gap == 6, "%u %u %u", a.refusal, a.penalty, a.gap);
     end();
-    begin("the short call allows 1,000,000 visits");
+    begin("the short call allows 200,000 visits");
     int16_t l[256];
     int met = 0;
     for (int t = 0; t < 3; t++) {
@@ -122,7 +122,7 @@ static void search_refusals(void) {
         a = search(4, 8, l, 256, contents(&gb), 163, contents(&gw), 256);
         if (a.refusal == 6) {
             met++;
-            CHECK(a.visits == 1000000 && untouched(&gb) && untouched(&gw), "%u", a.visits);
+            CHECK(a.visits == 200000 && untouched(&gb) && untouched(&gw), "%u", a.visits);
         }
     }
     CHECK(met > 0, "no random reading of RM(4,8) ran out");
@@ -143,7 +143,7 @@ static size_t record_bytes(int r, int m, const int *field, int pad, uint8_t *out
 }
 
 static void records(void) {
-    begin("records: 1, 8, 9, 3, 4 in this order, for every mixture");
+    begin("records: 1, 8, 9, 3 in this order, for every mixture; never 4, the bottom rail is read as -2,047");
     for (int m = 0; m <= 3; m++)
         for (int r = 0; r <= m; r++)
             for (int faults = 0; faults < 32; faults++) {
@@ -159,18 +159,18 @@ static void records(void) {
                 int after_nine = pad;
                 arm_both();
                 answer a = search_record(UINT32_MAX, bytes, given, contents(&gb), k + (size_t)bad_out, contents(&gw), n);
-                uint32_t e = bad_code ? 1 : torn ? 8 : after_nine ? 9 : bad_out ? 3 : rail ? 4 : 0;
-                if (e) refused(a, e, e == 4 ? (uint64_t)at : 0);
+                uint32_t e = bad_code ? 1 : torn ? 8 : after_nine ? 9 : bad_out ? 3 : 0;
+                if (e) refused(a, e, 0);
                 cinorbis_part p;
                 memset(&p, 0xA5, sizeof p);
                 uint32_t part_refusal = cinorbis_record(bytes, given, &p);
-                e = bad_code ? 1 : torn ? 8 : after_nine ? 9 : rail ? 4 : 0;
-                CHECK(part_refusal == e && p.place == (e == 4 ? (uint64_t)at : 0), "part: %u, not %u", part_refusal, e);
+                e = bad_code ? 1 : torn ? 8 : after_nine ? 9 : 0;
+                CHECK(part_refusal == e && p.place == 0, "part: %u, not %u", part_refusal, e);
                 CHECK(e ? p.length == 0 && p.r == 0 && p.m == 0 : p.length == size - 1 && p.r == (uint64_t)r && p.m == (uint64_t)m, "part of %" PRIu64, p.length);
                 if (!e && !bad_out) {
                     int16_t l[8];
                     uint8_t bits[256], word[256];
-                    for (size_t j = 0; j < n; j++) l[j] = (int16_t)field[j];
+                    for (size_t j = 0; j < n; j++) l[j] = (int16_t)(field[j] == -2048 ? -2047 : field[j]);
                     answer b = search_within((uint32_t)r, (uint32_t)m, UINT32_MAX, l, n, bits, k, word, n);
                     CHECK(a.refusal == b.refusal && a.penalty == b.penalty && a.gap == b.gap && a.visits == b.visits && a.place == b.place, "as the search");
                     if (!b.refusal)

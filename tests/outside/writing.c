@@ -95,6 +95,30 @@ static void refused(void) {
     end();
 }
 
+static void rails(void) {
+    begin("a record with the bottom rail: read as -2,047, written again to other bytes that are read the same");
+    for (uint32_t m = 0; m <= 8; m++)
+        for (int t = 0; t < 20; t++) {
+            size_t n = (size_t)1 << m, k = length_of(m), at = (size_t)random_below((int)n);
+            int16_t l[256], back[256], again[256];
+            uint8_t record[400];
+            cinorbis_written w;
+            cinorbis_part p;
+            cinorbis_numbers a;
+            for (size_t j = 0; j < n; j++) l[j] = (int16_t)random_between(-2047, 2047);
+            l[at] = -2048;
+            expected_bytes(m / 2, m, l, record);
+            CHECK(cinorbis_record(record, k, &p) == 0 && p.place == 0 && p.length == k - 1, "refused");
+            CHECK(cinorbis_unpack(record + 1, k - 1, back, n, &a) == 0, "not unpacked");
+            l[at] = -2047;
+            CHECK(memcmp(back, l, n * sizeof *l) == 0, "other readings");
+            arm(&buffer);
+            CHECK(write_at(m / 2, m, 0, back, n, k, &w) == 0 && memcmp(contents(&buffer), record, k) != 0, "the rail was written");
+            CHECK(cinorbis_unpack(contents(&buffer) + 1, k - 1, again, n, &a) == 0 && memcmp(again, back, n * sizeof *back) == 0, "not read the same");
+        }
+    end();
+}
+
 static void capture(void) {
     begin("records one after another, and the search of each");
     size_t next = 0;
@@ -116,6 +140,7 @@ static void capture(void) {
 int main(void) {
     written();
     refused();
+    rails();
     capture();
     return finish();
 }

@@ -1,4 +1,4 @@
--- The text of the program's lines (01, "Packed records and the program").
+-- The text of the program's lines (docs/RULES.md, §8).
 use mathlib.Core.Path.{_≡_}
 use mathlib.Core.List.{List, [], _∷_, _++_, map}
 use mathlib.Core.Bool.{cond}

@@ -1,4 +1,4 @@
--- Laws of the lines: a text after a text, decimals, and 01's two lines.
+-- Laws of the lines: a text after a text, decimals, and the rules' two lines.
 use mathlib.Core.Path.{_≡_, refl, ap, sym, _∙_, subst}
 use mathlib.Core.List.{List, [], _∷_, _++_, map, append-assoc}
 use mathlib.Core.Logic.{⊎-elim}
@@ -12,7 +12,7 @@ use Rattle.io.specs.Digits.{digits, Fewest}
 use Rattle.numbers.specs.Choice.{lt-or-le}
 use Rattle.cinorbis.specs.Line.{bytesOf, digitByte, decimalWithin, decimal, infoText, figuresText, answerLine, refusedLine, totalLine, written, Put}
 
--- 01's two lines, and a refused one
+-- the rules' two lines, and a refused one
 pub record Lines : Type 0 where
   pub answered : answerLine 0 (0 ∷ 1 ∷ 1 ∷ []) 1 1 9 ≡ bytesOf "0 info 011 penalty 1 margin 1 visits 9\n"
   pub refused : refusedLine 0 7 ≡ bytesOf "0 refused 7\n"

@@ -1,4 +1,4 @@
--- What the program writes for the bytes of its input (01, "Packed records and the program").
+-- What the program writes for the bytes of its input (docs/RULES.md, §8).
 use mathlib.Core.List.{List, [], _∷_, _++_}
 use mathlib.Core.Bool.{Bool, true, false, cond, _||_}
 use Prim.Native.Nat.{ℕ, zero, suc, _+_}

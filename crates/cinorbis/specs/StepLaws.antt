@@ -26,8 +26,8 @@ use Rattle.search.specs.DemandsMet.{sound-answered}
 use Rattle.record.specs.declared.Header.{Header}
 use Rattle.record.specs.declared.Header.the-variants.{Record, Refused}
 use Rattle.record.specs.Reader.{readingsOf, headerOf}
-use Rattle.record.specs.ReaderLaws.{framed-record, header-framed, length-readings-of}
-use Rattle.record.specs.Accepted.{accepted-within}
+use Rattle.record.specs.ReaderLaws.{framed-record, length-readings-of}
+use Rattle.record.specs.Accepted.{readings-allowed}
 use Rattle.record.specs.Searching.{searchingBy, searchingRecord}
 use Rattle.cinorbis.specs.Program as program
 use Rattle.cinorbis.specs.Program.{Result, answered, refused, allowance, headed, resultOf}
@@ -55,12 +55,12 @@ module _ (s : List ℕ) (c : Code) (bits word bits₀ word₀ : List ℕ) (h : h
     (long-bits : length bits₀ ≡ dimension (c .r) (c .m)) (long-word : length word₀ ≡ 2 ^ c .m) where
   is-sound : SoundSearch (c .r) (c .m) (readingsOf c s) bits₀ word₀
   is-sound =
-      let f = framed-record s c (header-framed s c h) in
+      let f = framed-record s c h in
       record {
         sound = f .sound;
         long-bits = long-bits;
         long-word = long-word;
-        entries = record { long = length-readings-of c s (f .whole); within = accepted-within s c h };
+        entries = record { long = length-readings-of c s (f .whole); within = readings-allowed c s };
       }
 
   -- the search of an accepted record says what becomes of it
@@ -68,7 +68,7 @@ module _ (s : List ℕ) (c : Code) (bits word bits₀ word₀ : List ℕ) (h : h
   unfolding searchingRecord resultOf
   searched-result a e =
       told-result a bits word bits₀ word₀ (answer (c .m) (kinds (c .r) (c .m)) (readingsOf c s) allowance)
-      (e ∙ ap (λ (k : Header). searchingBy k allowance s bits₀ word₀) (header-framed s c h) ∙ sound-answered bits₀ word₀ is-sound allowance)
+      (e ∙ ap (λ (k : Header). searchingBy k allowance s bits₀ word₀) h ∙ sound-answered bits₀ word₀ is-sound allowance)
       ∙ ap (λ (k : Header). headed k s) (sym h)
 
 -- the bits of an answer are bits

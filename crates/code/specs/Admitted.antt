@@ -1,4 +1,4 @@
--- The tests 1 to 4 of a call that is given readings and lends two outputs, bits and word (01, "Refusal numbers and their order").
+-- The tests 1 to 4 of a call that is given readings and lends two outputs, bits and word (docs/RULES.md, §6).
 use mathlib.Core.List.{List}
 use mathlib.Core.Bool.{cond, not}
 use Prim.Native.Nat.{ℕ, _^_}

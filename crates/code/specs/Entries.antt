@@ -1,4 +1,4 @@
--- The lowest place of a bad entry: a bit byte above 1, a reading beyond the largest (01, refusal 4).
+-- The lowest place of a bad entry: a bit byte above 1, a reading beyond the largest (docs/RULES.md, §6).
 use mathlib.Core.List.{List, [], _∷_}
 use mathlib.Core.Bool.{Bool, false, cond, _||_}
 use Prim.Native.Nat.{ℕ, suc}

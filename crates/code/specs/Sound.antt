@@ -1,4 +1,4 @@
--- Sound parameters, the limits, and the refusals' numbers and values (01, "Refusal numbers and their order").
+-- Sound parameters, the limits, and the refusals' numbers and values (docs/RULES.md, §6).
 use mathlib.Core.Bool.{cond, _&&_}
 use Prim.Native.Nat.{ℕ, _≤_}
 use lib.Dec.{leb}
@@ -20,7 +20,7 @@ abbrev pub largestRecordReading : ℕ
 largestRecordReading = 2047
 
 abbrev pub defaultAllowance : ℕ
-defaultAllowance = 1000000
+defaultAllowance = 200000
 
 -- 0 ≤ r ≤ m ≤ 8
 pub record Sound (c : Code) : Type 0 where
@@ -44,7 +44,7 @@ pub record Carried : Type 0 where
 abbrev pub carrying : ℕ → ℕ → ℕ → ℕ → Carried
 carrying number place penalty visits = record { number = number; place = place; penalty = penalty; visits = visits }
 
--- 01's table: 4 and 5 carry the place, 6 the allowance as visits, 7 the least penalty and the walk's visits
+-- the rules' table (§6): 4 and 5 carry the place, 6 the allowance as visits, 7 the least penalty and the walk's visits
 abbrev pub carried : Refusal → Carried
 carried Parameters = carrying 1 0 0 0
 carried InputLength = carrying 2 0 0 0

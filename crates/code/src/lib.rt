@@ -75,7 +75,7 @@ impl Code {
     // of a record, whose fields have 12 bits
     pub const LARGEST_RECORD_READING: i16 = 2047;
 
-    pub const DEFAULT_ALLOWANCE: u32 = 1000000;
+    pub const DEFAULT_ALLOWANCE: u32 = 200000;
 
     pub fn new(r: u32, m: u32) -> Made
         ensures { λ answer. ⌜ answer ≡ made r m ⌝ }

@@ -1,4 +1,4 @@
--- What the search answers once the input is sound (demand 2; 01, refusals 6 and 7): one definition over the best word, the gap and the walk's visits.
+-- What the search answers once the input is sound (demand 2; docs/RULES.md, §6): one definition over the best word, the gap and the walk's visits.
 use mathlib.Core.List.{List}
 use mathlib.Core.Bool.{cond}
 use Prim.Native.Nat.{ℕ}

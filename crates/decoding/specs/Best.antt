@@ -1,4 +1,4 @@
--- The best word, its penalty and the gap, over the list of all 2^k words, with no word about a search (01, "Penalty, correlation, gap").
+-- The best word, its penalty and the gap, over the list of all 2^k words, with no word about a search (docs/RULES.md, §3).
 use mathlib.Core.Path.{_≡_}
 use mathlib.Core.List.{List, [], map}
 use Prim.Native.Nat.{ℕ, _-_}

@@ -1,4 +1,4 @@
--- How large a running sum can be (01, "The quick reading"): at most n times the largest reading, whatever that is; and one is as large.
+-- How large a running sum can be (docs/RULES.md, §4): at most n times the largest reading, whatever that is; and one is as large.
 use mathlib.Core.Path.{_≡_, refl, ap, sym, _∙_}
 use mathlib.Core.List.{List, [], _∷_, _++_}
 use Prim.Native.Nat.{ℕ, zero, suc, _+_, _-_, _*_, _^_, _≤_}

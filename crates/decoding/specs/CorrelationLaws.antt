@@ -1,4 +1,4 @@
--- 01's law of correlation and penalty: correlation + 2 × penalty = sum of sizes, for every word.
+-- The law of correlation and penalty: correlation + 2 × penalty = sum of sizes, for every word.
 use mathlib.Core.Path.{_≡_, refl, ap}
 use mathlib.Core.List.{List, [], _∷_}
 use Prim.Native.Nat.{ℕ, zero, suc, _+_, _*_}

@@ -1,4 +1,4 @@
--- The quick reading's written steps (01, "The quick reading").
+-- The quick reading's written steps (docs/RULES.md, §4).
 use mathlib.Core.List.{List, [], _∷_, _++_}
 use Prim.Native.Nat.{ℕ, zero, suc, _^_, min}
 use lib.IntN.{ℤ, pos, negsuc, _+ℤ_, _-ℤ_, negℤ}

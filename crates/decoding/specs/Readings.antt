@@ -1,4 +1,4 @@
--- Readings against a word: penalty, correlation, sum of sizes (01, "Penalty, correlation, gap").
+-- Readings against a word: penalty, correlation, sum of sizes (docs/RULES.md, §3).
 -- A positive reading speaks for bit 0, a negative one for bit 1.
 use mathlib.Core.List.{List, [], _∷_}
 use Prim.Native.Nat.{ℕ, zero, suc, _+_, _≤_}

@@ -1,4 +1,4 @@
--- The written walk: values, a path's penalty, what is held, visits, the whole tree (01, "The walk").
+-- The written walk: values, a path's penalty, what is held, visits, the whole tree (docs/RULES.md, §5).
 -- A path is the list of its choices u_0, u_1, ..; the walk goes along the kinds of the indices that are still to choose.
 use mathlib.Core.Path.{_≡_}
 use mathlib.Core.List.{List, [], _∷_, _++_}

@@ -2,7 +2,7 @@
 use mathlib.Core.Path.{_≡_}
 use mathlib.Core.Bool.{true, false}
 use mathlib.Core.List.{List, [], _∷_}
-use Prim.Native.Nat.{ℕ, _<_}
+use Prim.Native.Nat.{ℕ, _≤_, _<_}
 use lib.IntN.{ℤ}
 use lib.ListN.{length}
 use Rattle.words.specs.Kinds.{kinds}
@@ -41,6 +41,11 @@ pub record EarlyAnswer (r m : ℕ) (l : List ℤ) (o s : Outcome) : Type 0 where
   pub refused-as-search : (o .number ≡ 0 → ⊥) → o ≡ s
   -- 6 and 7 only if the test did not pass.
   pub not-passed : 5 < o .number → passes r m (kinds r m) l ≡ false
+
+-- ---- A larger allowance changes nothing that was answered or refused, but for 6, as with the search
+abbrev pub EarlyLargerAllowance : ℕ → ℕ → List ℤ → List ℕ → List ℕ → Type 0
+EarlyLargerAllowance r m l bits word = (allowed more : ℕ) → allowed ≤ more
+    → (answering r m allowed l bits word .number ≡ 6 → ⊥) → answering r m more l bits word ≡ answering r m allowed l bits word
 
 -- ---- Demand 3
 -- readings negated where the word c, of the bits b, has 1; the second call may have other buffers

@@ -1,7 +1,7 @@
 -- What C-15 asks of the call is met, and demand 3 of it.
 use mathlib.Core.Path.{_≡_, refl, ap, sym, _∙_}
 use mathlib.Core.Logic.{⊎-elim}
-use mathlib.Core.Bool.{true, false, cond}
+use mathlib.Core.Bool.{Bool, true, false, cond}
 use mathlib.Core.List.{List, []}
 use Prim.Native.Nat.{ℕ, _^_, _≤_, _<_}
 use native.Mathlib.Omega.{arith}
@@ -32,11 +32,11 @@ use Rattle.code.specs.RefusalLaws.{number-above}
 use Rattle.search.specs.Outcome.{Outcome, foundWith, byAnswer, searching}
 use Rattle.search.specs.OutcomeLaws.{searching-refused, searching-answered}
 use Rattle.search.specs.Demands.{SoundSearch, PlusWord, OutcomeDemand3}
-use Rattle.search.specs.DemandsMet.{outcome-demands}
+use Rattle.search.specs.DemandsMet.{answered-kept, outcome-demands}
 use Rattle.early.specs.Outcome.{wordOnly, earlyBy, answering}
 use Rattle.early.specs.OutcomeLaws.{answering-refused, answering-sound}
 use Rattle.early.specs.WayLaws.{true-or-false, passed-is, failed-is}
-use Rattle.early.specs.Demands.{EarlyAnswer, EarlyDemand3}
+use Rattle.early.specs.Demands.{EarlyAnswer, EarlyLargerAllowance, EarlyDemand3}
 
 -- ---- outcomes of which on success only the word is given
 only-number : (o : Outcome) → wordOnly o .number ≡ o .number
@@ -129,6 +129,21 @@ early-answer r m allowed l bits word =
             refused-as-search = λ n. refl;
             not-passed = λ j. absurd (omega (arith, k, j));
           })
+    ]
+
+-- ---- a larger allowance
+-- at once it is not looked at, else it is the search's
+way-kept : (b : Bool) (at-once s s′ : Outcome) → ((s .number ≡ 6 → ⊥) → s′ ≡ s) → (cond b at-once (wordOnly s) .number ≡ 6 → ⊥)
+    → cond b at-once (wordOnly s′) ≡ cond b at-once (wordOnly s)
+way-kept true at-once s s′ f n = refl
+way-kept false at-once s s′ f n = ap wordOnly (f (λ e. n (only-number s ∙ e)))
+
+pub early-larger-allowance : (r m : ℕ) (l : List ℤ) (bits word : List ℕ) → EarlyLargerAllowance r m l bits word
+early-larger-allowance r m l bits word allowed more h =
+    elim (decided r m l (length bits) (length word)) [
+      | allows c e is a ↦ rw (answering-sound r m allowed l bits word c e, answering-sound r m more l bits word c e)
+          (way-kept (passes (c .r) (c .m) (kinds (c .r) (c .m)) l) _ _ _ (answered-kept (c .m) (kinds (c .r) (c .m)) l bits word allowed more h))
+      | refuses why e k ↦ rw (answering-refused r m allowed l bits word why e, answering-refused r m more l bits word why e) (λ n. refl)
     ]
 
 -- ---- demand 3

@@ -1,4 +1,4 @@
--- What `encode` and `inverse` tell and leave, for all that they can be given, in 01's numbers ("Refusal numbers and their order").
+-- What `encode` and `inverse` tell and leave, for all that they can be given, in the rules' numbers (docs/RULES.md, §6).
 use mathlib.Core.List.{List}
 use mathlib.Core.Bool.{Bool, true, false, not, cond}
 use Prim.Native.Nat.{ℕ, _^_}
@@ -30,7 +30,7 @@ done buffer = record { number = 0; place = 0; buffer = buffer }
 abbrev pub refused : Refusal → List ℕ → Outcome
 refused why buffer = record { number = carried why .number; place = carried why .place; buffer = buffer }
 
--- the answer in 01's numbers
+-- the answer in the rules' numbers
 abbrev pub told : Encoded → List ℕ → Outcome
 told Done = done
 told (Refused why) = refused why
@@ -39,7 +39,7 @@ abbrev pub isGood : Made → Bool
 isGood (Good code) = true
 isGood Bad = false
 
--- 01's tests 1 to 4 in their order, over an input of bits and a lent output with the lengths that they should have; `rest` where no test applies
+-- tests 1 to 4 in their order, over an input of bits and a lent output with the lengths that they should have; `rest` where no test applies
 unfoldable pub tested : ℕ → ℕ → List ℕ → ℕ → List ℕ → ℕ → Outcome → Outcome
 tested r m input long output room rest =
     let place = firstBadBit input in

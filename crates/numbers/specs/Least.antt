@@ -1,4 +1,4 @@
--- The least number of a list, and the next one, taken with repeats (01, "Penalty, correlation, gap").
+-- The least number of a list, and the next one, taken with repeats (docs/RULES.md, §3).
 use mathlib.Core.List.{List, [], _∷_}
 use mathlib.Core.Bool.{cond}
 use Prim.Native.Nat.{ℕ, min}

@@ -1,6 +1,7 @@
 // The C exports, one per public call: include/cinorbis.h says what each means.
 // A call returns 0 or its refusal's number.
 mod at_once;
+mod first;
 mod lengths;
 mod reordering;
 mod telegrams;

@@ -1,4 +1,4 @@
--- What `quick` tells and leaves, for all that it can be given, in 01's numbers ("Refusal numbers and their order").
+-- What `quick` tells and leaves, for all that it can be given, in the rules' numbers (docs/RULES.md, §6).
 use mathlib.Core.List.{List}
 use Prim.Native.Nat.{ℕ}
 use lib.IntN.{ℤ}
@@ -32,7 +32,7 @@ done penalty bits word = record { number = 0; place = 0; penalty = penalty; bits
 abbrev pub refused : Refusal → List ℕ → List ℕ → Outcome
 refused why bits word = let c = carried why in record { number = c .number; place = c .place; penalty = c .penalty; bits = bits; word = word }
 
--- the answer in 01's numbers
+-- the answer in the rules' numbers
 abbrev pub told : Read → List ℕ → List ℕ → Outcome
 told (Done penalty) = done penalty
 told (Refused why) = refused why

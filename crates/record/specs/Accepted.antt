@@ -1,26 +1,23 @@
--- The reader accepts exactly the bytes that begin with a record by the layout, and hands back that record's packed part.
-use mathlib.Core.Path.{_≡_, refl, ap, sym, _∙_}
+-- The reader accepts the bytes that begin with a record by the layout, and hands back that record's packed part. What it accepts begins with the record
+-- of the readings in it, where no field is the bottom rail.
+use mathlib.Core.Path.{_≡_, refl, ap, _∙_}
 use mathlib.Core.List.{List, [], _∷_, _++_}
-use mathlib.Core.Logic.{⊎-elim}
 use Prim.Native.Nat.{ℕ, zero, suc, _+_, _*_, _/_, _%_, _^_, _≤_}
 use native.Mathlib.Omega.{arith}
-use lib.IntN.{ℤ, pos, natAbs}
+use lib.IntN.{ℤ, pos}
 use lib.ListN.{length, getD, take, drop, length-append, take-append-drop}
 use lib.Seq.{take-at}
-use Rattle.numbers.specs.Choice.{lt-or-le}
 use Rattle.decoding.specs.Readings.{Within}
-use Rattle.code.specs.Sound.{Sound, largestRecordReading}
+use Rattle.code.specs.Sound.{Sound, largestReading, largestRecordReading}
 use Rattle.code.specs.SoundLaws.{made-of, made-good}
-use Rattle.code.specs.Entries.{firstBadReading}
-use Rattle.code.specs.EntriesLaws.{first-none, good-readings}
 use Rattle.code.specs.declared.Code.{Code}
 use Rattle.code.specs.declared.Made.the-variants.{Good}
 use Rattle.record.specs.declared.Header.{Header}
 use Rattle.record.specs.declared.Header.the-variants.{Record}
-use Rattle.record.specs.Layout.{AllHeld, bytes, spread, recordOf, packed, unpacked, partLength, padOf}
-use Rattle.record.specs.LayoutLaws.{Below, within-held, unpacked-packed, packed-unpacked, length-packed}
-use Rattle.record.specs.Reader.{codeOf, partOf, readingsOf, frameOf, railedBy, headerOf, partBy}
-use Rattle.record.specs.ReaderLaws.{Framed, framed-record, header-framed, frame-by, frame-whole, length-readings-of, length-part, rail-found, rail-none}
+use Rattle.record.specs.Layout.{bytes, nibbles, spread, NoRail, recordOf, packed, unpacked, partLength, padOf}
+use Rattle.record.specs.LayoutLaws.{Below, unpacked-packed, packed-unpacked, unpacked-within, length-packed}
+use Rattle.record.specs.Reader.{codeOf, partOf, readingsOf, headerOf, partBy}
+use Rattle.record.specs.ReaderLaws.{Framed, framed-record, frame-by, frame-whole, length-readings-of, length-part}
 
 -- the bytes s are a record of the code c with the readings l, and then the bytes after
 pub record Begins (s : List ℕ) (c : Code) (l : List ℤ) (after : List ℕ) : Type 0 where
@@ -28,9 +25,6 @@ pub record Begins (s : List ℕ) (c : Code) (l : List ℤ) (after : List ℕ) : 
   pub count : length l ≡ 2 ^ c .m
   pub within : Within largestRecordReading l
   pub whole : s ≡ recordOf (c .r) (c .m) l ++ after
-
-pub all-held : (l : List ℤ) → Within largestRecordReading l → AllHeld l
-all-held l h i = within-held (getD l i (pos 0)) (omega (arith, h i))
 
 -- the pad of a record that the layout writes is 0
 packed-clear : (m : ℕ) (l : List ℤ) → length l ≡ 2 ^ m → padOf m (packed l) ≡ 0
@@ -56,23 +50,16 @@ module _ (s : List ℕ) (c : Code) (l : List ℤ) (after : List ℕ) (b : Begins
   begins-part = rw apart (take-at (packed l) after (partLength (c .m)) (length-packed (c .m) l (b .count)))
 
   pub begins-readings : readingsOf c s ≡ l
-  begins-readings = ap unpacked begins-part ∙ unpacked-packed l (all-held l (b .within))
+  begins-readings = ap unpacked begins-part ∙ unpacked-packed l (b .within)
 
   long : suc (partLength (c .m)) ≤ length s
   long = rw apart (omega (arith, length-append (packed l) after, length-packed (c .m) l (b .count)))
 
-  framed : frameOf s ≡ Record c
-  framed =
-      frame-by s (Good c) (λ z. omega (arith, long, z)) begins-said
-      ∙ frame-whole c s (omega (arith, long)) (ap (padOf (c .m)) begins-part ∙ packed-clear (c .m) l (b .count))
-
   -- bytes that begin with a record are accepted
   pub begins-accepted : headerOf s ≡ Record c
-  unfolding headerOf
   begins-accepted =
-      let none = first-none (pos 0) natAbs largestRecordReading l (length l) (λ j h. b .within j) refl in
-      ap (λ (h : Header). railedBy h s) framed
-      ∙ rail-none c s _ (length l) refl (ap length begins-readings) (omega (arith, ap (firstBadReading largestRecordReading) begins-readings, none))
+      frame-by s (Good c) (λ z. omega (arith, long, z)) begins-said
+      ∙ frame-whole c s (omega (arith, long)) (ap (padOf (c .m)) begins-part ∙ packed-clear (c .m) l (b .count))
 
   -- and their packed part is handed back
   pub begins-handed-back : partBy (headerOf s) s ≡ packed l
@@ -89,36 +76,32 @@ first-byte first c e =
     let same = made-of (first % 16) (first / 16) c e .same in
     rw same (omega arith)
 
-good-by : (s : List ℕ) (c : Code) → headerOf s ≡ Record c → length (readingsOf c s) ≤ firstBadReading largestRecordReading (readingsOf c s)
-unfolding headerOf
-good-by s c e =
-    let place = firstBadReading largestRecordReading (readingsOf c s) in
-    let railed : railedBy (Record c) s ≡ Record c = ap (λ (h : Header). railedBy h s) (sym (header-framed s c e)) ∙ e in
-    ⊎-elim
-    (λ k. let z : _≡_ {A = ℕ} 0 1 = cc (rail-found c s place (length (readingsOf c s)) refl refl k) in absurd (omega arith))
-    (λ k. k)
-    (lt-or-le place (length (readingsOf c s)))
+-- no reading of a record is beyond the largest of a record, nor beyond that of the calls on plain readings
+pub readings-within : (c : Code) (s : List ℕ) → Within largestRecordReading (readingsOf c s)
+readings-within c s = unpacked-within (partOf c s)
 
-pub accepted-within : (s : List ℕ) (c : Code) → headerOf s ≡ Record c → Within largestRecordReading (readingsOf c s)
-accepted-within s c e = good-readings largestRecordReading (readingsOf c s) (good-by s c e)
+pub readings-allowed : (c : Code) (s : List ℕ) → Within largestReading (readingsOf c s)
+readings-allowed c s i = omega (arith, readings-within c s i)
 
 -- the packed part's readings, written again
-written : (s : List ℕ) (c : Code) → Below 256 s → Framed s c → s ≡ recordOf (c .r) (c .m) (readingsOf c s) ++ drop (suc (partLength (c .m))) s
+written : (s : List ℕ) (c : Code) → Below 256 s → Framed s c → NoRail (nibbles (partOf c s))
+    → s ≡ recordOf (c .r) (c .m) (readingsOf c s) ++ drop (suc (partLength (c .m))) s
 unfolding recordOf packed
-written [] c h f = absurd (omega (arith, f .whole))
-written (first ∷ t) c h f =
+written [] c h f n = absurd (omega (arith, f .whole))
+written (first ∷ t) c h f n =
     let p = take (partLength (c .m)) t in
     let again : bytes (spread (unpacked p)) ≡ p =
-    packed-unpacked (c .m) p (length-part c (first ∷ t) (f .whole)) (take-below 256 (partLength (c .m)) t (λ i. h (suc i))) (f .clear) in
+    packed-unpacked (c .m) p (length-part c (first ∷ t) (f .whole)) (take-below 256 (partLength (c .m)) t (λ i. h (suc i))) (f .clear) n in
     rw (again, take-append-drop (partLength (c .m)) t) (ap (λ (b : ℕ). b ∷ t) (first-byte first c (f .said)))
 
--- bytes that are accepted begin with a record: that of the readings in their packed part
-pub accepted-begins : (s : List ℕ) (c : Code) → Below 256 s → headerOf s ≡ Record c → Begins s c (readingsOf c s) (drop (suc (partLength (c .m))) s)
-accepted-begins s c h e =
-    let f = framed-record s c (header-framed s c e) in
+-- bytes that are accepted begin with a record: that of the readings in their packed part, where none of its fields is the bottom rail
+pub accepted-begins : (s : List ℕ) (c : Code) → Below 256 s → headerOf s ≡ Record c → NoRail (nibbles (partOf c s))
+    → Begins s c (readingsOf c s) (drop (suc (partLength (c .m))) s)
+accepted-begins s c h e n =
+    let f = framed-record s c e in
     record {
       sound = f .sound;
       count = length-readings-of c s (f .whole);
-      within = accepted-within s c e;
-      whole = written s c h f;
+      within = readings-within c s;
+      whole = written s c h f n;
     }

@@ -1,6 +1,6 @@
 -- Laws for who reads one record after another: an accepted code is sound, a record has at most 385 bytes and is there as a whole unless it is refused
 -- as 1 or 8, and what follows a record changes nothing.
-use mathlib.Core.Path.{_≡_, refl, ap, _∙_}
+use mathlib.Core.Path.{_≡_, refl, ap}
 use mathlib.Core.List.{List, [], _∷_, _++_}
 use mathlib.Core.Logic.{⊎-elim}
 use Prim.Native.Nat.{ℕ, suc, _-_, _/_, _%_, _≤_, _<_}
@@ -15,14 +15,13 @@ use Rattle.code.specs.declared.Code.{Code}
 use Rattle.code.specs.declared.Made.{Made}
 use Rattle.code.specs.declared.Made.the-variants.{Good, Bad}
 use Rattle.code.specs.declared.Refusal.the-variants.{Parameters, Torn}
-use Rattle.record.specs.declared.Header.{Header}
 use Rattle.record.specs.declared.Header.the-variants.{Record, Refused}
 use Rattle.record.specs.Layout.{unpacked, partLength}
-use Rattle.record.specs.Reader.{codeOf, lengthBy, partOf, readingsOf, framedBy, frameOf, railedBy, headerOf}
-use Rattle.record.specs.ReaderLaws.{part-small, frame-torn, framed-record, header-framed}
+use Rattle.record.specs.Reader.{codeOf, lengthBy, partOf, readingsOf, headedBy, headerOf}
+use Rattle.record.specs.ReaderLaws.{part-small, frame-torn, framed-record}
 
 pub header-sound : (s : List ℕ) (c : Code) → headerOf s ≡ Record c → Sound c
-header-sound s c h = framed-record s c (header-framed s c h) .sound
+header-sound s c h = framed-record s c h .sound
 
 length-by : (first : ℕ) (k : Made) → codeOf first ≡ k → lengthBy k ≤ 385
 length-by first Bad e = omega arith
@@ -37,18 +36,17 @@ pub record There (s : List ℕ) : Type 0 where
   pub whole : lengthBy (codeOf (getD s 0 0)) ≤ length s
 
 there-by : (first : ℕ) (s : List ℕ) (k : Made) → codeOf first ≡ k
-    → (framedBy k (first ∷ s) ≡ Refused Parameters → ⊥) → (framedBy k (first ∷ s) ≡ Refused Torn → ⊥) → (0 < lengthBy k) × (lengthBy k ≤ suc (length s))
+    → (headedBy k (first ∷ s) ≡ Refused Parameters → ⊥) → (headedBy k (first ∷ s) ≡ Refused Torn → ⊥) → (0 < lengthBy k) × (lengthBy k ≤ suc (length s))
 there-by first s Bad e p t = absurd (p refl)
 there-by first s (Good c) e p t =
     ⊎-elim (λ k. absurd (t (frame-torn c (first ∷ s) k))) (λ k. (omega arith, omega arith)) (lt-or-le (length (first ∷ s) - 1) (partLength (c .m)))
 
 -- where the header is refused neither as 1 nor as 8
 pub header-there : (s : List ℕ) → (headerOf s ≡ Refused Parameters → ⊥) → (headerOf s ≡ Refused Torn → ⊥) → There s
-unfolding headerOf frameOf
+unfolding headerOf
 header-there [] p t = absurd (t refl)
 header-there (first ∷ s) p t =
-    let railed : (h : Header) → Header = λ h. railedBy h (first ∷ s) in
-    let r = there-by first s (codeOf first) refl (λ e. p (ap railed e)) (λ e. t (ap railed e)) in
+    let r = there-by first s (codeOf first) refl p t in
     record { some = r .0; whole = r .1 }
 
 -- the part of a record that is there as a whole
@@ -56,7 +54,7 @@ part-before : (c : Code) (s rest : List ℕ) → suc (partLength (c .m)) ≤ len
 part-before c [] rest h = absurd (omega arith)
 part-before c (first ∷ s) rest h = take-append-le (partLength (c .m)) s rest (omega arith)
 
-framed-before : (first : ℕ) (s rest : List ℕ) (k : Made) → lengthBy k ≤ suc (length s) → framedBy k (first ∷ (s ++ rest)) ≡ framedBy k (first ∷ s)
+framed-before : (first : ℕ) (s rest : List ℕ) (k : Made) → lengthBy k ≤ suc (length s) → headedBy k (first ∷ (s ++ rest)) ≡ headedBy k (first ∷ s)
 framed-before first s rest Bad h = refl
 framed-before first s rest (Good c) h =
     let n = partLength (c .m) in
@@ -67,25 +65,14 @@ framed-before first s rest (Good c) h =
     )
 
 module _ (s rest : List ℕ) where
-  frame-before : 0 < length s → lengthBy (codeOf (getD s 0 0)) ≤ length s → frameOf (s ++ rest) ≡ frameOf s
-  unfolding frameOf
-  frame-before = before s
-    where
-      before : (s : List ℕ) → 0 < length s → lengthBy (codeOf (getD s 0 0)) ≤ length s → frameOf (s ++ rest) ≡ frameOf s
-      before [] h n = absurd (omega arith)
-      before (first ∷ s) h n = framed-before first s rest (codeOf first) n
-
-  framed-readings : (c : Code) → frameOf s ≡ Record c → readingsOf c (s ++ rest) ≡ readingsOf c s
-  framed-readings c h = ap unpacked (part-before c s rest (framed-record s c h .whole))
-
-  railed-before : (h : Header) → frameOf s ≡ h → railedBy h (s ++ rest) ≡ railedBy h s
-  railed-before (Refused why) e = refl
-  railed-before (Record c) e = rw (framed-readings c e)
-
   -- of a record that is there as a whole, or whose first byte is refused: bytes behind it change neither its header nor its readings
   pub header-before : 0 < length s → lengthBy (codeOf (getD s 0 0)) ≤ length s → headerOf (s ++ rest) ≡ headerOf s
   unfolding headerOf
-  header-before h n = ap (λ (h : Header). railedBy h (s ++ rest)) (frame-before h n) ∙ railed-before (frameOf s) refl
+  header-before = before s
+    where
+      before : (s : List ℕ) → 0 < length s → lengthBy (codeOf (getD s 0 0)) ≤ length s → headerOf (s ++ rest) ≡ headerOf s
+      before [] h n = absurd (omega arith)
+      before (first ∷ s) h n = framed-before first s rest (codeOf first) n
 
   pub readings-before : (c : Code) → headerOf s ≡ Record c → readingsOf c (s ++ rest) ≡ readingsOf c s
-  readings-before c h = framed-readings c (header-framed s c h)
+  readings-before c h = ap unpacked (part-before c s rest (framed-record s c h .whole))

@@ -1,11 +1,13 @@
--- The layout of a packed record, fields to bytes and back (01, "Packed records and the program").
+-- The layout of a packed record, fields to bytes and back (docs/RULES.md, §7).
 -- Each field is a whole number of nibbles, four bits each: m one, r one, a reading three. All run most significant first, two nibbles to a byte.
+use mathlib.Core.Path.{_≡_}
 use mathlib.Core.List.{List, [], _∷_}
 use mathlib.Core.Bool.{cond}
-use Prim.Native.Nat.{ℕ, zero, suc, _+_, _-_, _*_, _/_, _%_, _^_, _<_}
-use lib.IntN.{ℤ, pos, negsuc}
+use Prim.Native.Nat.{ℕ, zero, suc, _+_, _-_, _*_, _/_, _%_, _^_}
+use lib.IntN.{ℤ, pos, negsuc, negℤ}
 use lib.ListN.{getD}
 use lib.Dec.{ltb, eqb}
+use Rattle.code.specs.Sound.{largestRecordReading}
 
 -- nibbles to bytes, with zero bits to a whole byte
 abbrev pub bytes : List ℕ → List ℕ
@@ -18,21 +20,18 @@ abbrev pub nibbles : List ℕ → List ℕ
 nibbles [] = []
 nibbles (x ∷ s) = x / 16 ∷ x % 16 ∷ nibbles s
 
--- a field of 12 bits holds -2,048 to 2,047
-abbrev pub Held : ℤ → Type 0
-Held (pos n) = n < 2048
-Held (negsuc n) = n < 2048
-
-abbrev pub AllHeld : List ℤ → Type 0
-AllHeld l = (i : ℕ) → Held (getD l i (pos 0))
-
--- a reading as a field of 12 bits in two's complement, and back
+-- a reading as a field of 12 bits in two's complement
 abbrev pub field : ℤ → ℕ
 field (pos n) = n
 field (negsuc n) = 4095 - n
 
+-- the field of -2,048, where the modem's converter stops
+abbrev pub bottomRail : ℕ
+bottomRail = 2048
+
+-- and back: the bottom rail is read as the largest reading of a record, negated
 abbrev pub reading : ℕ → ℤ
-reading f = cond (ltb f 2048) (pos f) (negsuc (4095 - f))
+reading f = cond (eqb f bottomRail) (negℤ (pos largestRecordReading)) (cond (ltb f 2048) (pos f) (negsuc (4095 - f)))
 
 -- readings to nibbles, and back: one or two nibbles that are left are the pad
 abbrev pub spread : List ℤ → List ℕ
@@ -44,6 +43,13 @@ gathered [] = []
 gathered (a ∷ []) = []
 gathered (a ∷ b ∷ []) = []
 gathered (a ∷ b ∷ c ∷ d) = reading (256 * a + 16 * b + c) ∷ gathered d
+
+-- no field of these nibbles is the bottom rail
+abbrev pub NoRail : List ℕ → Type 0
+NoRail [] = Unit {0}
+NoRail (a ∷ []) = Unit {0}
+NoRail (a ∷ b ∷ []) = Unit {0}
+NoRail (a ∷ b ∷ c ∷ d) = (256 * a + 16 * b + c ≡ bottomRail → ⊥) × NoRail d
 
 -- a whole record: 4 bits m, 4 bits r, then the readings
 unfoldable pub recordOf : ℕ → ℕ → List ℤ → List ℕ

@@ -10,24 +10,35 @@ use lib.ListN.{length, getD}
 use native.Mathlib.Decide.{ℕ-discrete}
 use borrow.Author.Tests.{lt-ltb, le-ltb, eq-eqb, ne-eqb}
 use Rattle.numbers.specs.Choice.{lt-or-le}
+use Rattle.decoding.specs.Readings.{Within}
+use Rattle.code.specs.Sound.{largestRecordReading}
 use Rattle.numbers.specs.PartsLaws.{parts, by-parts, sum-parts}
-use Rattle.record.specs.Layout.{bytes, nibbles, Held, AllHeld, field, reading, spread, gathered, recordOf, packed, unpacked, partLength, padOf, readingsIn}
+use Rattle.record.specs.Layout.{bytes, nibbles, field, bottomRail, reading, NoRail, spread, gathered, recordOf, packed, unpacked, partLength, padOf, readingsIn}
 
 -- every entry is below b
 abbrev pub Below : ℕ → List ℕ → Type 0
 Below b l = (i : ℕ) → getD l i 0 < b
 
-pub field-below : (x : ℤ) → Held x → field x < 4096
+pub field-below : (x : ℤ) → natAbs x ≤ largestRecordReading → field x < 4096
 field-below (pos n) h = omega arith
 field-below (negsuc n) h = omega arith
 
-pub reading-field : (x : ℤ) → Held x → reading (field x) ≡ x
-reading-field (pos n) h = rw (lt-ltb n 2048 h)
-reading-field (negsuc n) h = rw (le-ltb (4095 - n) 2048 (omega arith)) (ap negsuc (omega arith))
+pub reading-field : (x : ℤ) → natAbs x ≤ largestRecordReading → reading (field x) ≡ x
+reading-field (pos n) h = rw (ne-eqb n bottomRail (λ e. omega arith), lt-ltb n 2048 (omega arith))
+reading-field (negsuc n) h = rw (ne-eqb (4095 - n) bottomRail (λ e. omega arith), le-ltb (4095 - n) 2048 (omega arith)) (ap negsuc (omega arith))
 
-pub field-reading : (f : ℕ) → f < 4096 → field (reading f) ≡ f
-field-reading f h =
-    ⊎-elim (λ k. rw (lt-ltb f 2048 k)) (λ k. rw (le-ltb f 2048 k) (omega arith)) (lt-or-le f 2048)
+pub field-reading : (f : ℕ) → f < 4096 → (f ≡ bottomRail → ⊥) → field (reading f) ≡ f
+field-reading f h n =
+    rw (ne-eqb f bottomRail n) (⊎-elim (λ k. rw (lt-ltb f 2048 k)) (λ k. rw (le-ltb f 2048 k) (omega arith)) (lt-or-le f 2048))
+
+-- a field's reading is never beyond the largest
+pub reading-within : (f : ℕ) → natAbs (reading f) ≤ largestRecordReading
+reading-within f =
+    elim (ℕ-discrete f bottomRail) [
+      | yes e ↦ rw (eq-eqb f bottomRail e) (omega arith)
+      | no n ↦ rw (ne-eqb f bottomRail n)
+          (⊎-elim (λ k. rw (lt-ltb f 2048 k) (omega arith)) (λ k. rw (le-ltb f 2048 k) (omega (arith, n))) (lt-or-le f 2048))
+    ]
 
 -- Nibbles that fill a byte up: none, or one 0.
 abbrev fill : List ℕ → List ℕ
@@ -66,7 +77,7 @@ length-nibbles : (p : List ℕ) → length (nibbles p) ≡ 2 * length p
 length-nibbles [] = refl
 length-nibbles (x ∷ p) = omega (arith, length-nibbles p)
 
-spread-below : (l : List ℤ) → AllHeld l → Below 16 (spread l)
+spread-below : (l : List ℤ) → Within largestRecordReading l → Below 16 (spread l)
 spread-below [] h i = below-nil 15 i
 spread-below (x ∷ l) h zero = omega (arith, field-below x (h 0))
 spread-below (x ∷ l) h (suc zero) = omega arith
@@ -82,7 +93,7 @@ fill-short [] = omega arith
 fill-short (a ∷ []) = omega arith
 fill-short (a ∷ b ∷ d) = fill-short d
 
-gathered-spread : (l : List ℤ) (z : List ℕ) → AllHeld l → length z < 2 → gathered (spread l ++ z) ≡ l
+gathered-spread : (l : List ℤ) (z : List ℕ) → Within largestRecordReading l → length z < 2 → gathered (spread l ++ z) ≡ l
 gathered-spread [] [] h k = refl
 gathered-spread [] (a ∷ []) h k = refl
 gathered-spread [] (a ∷ b ∷ z) h k = absurd (omega arith)
@@ -91,45 +102,57 @@ gathered-spread (x ∷ l) z h k =
     rw (e, reading-field x (h 0)) (ap (λ (t : List ℤ). x ∷ t) (gathered-spread l z (λ i. h (suc i)) k))
 
 -- packing and then unpacking gives the same readings
-pub unpacked-packed : (l : List ℤ) → AllHeld l → unpacked (packed l) ≡ l
+pub unpacked-packed : (l : List ℤ) → Within largestRecordReading l → unpacked (packed l) ≡ l
 unfolding packed unpacked
 unpacked-packed l h = rw (nibbles-bytes (spread l) (spread-below l h)) (gathered-spread l (fill (spread l)) h (fill-short (spread l)))
 
 -- three nibbles of a field that is made of three nibbles
-spread-gathered : (k : ℕ) (d : List ℕ) → length d ≡ 3 * k → Below 16 d → spread (gathered d) ≡ d
-spread-gathered zero [] e h = refl
-spread-gathered zero (a ∷ d) e h = absurd (omega arith)
-spread-gathered (suc k) [] e h = absurd (omega arith)
-spread-gathered (suc k) (a ∷ []) e h = absurd (omega arith)
-spread-gathered (suc k) (a ∷ b ∷ []) e h = absurd (omega arith)
-spread-gathered (suc k) (a ∷ b ∷ c ∷ d) e h =
+spread-gathered : (k : ℕ) (d : List ℕ) → length d ≡ 3 * k → Below 16 d → NoRail d → spread (gathered d) ≡ d
+spread-gathered zero [] e h n = refl
+spread-gathered zero (a ∷ d) e h n = absurd (omega arith)
+spread-gathered (suc k) [] e h n = absurd (omega arith)
+spread-gathered (suc k) (a ∷ []) e h n = absurd (omega arith)
+spread-gathered (suc k) (a ∷ b ∷ []) e h n = absurd (omega arith)
+spread-gathered (suc k) (a ∷ b ∷ c ∷ d) e h n =
     let f = 256 * a + 16 * b + c in
     let x : f / 256 ≡ a = omega (arith, h 1, h 2) in
     let y : f / 16 % 16 ≡ b = omega (arith, h 1, h 2) in
     let z : f % 16 ≡ c = omega (arith, h 2) in
-    rw (field-reading f (omega (arith, h 0, h 1, h 2)), x, y, z)
-    (ap (λ (t : List ℕ). a ∷ b ∷ c ∷ t) (spread-gathered k d (omega arith) (λ i. h (suc (suc (suc i))))))
+    rw (field-reading f (omega (arith, h 0, h 1, h 2)) (n .0), x, y, z)
+    (ap (λ (t : List ℕ). a ∷ b ∷ c ∷ t) (spread-gathered k d (omega arith) (λ i. h (suc (suc (suc i)))) (n .1)))
 
 six : (t : ℕ) → (3 * (t + t) + 1) / 2 ≡ 3 * t
 six t = omega arith
 
--- unpacking a part with no pad bit set, and then packing, gives the same bytes
-pub packed-unpacked : (m : ℕ) (p : List ℕ) → length p ≡ partLength m → Below 256 p → padOf m p ≡ 0 → packed (unpacked p) ≡ p
+-- unpacking a part with no pad bit set and no bottom rail, and then packing, gives the same bytes
+pub packed-unpacked : (m : ℕ) (p : List ℕ) → length p ≡ partLength m → Below 256 p → padOf m p ≡ 0 → NoRail (nibbles p) → packed (unpacked p) ≡ p
 unfolding packed unpacked partLength padOf
-packed-unpacked zero [] e h z = absurd (omega arith)
-packed-unpacked zero (x ∷ []) e h z = absurd (omega arith)
-packed-unpacked zero (x ∷ y ∷ []) e h z =
+packed-unpacked zero [] e h z n = absurd (omega arith)
+packed-unpacked zero (x ∷ []) e h z n = absurd (omega arith)
+packed-unpacked zero (x ∷ y ∷ []) e h z n =
     let f = 256 * (x / 16) + 16 * (x % 16) + y / 16 in
     let a : f / 256 ≡ x / 16 = omega (arith, h 1) in
     let b : f / 16 % 16 ≡ x % 16 = omega (arith, h 1) in
     let c : f % 16 ≡ y / 16 = omega (arith, h 1) in
     let d : 16 * (x / 16) + x % 16 ≡ x = omega arith in
     let g : 16 * (y / 16) ≡ y = omega arith in
-    rw (field-reading f (omega (arith, h 0, h 1)), a, b, c, d, g)
-packed-unpacked zero (x ∷ y ∷ w ∷ p) e h z = absurd (omega arith)
-packed-unpacked (suc m) p e h z =
+    rw (field-reading f (omega (arith, h 0, h 1)) (n .0), a, b, c, d, g)
+packed-unpacked zero (x ∷ y ∷ w ∷ p) e h z n = absurd (omega arith)
+packed-unpacked (suc m) p e h z n =
     let t : (3 * 2 ^ suc m + 1) / 2 ≡ 3 * 2 ^ m = rw (two-pow-succ m) (six (2 ^ m)) in
-    rw (spread-gathered (2 ^ suc m) (nibbles p) (omega (arith, length-nibbles p, two-pow-succ m)) (nibbles-below p h)) (bytes-nibbles p)
+    rw (spread-gathered (2 ^ suc m) (nibbles p) (omega (arith, length-nibbles p, two-pow-succ m)) (nibbles-below p h) n) (bytes-nibbles p)
+
+-- no reading of a packed part is beyond the largest
+gathered-within : (d : List ℕ) (i : ℕ) → natAbs (getD (gathered d) i (pos 0)) ≤ largestRecordReading
+gathered-within [] i = omega arith
+gathered-within (a ∷ []) i = omega arith
+gathered-within (a ∷ b ∷ []) i = omega arith
+gathered-within (a ∷ b ∷ c ∷ d) zero = reading-within (256 * a + 16 * b + c)
+gathered-within (a ∷ b ∷ c ∷ d) (suc i) = gathered-within d i
+
+pub unpacked-within : (p : List ℕ) (i : ℕ) → natAbs (getD (unpacked p) i (pos 0)) ≤ largestRecordReading
+unfolding unpacked
+unpacked-within p = gathered-within (nibbles p)
 
 length-bytes : (d : List ℕ) → length (bytes d) ≡ (length d + 1) / 2
 length-bytes [] = omega arith
@@ -277,16 +300,16 @@ abbrev pub raised : ℤ → ℕ
 raised (pos n) = n + 4096
 raised (negsuc n) = 4095 - n
 
-pub raised-sum : (x : ℤ) → Held x → x +ℤ pos 4096 ≡ pos (raised x)
+pub raised-sum : (x : ℤ) → natAbs x ≤ largestRecordReading → x +ℤ pos 4096 ≡ pos (raised x)
 raised-sum (pos n) h = refl
 raised-sum (negsuc n) h =
     by-parts (negsuc n +ℤ pos 4096) (pos (4095 - n)) (omega (arith, sum-parts (negsuc n) (pos 4096), parts (negsuc n +ℤ pos 4096)))
 
-pub raised-small : (x : ℤ) → Held x → raised x < 8192
+pub raised-small : (x : ℤ) → natAbs x ≤ largestRecordReading → raised x < 8192
 raised-small (pos n) h = omega arith
 raised-small (negsuc n) h = omega arith
 
-pub raised-field : (x : ℤ) → Held x → raised x % 4096 ≡ field x
+pub raised-field : (x : ℤ) → natAbs x ≤ largestRecordReading → raised x % 4096 ≡ field x
 raised-field (pos n) h = omega arith
 raised-field (negsuc n) h = omega arith
 
@@ -297,8 +320,3 @@ record-parts r m l = refl
 
 pub length-record : (r m : ℕ) (l : List ℤ) → length l ≡ 2 ^ m → length (recordOf r m l) ≡ suc (partLength m)
 length-record r m l e = ap length (record-parts r m l) ∙ ap suc (length-packed m l e)
-
--- a reading of this size fits its field
-pub within-held : (x : ℤ) → natAbs x < 2048 → Held x
-within-held (pos n) h = omega arith
-within-held (negsuc n) h = omega arith

@@ -1,4 +1,4 @@
--- No second answer meets the promise of `header_of`: 01's numbers tell every header apart.
+-- No second answer meets the promise of `header_of`: the rules' numbers tell every header apart.
 use mathlib.Core.Path.{_≡_, ap}
 use Prim.Native.Nat.{ℕ}
 use native.Mathlib.Omega.{arith}

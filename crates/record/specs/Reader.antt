@@ -1,16 +1,15 @@
--- What the reader of packed records answers, as functions of the bytes handed in (01, "Packed records and the program").
+-- What the reader of packed records answers, as functions of the bytes handed in (docs/RULES.md, §7).
 use mathlib.Core.List.{List, [], _∷_}
 use mathlib.Core.Bool.{cond}
 use Prim.Native.Nat.{ℕ, suc, _-_, _/_, _%_}
 use lib.IntN.{ℤ}
 use lib.ListN.{length, take, drop}
 use lib.Dec.{ltb, eqb}
-use Rattle.code.specs.Sound.{largestRecordReading, made, Carried, carrying, carried}
-use Rattle.code.specs.Entries.{firstBadReading}
+use Rattle.code.specs.Sound.{made, Carried, carrying, carried}
 use Rattle.code.specs.declared.Code.{Code}
 use Rattle.code.specs.declared.Made.{Made}
 use Rattle.code.specs.declared.Made.the-variants.{Good, Bad}
-use Rattle.code.specs.declared.Refusal.the-variants.{Parameters, Entry, Torn, Pad}
+use Rattle.code.specs.declared.Refusal.the-variants.{Parameters, Torn, Pad}
 use Rattle.record.specs.declared.Header.{Header}
 use Rattle.record.specs.declared.Header.the-variants.{Record, Refused}
 use Rattle.record.specs.Layout.{unpacked, partLength, padOf}
@@ -33,29 +32,18 @@ abbrev pub readingsOf : Code → List ℕ → List ℤ
 readingsOf c s = unpacked (partOf c s)
 
 -- 1, then 8, then 9
-abbrev pub framedBy : Made → List ℕ → Header
-framedBy Bad s = Refused Parameters
-framedBy (Good c) s =
+abbrev pub headedBy : Made → List ℕ → Header
+headedBy Bad s = Refused Parameters
+headedBy (Good c) s =
     cond (ltb (length s - 1) (partLength (c .m))) (Refused Torn)
     (cond (eqb (padOf (c .m) (partOf c s)) 0) (Record c) (Refused Pad))
 
--- with no byte at all it is 8
-unfoldable pub frameOf : List ℕ → Header
-frameOf [] = Refused Torn
-frameOf (first ∷ s) = framedBy (codeOf first) (first ∷ s)
-
--- then 4, with the number of the reading
-abbrev pub railedBy : Header → List ℕ → Header
-railedBy (Refused why) s = Refused why
-railedBy (Record c) s =
-    let place = firstBadReading largestRecordReading (readingsOf c s) in
-    cond (ltb place (length (readingsOf c s))) (Refused (Entry place)) (Record c)
-
--- the code of the record that the bytes begin with, or the refusal
+-- the code of the record that the bytes begin with, or the refusal; with no byte at all it is 8
 unfoldable pub headerOf : List ℕ → Header
-headerOf s = railedBy (frameOf s) s
+headerOf [] = Refused Torn
+headerOf (first ∷ s) = headedBy (codeOf first) (first ∷ s)
 
--- the answer in 01's numbers: 0 for a record and the refusal's number else, the values that it carries, and r and m of a record
+-- the answer in the rules' numbers: 0 for a record and the refusal's number else, the values that it carries, and r and m of a record
 pub record HeaderOutcome : Type 0 where
   pub carry : Carried
   pub r : ℕ

@@ -8,18 +8,16 @@ use lib.ListN.{length, getD, take, drop, length-drop}
 use lib.Seq.{length-take-le, getD-take, getD-drop}
 use borrow.Author.Tests.{lt-ltb, le-ltb, eq-eqb, ne-eqb}
 use Rattle.numbers.specs.Choice.{lt-or-le}
-use Rattle.code.specs.Sound.{Sound, largestRecordReading}
-use Rattle.code.specs.Entries.{firstBadReading}
+use Rattle.code.specs.Sound.{Sound}
 use Rattle.code.specs.SoundLaws.{made-of, length-most}
 use Rattle.code.specs.declared.Code.{Code}
 use Rattle.code.specs.declared.Made.{Made}
 use Rattle.code.specs.declared.Made.the-variants.{Good, Bad}
-use Rattle.code.specs.declared.Refusal.the-variants.{Entry, Torn, Pad}
-use Rattle.record.specs.declared.Header.{Header}
+use Rattle.code.specs.declared.Refusal.the-variants.{Torn, Pad}
 use Rattle.record.specs.declared.Header.the-variants.{Record, Refused}
 use Rattle.record.specs.Layout.{partLength, padOf}
 use Rattle.record.specs.LayoutLaws.{length-readings}
-use Rattle.record.specs.Reader.{codeOf, partOf, readingsOf, framedBy, frameOf, railedBy, headerOf}
+use Rattle.record.specs.Reader.{codeOf, partOf, readingsOf, headedBy, headerOf}
 
 -- the packed part has at most 384 bytes
 pub part-small : (c : Code) → Sound c → partLength (c .m) ≤ 384
@@ -28,13 +26,13 @@ part-small c s = omega (arith, length-most s)
 
 -- the three answers of a frame, by its tests
 module _ (c : Code) (s : List ℕ) where
-  pub frame-torn : length s - 1 < partLength (c .m) → framedBy (Good c) s ≡ Refused Torn
+  pub frame-torn : length s - 1 < partLength (c .m) → headedBy (Good c) s ≡ Refused Torn
   frame-torn h = rw (lt-ltb (length s - 1) (partLength (c .m)) h)
 
-  pub frame-pad : partLength (c .m) ≤ length s - 1 → (padOf (c .m) (partOf c s) ≡ 0 → ⊥) → framedBy (Good c) s ≡ Refused Pad
+  pub frame-pad : partLength (c .m) ≤ length s - 1 → (padOf (c .m) (partOf c s) ≡ 0 → ⊥) → headedBy (Good c) s ≡ Refused Pad
   frame-pad h z = rw (le-ltb (length s - 1) (partLength (c .m)) h, ne-eqb (padOf (c .m) (partOf c s)) 0 z)
 
-  pub frame-whole : partLength (c .m) ≤ length s - 1 → padOf (c .m) (partOf c s) ≡ 0 → framedBy (Good c) s ≡ Record c
+  pub frame-whole : partLength (c .m) ≤ length s - 1 → padOf (c .m) (partOf c s) ≡ 0 → headedBy (Good c) s ≡ Record c
   frame-whole h z = rw (le-ltb (length s - 1) (partLength (c .m)) h, eq-eqb (padOf (c .m) (partOf c s)) 0 z)
 
 -- the pad bits, as code looks at them
@@ -59,7 +57,7 @@ pub record Framed (s : List ℕ) (c : Code) : Type 0 where
   pub whole : suc (partLength (c .m)) ≤ length s
   pub clear : padOf (c .m) (partOf c s) ≡ 0
 
-framed-by : (first : ℕ) (s : List ℕ) (c : Code) (k : Made) → codeOf first ≡ k → framedBy k (first ∷ s) ≡ Record c → Framed (first ∷ s) c
+framed-by : (first : ℕ) (s : List ℕ) (c : Code) (k : Made) → codeOf first ≡ k → headedBy k (first ∷ s) ≡ Record c → Framed (first ∷ s) c
 framed-by first s c Bad q e = let z : _≡_ {A = ℕ} 0 1 = cc in absurd (omega arith)
 framed-by first s c (Good d) q e =
     let t = first ∷ s in
@@ -75,21 +73,21 @@ framed-by first s c (Good d) q e =
     (lt-or-le 0 (padOf (d .m) (partOf d t))))
     (lt-or-le (length t - 1) (partLength (d .m)))
 
-pub framed-record : (s : List ℕ) (c : Code) → frameOf s ≡ Record c → Framed s c
-unfolding frameOf
+pub framed-record : (s : List ℕ) (c : Code) → headerOf s ≡ Record c → Framed s c
+unfolding headerOf
 framed-record [] c e = let z : _≡_ {A = ℕ} 0 1 = cc in absurd (omega arith)
 framed-record (first ∷ s) c e = framed-by first s c (codeOf first) refl e
 
 -- the answers of the first test, and by the first byte
-pub frame-empty : (s : List ℕ) → length s ≡ 0 → frameOf s ≡ Refused Torn
-unfolding frameOf
+pub frame-empty : (s : List ℕ) → length s ≡ 0 → headerOf s ≡ Refused Torn
+unfolding headerOf
 frame-empty [] e = refl
 frame-empty (first ∷ s) e = absurd (omega arith)
 
-pub frame-by : (s : List ℕ) (k : Made) → (length s ≡ 0 → ⊥) → codeOf (getD s 0 0) ≡ k → frameOf s ≡ framedBy k s
-unfolding frameOf
+pub frame-by : (s : List ℕ) (k : Made) → (length s ≡ 0 → ⊥) → codeOf (getD s 0 0) ≡ k → headerOf s ≡ headedBy k s
+unfolding headerOf
 frame-by [] k h q = absurd (h refl)
-frame-by (first ∷ s) k h q = ap (λ (k : Made). framedBy k (first ∷ s)) q
+frame-by (first ∷ s) k h q = ap (λ (k : Made). headedBy k (first ∷ s)) q
 
 -- the packed part as code takes it, and its readings
 pub part-taken : (c : Code) (s : List ℕ) (k : ℕ) → k ≡ partLength (c .m) → take ((1 + k) - 1) (drop 1 s) ≡ partOf c s
@@ -100,25 +98,3 @@ length-part c s h = length-take-le (partLength (c .m)) (drop 1 s) (simp length-d
 
 pub length-readings-of : (c : Code) (s : List ℕ) → suc (partLength (c .m)) ≤ length s → length (readingsOf c s) ≡ 2 ^ c .m
 length-readings-of c s h = length-readings (c .m) (partOf c s) (length-part c s h)
-
--- the two answers of the test for rails
-module _ (c : Code) (s : List ℕ) (place n : ℕ) (is : place ≡ firstBadReading largestRecordReading (readingsOf c s)) (count : length (readingsOf c s) ≡ n) where
-  pub rail-found : place < n → railedBy (Record c) s ≡ Refused (Entry place)
-  rail-found h = rw (← is, count, lt-ltb place n h)
-
-  pub rail-none : n ≤ place → railedBy (Record c) s ≡ Record c
-  rail-none h = rw (← is, count, le-ltb place n h)
-
-header-by : (s : List ℕ) (c : Code) (h : Header) → frameOf s ≡ h → railedBy h s ≡ Record c → frameOf s ≡ Record c
-header-by s c (Refused why) q e = let z : _≡_ {A = ℕ} 0 1 = cc in absurd (omega arith)
-header-by s c (Record d) q e =
-    let place = firstBadReading largestRecordReading (readingsOf d s) in
-    ⊎-elim
-    (λ k. let z : _≡_ {A = ℕ} 0 1 = cc (rail-found d s place (length (readingsOf d s)) refl refl k) in absurd (omega arith))
-    (λ k. cc (rail-none d s place (length (readingsOf d s)) refl refl k))
-    (lt-or-le place (length (readingsOf d s)))
-
--- what is told of bytes whose header is accepted
-pub header-framed : (s : List ℕ) (c : Code) → headerOf s ≡ Record c → frameOf s ≡ Record c
-unfolding headerOf
-header-framed s c e = header-by s c (frameOf s) refl e

@@ -1,11 +1,11 @@
--- What the search of a record tells and leaves, for all that it can be given: a record checks 1, 8, 9, then 3, 4, 6 and 7.
+-- What the search of a record tells and leaves, for all that it can be given: a record checks 1, 8, 9, then 3, 6 and 7.
 use mathlib.Core.List.{List}
 use Prim.Native.Nat.{ℕ}
 use Rattle.search.specs.declared.Searched.the-variants as searched
 use Rattle.search.specs.Outcome.{Outcome, told, searching}
 use Rattle.record.specs.declared.Header.{Header}
 use Rattle.record.specs.declared.Header.the-variants.{Record, Refused}
-use Rattle.record.specs.Reader.{frameOf, readingsOf}
+use Rattle.record.specs.Reader.{headerOf, readingsOf}
 
 -- 1, 8 and 9 leave the lent buffers as they were; the rest is the search of the record's readings, whose length is never wrong
 abbrev pub searchingBy : Header → ℕ → List ℕ → List ℕ → List ℕ → Outcome
@@ -13,4 +13,4 @@ searchingBy (Refused why) allowed s bits word = told (searched.Refused why) bits
 searchingBy (Record c) allowed s bits word = searching (c .r) (c .m) allowed (readingsOf c s) bits word
 
 unfoldable pub searchingRecord : ℕ → List ℕ → List ℕ → List ℕ → Outcome
-searchingRecord allowed s bits word = searchingBy (frameOf s) allowed s bits word
+searchingRecord allowed s bits word = searchingBy (headerOf s) allowed s bits word

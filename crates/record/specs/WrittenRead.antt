@@ -1,4 +1,5 @@
--- Reading what was written gives the same record, and writing what was read gives the same bytes.
+-- Reading what was written gives the same record. Writing what was read gives a record that is read the same, and the same bytes where no field is the
+-- bottom rail.
 use mathlib.Core.Path.{_≡_, refl, ap, sym, _∙_}
 use mathlib.Core.List.{List, _++_}
 use Prim.Native.Nat.{ℕ, suc, _+_, _-_, _^_, _≤_}
@@ -17,10 +18,11 @@ use Rattle.code.specs.declared.Admitted.{Admitted}
 use Rattle.code.specs.declared.Admitted.the-variants as admission
 use Rattle.record.specs.declared.Header.the-variants.{Record}
 use Rattle.record.specs.declared.Written.the-variants.{Next}
-use Rattle.record.specs.Layout.{recordOf, packed, partLength}
+use Rattle.record.specs.Layout.{nibbles, NoRail, recordOf, packed}
 use Rattle.record.specs.LayoutLaws.{Below, length-record}
-use Rattle.record.specs.Reader.{codeOf, lengthBy, readingsOf, headerOf, partBy}
-use Rattle.record.specs.Accepted.{Begins, begins-accepted, begins-readings, begins-handed-back, begins-said, accepted-begins}
+use Rattle.record.specs.Reader.{codeOf, lengthBy, partOf, readingsOf, headerOf, partBy}
+use Rattle.record.specs.Accepted.{Begins, begins-accepted, begins-readings, begins-handed-back, begins-said, accepted-begins, readings-within}
+use Rattle.record.specs.ReaderLaws.{framed-record, length-readings-of}
 use Rattle.record.specs.Writing.{WrittenOutcome, told, laidAt, writable, writtenBy, writing}
 use Rattle.record.specs.WritingLaws.{Writable, allowed-writable, writable-allowed}
 
@@ -127,41 +129,51 @@ module _ (r m : ℕ) (l : List ℤ) (d : List ℕ) (place : ℕ) where
   written-read z = let a = writes-asked r m l d place z in rw (asked-writes r m l d place a) (read-done a)
 
 -- ---- writing again what was read
-module _ (s : List ℕ) (c : Code) (bytes : Below 256 s) (e : headerOf s ≡ Record c) where
+-- it gives a record that is read the same
+module _ (s : List ℕ) (c : Code) (e : headerOf s ≡ Record c) where
   abbrev k : ℕ
   k = lengthBy (Good c)
 
   abbrev l : List ℤ
   l = readingsOf c s
 
-  abbrev b : Begins s c l (drop k s)
-  b = accepted-begins s c bytes e
+  asks : (d : List ℕ) (place : ℕ) → place + k ≤ length d → Asked (c .r) (c .m) l d place
+  asks d place h =
+      let f = framed-record s c e in
+      let count = length-readings-of c s (f .whole) in
+      record { sound = f .sound; long = count; within = readings-within c s; room = omega (arith, length-record (c .r) (c .m) l count) }
 
-  -- the record of the readings is the bytes that were accepted
-  pub same-bytes : recordOf (c .r) (c .m) l ≡ take k s
-  same-bytes =
-      sym (take-at (recordOf (c .r) (c .m) l) (drop k s) k (length-record (c .r) (c .m) l (b .count))) ∙ ap (take k) (sym (b .whole))
-
-  -- so the writer puts those bytes at any place with room
-  pub written-again : (d : List ℕ) (place : ℕ) → place + k ≤ length d
-      → writing (c .r) (c .m) l d place ≡ told (Next (place + k)) (laidAt place (take k s) d)
-  written-again d place h =
-      let long = length-record (c .r) (c .m) l (b .count) in
-      let same : length (take k s) ≡ k = ap length (sym same-bytes) ∙ long in
-      asked-writes (c .r) (c .m) l d place (record { sound = b .sound; long = b .count; within = b .within; room = omega (arith, long) })
-      ∙ ap (λ (x : List ℕ). told (Next (place + length x)) (laidAt place x d)) same-bytes
-      ∙ ap (λ (n : ℕ). told (Next (place + n)) (laidAt place (take k s) d)) same
+  pub written-read-same : (d : List ℕ) (place : ℕ) → place + k ≤ length d → ReadBack (c .r) (c .m) l d place (writing (c .r) (c .m) l d place)
+  written-read-same d place h =
+      let a = asks d place h in rw (asked-writes (c .r) (c .m) l d place a) (read-done (c .r) (c .m) l d place a)
 
   pub accepted-long : k ≤ length s
-  accepted-long =
-      omega (arith, ap length (b .whole), length-append (recordOf (c .r) (c .m) l) (drop k s), length-record (c .r) (c .m) l (b .count))
+  accepted-long = framed-record s c e .whole
+
+  -- and where no field is the bottom rail, the same bytes
+  module _ (bytes : Below 256 s) (none : NoRail (nibbles (partOf c s))) where
+    abbrev b : Begins s c l (drop k s)
+    b = accepted-begins s c bytes e none
+
+    pub same-bytes : recordOf (c .r) (c .m) l ≡ take k s
+    same-bytes =
+        sym (take-at (recordOf (c .r) (c .m) l) (drop k s) k (length-record (c .r) (c .m) l (b .count))) ∙ ap (take k) (sym (b .whole))
+
+    -- so the writer puts those bytes at any place with room
+    pub written-again : (d : List ℕ) (place : ℕ) → place + k ≤ length d
+        → writing (c .r) (c .m) l d place ≡ told (Next (place + k)) (laidAt place (take k s) d)
+    written-again d place h =
+        let same : length (take k s) ≡ k = ap length (sym same-bytes) ∙ length-record (c .r) (c .m) l (b .count) in
+        asked-writes (c .r) (c .m) l d place (asks d place h)
+        ∙ ap (λ (x : List ℕ). told (Next (place + length x)) (laidAt place x d)) same-bytes
+        ∙ ap (λ (n : ℕ). told (Next (place + n)) (laidAt place (take k s) d)) same
 
 -- and at its own place it changes nothing
-pub written-in-place : (d : List ℕ) (place : ℕ) (c : Code) → Below 256 d → headerOf (drop place d) ≡ Record c
+pub written-in-place : (d : List ℕ) (place : ℕ) (c : Code) → Below 256 d → headerOf (drop place d) ≡ Record c → NoRail (nibbles (partOf c (drop place d)))
     → writing (c .r) (c .m) (readingsOf c (drop place d)) d place ≡ told (Next (place + lengthBy (Good c))) d
-written-in-place d place c bytes e =
+written-in-place d place c bytes e none =
     let s = drop place d in
     let k = lengthBy (Good c) in
     let below : Below 256 s = λ i. rw (getD-drop place d i 0) (bytes (place + i)) in
-    let room : place + k ≤ length d = omega (arith, accepted-long s c below e, length-drop place d) in
-    written-again s c below e d place room ∙ ap (told (Next (place + k))) (laid-same place k d room)
+    let room : place + k ≤ length d = omega (arith, accepted-long s c e, length-drop place d) in
+    written-again s c e below none d place room ∙ ap (told (Next (place + k))) (laid-same place k d room)

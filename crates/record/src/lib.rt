@@ -4,11 +4,10 @@ mod packing;
 ghost use mathlib.Core.Path.{_≡_};
 ghost use Prim.Native.Nat.{suc, _<_, _≤_};
 ghost use lib.ListN.{length};
+ghost use Rattle.decoding.specs.Readings.{Within};
 ghost use Rattle.code.specs.Sound.{Sound, largestM, largestRecordReading};
-ghost use Rattle.code.specs.Entries.{firstBadReading};
-ghost use Rattle.record.specs.Layout.{AllHeld, recordOf, unpacked, partLength, readingsIn};
-ghost use Rattle.record.specs.Reader.{codeOf, lengthBy, framedBy, frameOf};
-ghost use Rattle.record.specs.Reader.{railedBy, headerOf, told, partBy};
+ghost use Rattle.record.specs.Layout.{recordOf, unpacked, partLength, readingsIn};
+ghost use Rattle.record.specs.Reader.{codeOf, lengthBy, headedBy, headerOf, told, partBy};
 ghost use Rattle.record.specs.Unpacking as Unpacking;
 ghost use Rattle.record.specs.Unpacking.{unpacking};
 ghost use Rattle.record.specs.Writing as Writing;
@@ -66,7 +65,7 @@ pub fn record_length(first: u8) -> usize
 // Whether all bytes of the record are there, and its pad bits are 0.
 fn framed(s: &[u8], code: Code) -> Header
     requires { ⌜ Sound code × (0 < length (now s)) ⌝ }
-    ensures { λ answer. ⌜ answer ≡ framedBy (Made.Good code) (now (s .entry)) ⌝ }
+    ensures { λ answer. ⌜ answer ≡ headedBy (Made.Good code) (now (s .entry)) ⌝ }
 {
     if s.len() - 1 < part_length(code) {
         return Header::Refused(Refusal::Torn);
@@ -81,7 +80,7 @@ fn framed(s: &[u8], code: Code) -> Header
 
 // The refusals 1, 8 and 9.
 fn frame(s: &[u8]) -> Header
-    ensures { λ answer. ⌜ answer ≡ frameOf (now (s .entry)) ⌝ }
+    ensures { λ answer. ⌜ answer ≡ headerOf (now (s .entry)) ⌝ }
 {
     if s.len() == 0 {
         return Header::Refused(Refusal::Torn);
@@ -123,46 +122,11 @@ pub fn unpack(part: &[u8], readings: &mut [i16]) -> Unpacked
     Unpacked::Done
 }
 
-// The lowest place of a reading beyond the largest in a packed part of n readings, or n where
-// there is none.
-fn first_rail(part: &[u8], n: usize) -> usize
-    requires { ⌜ (n ≤ 256) × (length (unpacked (now part)) ≡ n) ⌝ }
-    ensures { λ place. ⌜ place ≡ firstBadReading largestRecordReading (unpacked (now (part .entry))) ⌝ }
-{
-    let mut readings = [0i16; 256];
-    packing::put_readings(part, &mut readings[0..n]);
-    code::first_bad_record_reading(&readings[0..n])
-}
-
-// The refusal 4.
-fn railed(s: &[u8], code: Code) -> Header
-    requires { ⌜ Sound code × (suc (partLength (code .m)) ≤ length (now s)) ⌝ }
-    ensures { λ answer. ⌜ answer ≡ railedBy (Header.Record code) (now (s .entry)) ⌝ }
-{
-    let n = code.length();
-    let end = 1 + part_length(code);
-    let place = first_rail(&s[1..end], n);
-    if place < n {
-        return Header::Refused(Refusal::Entry(place));
-    }
-    Header::Record(code)
-}
-
-// The refusals 1, 8, 9, then 4.
-fn read_header(s: &[u8]) -> Header
-    ensures { λ answer. ⌜ answer ≡ headerOf (now (s .entry)) ⌝ }
-{
-    match frame(s) {
-        Header::Record(code) => railed(s, code),
-        Header::Refused(why) => Header::Refused(why),
-    }
-}
-
 // The code of the record that the bytes begin with, or the refusal.
 pub fn header_of(s: &[u8]) -> Header
     ensures { λ answer. ⌜ told answer ≡ told (headerOf (now (s .entry))) ⌝ }
 {
-    read_header(s)
+    frame(s)
 }
 
 // The part of the bytes that holds the packed values: all of the record's bytes after its first.
@@ -170,7 +134,7 @@ pub fn header_of(s: &[u8]) -> Header
 pub fn packed(s: &[u8]) -> &[u8]
     ensures { λ part. ⌜ now part ≡ partBy (headerOf (now (s .entry))) (now (s .entry)) ⌝ }
 {
-    match read_header(s) {
+    match frame(s) {
         Header::Record(code) => {
             let end = 1 + part_length(code);
             &s[1..end]
@@ -179,8 +143,7 @@ pub fn packed(s: &[u8]) -> &[u8]
     }
 }
 
-// Searches the record that the bytes begin with. The refusals are 1, 8, 9, 3, 4, 6, 7, in this
-// order.
+// Searches the record that the bytes begin with. The refusals are 1, 8, 9, 3, 6, 7, in this order.
 pub fn search_record(s: &[u8], allowed: u32, bits: &mut [u8], word: &mut [u8]) -> Searched
     ensures { λ answer. ⌜ Search.told answer (now (bits .exit)) (now (word .exit))
         ≡ searchingRecord allowed (now (s .entry)) (now (bits .entry)) (now (word .entry)) ⌝ }
@@ -230,7 +193,7 @@ fn writable(r: u32, m: u32, readings: &[i16], bytes: usize, place: usize) -> Adm
 
 // The record's first byte, and its packed part.
 fn put_record(code: Code, readings: &[i16], bytes: &mut [u8])
-    requires { ⌜ Sound code × AllHeld (now readings)
+    requires { ⌜ Sound code × Within largestRecordReading (now readings)
         × (length (now bytes) ≡ length (recordOf (code .r) (code .m) (now readings))) ⌝ }
     ensures { λ _. ⌜ now (bytes .exit) ≡ recordOf (code .r) (code .m) (now (readings .entry)) ⌝ }
 {

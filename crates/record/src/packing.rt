@@ -1,9 +1,13 @@
 // Readings in packed bytes: a field of 12 bits for each, two fields in three bytes.
+use code::Code;
 ghost use mathlib.Core.Path.{_≡_};
-ghost use Prim.Native.Nat.{_*_, _/_, _<_};
+ghost use Prim.Native.Nat.{_*_, _/_, _≤_, _<_};
+ghost use lib.IntN.{natAbs};
 ghost use lib.ListN.{length};
 ghost use Rattle.numbers.specs.Front.{front};
-ghost use Rattle.record.specs.Layout.{Held, AllHeld, field, reading, packed, unpacked};
+ghost use Rattle.decoding.specs.Readings.{Within};
+ghost use Rattle.code.specs.Sound.{largestRecordReading};
+ghost use Rattle.record.specs.Layout.{field, reading, packed, unpacked};
 
 fn wide(x: u8) -> u16
     ensures { λ w. ⌜ (w ≡ x) × (w < 256) ⌝ }
@@ -11,16 +15,23 @@ fn wide(x: u8) -> u16
     x as u16
 }
 
-// The reading in a field of 12 bits: two's complement.
-fn signed(field: u16) -> i16
+// The field of -2,048, where the modem's converter stops, and what it is read as.
+const BOTTOM_RAIL: u16 = 2048;
+
+const RAIL_READING: i16 = -Code::LARGEST_RECORD_READING;
+
+// The reading in a field of 12 bits: two's complement, but for the bottom rail.
+fn reading_of(field: u16) -> i16
     requires { ⌜ field < 4096 ⌝ }
     ensures { λ x. ⌜ x ≡ reading field ⌝ }
 {
-    if field < 2048 {
-        field as i16
-    } else {
-        field as i16 - 4096
+    if field == BOTTOM_RAIL {
+        return RAIL_READING;
     }
+    if field < 2048 {
+        return field as i16;
+    }
+    field as i16 - 4096
 }
 
 // Two readings from three bytes a turn; a last single one stays as it is.
@@ -35,8 +46,8 @@ fn put_reading_pairs(part: &[u8], readings: &mut [i16])
         let a = wide(part[3 * j]);
         let b = wide(part[3 * j + 1]);
         let c = wide(part[3 * j + 2]);
-        readings[2 * j] = signed(16 * a + b / 16);
-        readings[2 * j + 1] = signed(256 * (b % 16) + c);
+        readings[2 * j] = reading_of(16 * a + b / 16);
+        readings[2 * j + 1] = reading_of(256 * (b % 16) + c);
         j += 1;
     }
 }
@@ -50,13 +61,13 @@ pub fn put_readings(part: &[u8], readings: &mut [i16])
     put_reading_pairs(part, readings);
     if n % 2 == 1 {
         let j = n / 2;
-        readings[2 * j] = signed(16 * wide(part[3 * j]) + wide(part[3 * j + 1]) / 16);
+        readings[2 * j] = reading_of(16 * wide(part[3 * j]) + wide(part[3 * j + 1]) / 16);
     }
 }
 
 // A reading as a field of 12 bits: two's complement.
 fn field_of(reading: i16) -> u16
-    requires { ⌜ Held reading ⌝ }
+    requires { ⌜ natAbs reading ≤ largestRecordReading ⌝ }
     ensures { λ f. ⌜ (f ≡ field reading) × (f < 4096) ⌝ }
 {
     (reading + 4096) as u16 % 4096
@@ -64,7 +75,8 @@ fn field_of(reading: i16) -> u16
 
 // Three bytes of two readings a turn; a last single reading is left.
 fn put_packed_pairs(readings: &[i16], part: &mut [u8])
-    requires { ⌜ AllHeld (now readings) × (length (now part) ≡ length (packed (now readings))) ⌝ }
+    requires { ⌜ Within largestRecordReading (now readings)
+        × (length (now part) ≡ length (packed (now readings))) ⌝ }
     ensures { λ _. ⌜ now (part .exit) ≡ front (now (part .entry))
         (packed (now (readings .entry))) (3 * (length (now (readings .entry)) / 2)) ⌝ }
 {
@@ -82,7 +94,8 @@ fn put_packed_pairs(readings: &[i16], part: &mut [u8])
 
 // The packed part of readings.
 pub fn put_packed(readings: &[i16], part: &mut [u8])
-    requires { ⌜ AllHeld (now readings) × (length (now part) ≡ length (packed (now readings))) ⌝ }
+    requires { ⌜ Within largestRecordReading (now readings)
+        × (length (now part) ≡ length (packed (now readings))) ⌝ }
     ensures { λ _. ⌜ now (part .exit) ≡ packed (now (readings .entry)) ⌝ }
 {
     let n = readings.len();

@@ -1,4 +1,4 @@
--- Bits and their sums modulo 2; the binary digits of an index (01, "The code").
+-- Bits and their sums modulo 2; the binary digits of an index (docs/RULES.md, §1).
 use mathlib.Core.List.{List, [], _∷_}
 use Prim.Native.Nat.{ℕ, zero, suc, _+_, _^_, _%_, _/_, _<_}
 use lib.ListN.{getD}

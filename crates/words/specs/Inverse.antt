@@ -1,4 +1,4 @@
--- From a word back to its information bits, or the lowest frozen index that is 1 (01, "The code" and refusal 5).
+-- From a word back to its information bits, or the lowest frozen index that is 1 (docs/RULES.md, §1 and §6).
 use mathlib.Core.Path.{_≡_}
 use mathlib.Core.List.{List, [], _∷_}
 use mathlib.Core.Bool.{cond}

@@ -100,7 +100,7 @@ pub dimension-suc : (r m : ℕ) → dimension (suc r) (suc m) ≡ dimension r m 
 unfolding dimension total choose
 dimension-suc r m = omega (arith, total-add (λ i. choose m (suc i)) (λ i. choose m (suc (suc i))) r)
 
--- k as 01 says it twice: the count of information indices is the sum of binomials
+-- k as the rules say it twice: the count of information indices is the sum of binomials
 pub sum-kinds : (r m : ℕ) → sum (kinds r m) ≡ dimension r m
 unfolding sum
 sum-kinds r zero = ap sum (kinds-one r) ∙ sym (dimension-one r)

@@ -1,4 +1,4 @@
--- Information and frozen indices, the number k of information bits, and the words of a code (01, "The code").
+-- Information and frozen indices, the number k of information bits, and the words of a code (docs/RULES.md, §1).
 -- A row of kinds has 1 where an index carries information and 0 where it is frozen; RM(r,m) is one such row.
 use mathlib.Core.List.{List, [], _∷_, _++_, map}
 use mathlib.Core.Path.{_≡_}
@@ -24,7 +24,7 @@ choose m zero = 1
 choose zero (suc j) = 0
 choose (suc m) (suc j) = choose m j + choose m (suc j)
 
--- k as 01 writes it: the sum of m choose j for j = 0..r
+-- k as the rules write it: the sum of m choose j for j = 0..r
 unfoldable pub dimension : ℕ → ℕ → ℕ
 dimension r m = total (choose m) (suc r)
 

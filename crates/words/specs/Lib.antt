@@ -1,4 +1,4 @@
--- Definitions, to be read beside 01, "The code"
+-- Definitions, to be read beside docs/RULES.md, §1
 pub mod Bits
 pub mod Word
 pub mod Kinds

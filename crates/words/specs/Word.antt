@@ -1,4 +1,4 @@
--- The word of a row u of 2^m bits, in three published forms (01, "The code"): bit by bit, by the Kronecker power, and by halves.
+-- The word of a row u of 2^m bits, in three published forms (docs/RULES.md, §1): bit by bit, by the Kronecker power, and by halves.
 use mathlib.Core.List.{List, _++_}
 use mathlib.Core.Bool.{Bool, true, cond, _&&_}
 use Prim.Native.Nat.{ℕ, zero, suc, _*_, _^_, _%_, _/_}

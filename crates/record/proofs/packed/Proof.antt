@@ -3,13 +3,13 @@ use mathlib.Core.Path.{_∙_, ap, sym}
 use native.Mathlib.Omega.{arith}
 use Rattle.record.specs.declared.Header.{Header}
 use Rattle.record.specs.Reader.{partBy}
-use Rattle.record.specs.ReaderLaws.{Framed, framed-record, header-framed, part-taken, part-small}
+use Rattle.record.specs.ReaderLaws.{Framed, framed-record, part-taken, part-small}
 use borrow.Author.Needs.{needs}
 use Rattle.record.proofs.packed.Statement.{statement}
 use Rattle.record.proofs.packed.Tie as tie
 
-read-header-requires : tie.Need-read-header-requires
-read-header-requires c κs = search needs
+frame-requires : tie.Need-frame-requires
+frame-requires c κs = search needs
 
 enum-known-code : tie.Need-enum-known-code
 enum-known-code c = search needs
@@ -18,7 +18,7 @@ enum-known-code c = search needs
 framed : (c : tie.After-known-told) → Framed (c .before .before .before .before .before .args .s .now) (c .before .code .given .0 .0)
 framed c =
     let s = c .before .before .before .before .before .args .s .now in
-    framed-record s _ (header-framed s _ (sym (c .before .before .before .read-header .ensures) ∙ c .before .code .given .1))
+    framed-record s _ (sym (c .before .before .before .frame .ensures) ∙ c .before .code .given .1)
 
 part-length-requires : tie.Need-part-length-requires
 part-length-requires c κs = framed c .sound
@@ -45,18 +45,18 @@ returns : tie.Need-returns
 returns c =
     let s = c .before .before .before .before .before .before .before .args .s .now in
     part-taken (c .before .before .before .code .given .0 .0) s _ (c .before .part-length .ensures)
-    ∙ ap (λ (h : Header). partBy h s) (sym (sym (c .before .before .before .before .before .read-header .ensures) ∙ c .before .before .before .code .given .1))
+    ∙ ap (λ (h : Header). partBy h s) (sym (sym (c .before .before .before .before .before .frame .ensures) ∙ c .before .before .before .code .given .1))
 
 returns-2 : tie.Need-returns-2
 returns-2 c =
     let s = c .before .before .before .before .before .args .s .now in
-    ap (λ (h : Header). partBy h s) (sym (sym (c .before .before .before .read-header .ensures) ∙ c .before .enum-told .given .1))
+    ap (λ (h : Header). partBy h s) (sym (sym (c .before .before .before .frame .ensures) ∙ c .before .enum-told .given .1))
 
 pub packed-spec : {M : Type 1} → statement M
 packed-spec =
     tie.close
     (tie.spec
-    read-header-requires
+    frame-requires
     enum-known-code
     part-length-requires
     add-end

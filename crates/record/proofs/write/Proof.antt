@@ -9,7 +9,6 @@ use Rattle.code.specs.declared.Admitted.{Admitted}
 use Rattle.record.specs.Layout.{recordOf}
 use Rattle.record.specs.LayoutLaws.{length-record}
 use Rattle.record.specs.ReaderLaws.{part-small}
-use Rattle.record.specs.Accepted.{all-held}
 use Rattle.record.specs.Writing.{writtenBy, writing}
 use Rattle.record.specs.WritingLaws.{Writable, allowed-writable, wrote}
 use borrow.Author.Needs.{needs}
@@ -66,7 +65,7 @@ put-record-requires c κs =
     let g = c .before .before .before .before .before .before .before .args in
     let k = 1 + c .before .part-length .result in
     let lent : (g .place + k) - g .place ≡ k = omega arith in
-    (f .sound, all-held (g .readings .now) (f .within), mid-len (g .place) (g .place + k) (g .buffer .now) (within (c .before)) ∙ lent ∙ sym (size (c .before)))
+    (f .sound, f .within, mid-len (g .place) (g .place + k) (g .buffer .now) (within (c .before)) ∙ lent ∙ sym (size (c .before)))
 
 enum-known-why : tie.Need-enum-known-why
 enum-known-why c = search needs

@@ -15,7 +15,7 @@ use Rattle.record.proofs.packing.put_reading_pairs.Statement.{statement
 use Rattle.record.proofs.packing.put_reading_pairs.Tie as tie
 use Rattle.record.proofs.packing.put_reading_pairs.Reads as reads
 use Rattle.record.proofs.packing.put_reading_pairs.Lts as lts
-use Rattle.record.proofs.packing.signed.Reads as signed-reads
+use Rattle.record.proofs.packing.reading_of.Reads as reading-of-reads
 use Rattle.record.proofs.packing.wide.Reads as wide-reads
 
 abbrev Inv-loop : tie.InvT-loop
@@ -61,14 +61,14 @@ shared-slice-read-wide-3 c = omega (arith, length-unpacked (c .before .before .b
 wide-requires-3 : tie.Need-wide-requires-3 Inv-loop μ-loop
 wide-requires-3 c κs = tt
 
-mul-signed : tie.Need-mul-signed Inv-loop μ-loop
-mul-signed c = omega arith
+mul-reading-of : tie.Need-mul-reading-of Inv-loop μ-loop
+mul-reading-of c = omega arith
 
-add-signed : tie.Need-add-signed Inv-loop μ-loop
-add-signed c = omega arith
+add-reading-of : tie.Need-add-reading-of Inv-loop μ-loop
+add-reading-of c = omega arith
 
-signed-requires : tie.Need-signed-requires Inv-loop μ-loop
-signed-requires c κs = omega arith
+reading-of-requires : tie.Need-reading-of-requires Inv-loop μ-loop
+reading-of-requires c κs = omega arith
 
 mul-readings : tie.Need-mul-readings Inv-loop μ-loop
 mul-readings c = omega arith
@@ -79,14 +79,14 @@ mul-readings-2 c = omega arith
 slice-set-from-readings : tie.Need-slice-set-from-readings Inv-loop μ-loop
 slice-set-from-readings c = omega arith
 
-mul-signed-2 : tie.Need-mul-signed-2 Inv-loop μ-loop
-mul-signed-2 c = omega arith
+mul-reading-of-2 : tie.Need-mul-reading-of-2 Inv-loop μ-loop
+mul-reading-of-2 c = omega arith
 
-add-signed-2 : tie.Need-add-signed-2 Inv-loop μ-loop
-add-signed-2 c = omega arith
+add-reading-of-2 : tie.Need-add-reading-of-2 Inv-loop μ-loop
+add-reading-of-2 c = omega arith
 
-signed-requires-2 : tie.Need-signed-requires-2 Inv-loop μ-loop
-signed-requires-2 c κs = omega arith
+reading-of-requires-2 : tie.Need-reading-of-requires-2 Inv-loop μ-loop
+reading-of-requires-2 c κs = omega arith
 
 mul-t13 : tie.Need-mul-t13 Inv-loop μ-loop
 mul-t13 c = omega arith
@@ -100,7 +100,7 @@ mul-t21 c = omega arith
 slice-set-from-readings-2 : tie.Need-slice-set-from-readings-2 Inv-loop μ-loop
 slice-set-from-readings-2 c =
     let o = c .before .before .before .before .before .before .before .before .before .loop in
-    omega (arith, length-set (o .readings) (2 * o .j) (toZ w16 (ofZ w16 (c .before .signed .result))))
+    omega (arith, length-set (o .readings) (2 * o .j) (toZ w16 (ofZ w16 (c .before .reading-of .result))))
 
 add-j : tie.Need-add-j Inv-loop μ-loop
 add-j c = omega arith
@@ -115,13 +115,13 @@ loop-again c =
     let p = g .part .now in
     let x = unpacked p in
     let long : 3 * o .j + 3 ≤ length p = omega (arith, length-unpacked p) in
-    let first : toZ w16 (ofZ w16 (c .before .signed .result)) ≡ getD x (2 * o .j) (pos 0) =
-    toZ-ofZ (record { sfits = c .before .signed .ok })
-    ∙ c .before .signed .ensures
+    let first : toZ w16 (ofZ w16 (c .before .reading-of .result)) ≡ getD x (2 * o .j) (pos 0) =
+    toZ-ofZ (record { sfits = c .before .reading-of .ok })
+    ∙ c .before .reading-of .ensures
     ∙ rw (c .before .before .before .before .before .before .wide .ensures .0, c .before .before .before .before .wide2 .ensures .0) (sym (reading-even (o .j) p (omega arith))) in
-    let second : toZ w16 (ofZ w16 (c .signed2 .result)) ≡ getD x (2 * o .j + 1) (pos 0) =
-    toZ-ofZ (record { sfits = c .signed2 .ok })
-    ∙ c .signed2 .ensures
+    let second : toZ w16 (ofZ w16 (c .reading-of2 .result)) ≡ getD x (2 * o .j + 1) (pos 0) =
+    toZ-ofZ (record { sfits = c .reading-of2 .ok })
+    ∙ c .reading-of2 .ensures
     ∙ rw (c .before .before .before .before .wide2 .ensures .0, c .before .before .wide3 .ensures .0) (sym (reading-odd (o .j) p long)) in (
       refl,
       omega arith,
@@ -157,15 +157,15 @@ put-reading-pairs-spec =
     add-wide-2
     shared-slice-read-wide-3
     wide-requires-3
-    mul-signed
-    add-signed
-    signed-requires
+    mul-reading-of
+    add-reading-of
+    reading-of-requires
     mul-readings
     mul-readings-2
     slice-set-from-readings
-    mul-signed-2
-    add-signed-2
-    signed-requires-2
+    mul-reading-of-2
+    add-reading-of-2
+    reading-of-requires-2
     mul-t13
     add-t10
     mul-t21

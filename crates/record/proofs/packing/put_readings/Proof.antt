@@ -17,7 +17,7 @@ use Rattle.record.proofs.packing.put_readings.Tie as tie
 use Rattle.record.proofs.packing.put_readings.Reads as reads
 use Rattle.record.proofs.packing.put_readings.Lts as lts
 use Rattle.record.proofs.packing.put_reading_pairs.Reads as put-reading-pairs-reads
-use Rattle.record.proofs.packing.signed.Reads as signed-reads
+use Rattle.record.proofs.packing.reading_of.Reads as reading-of-reads
 use Rattle.record.proofs.packing.wide.Reads as wide-reads
 
 put-reading-pairs-requires : tie.Need-put-reading-pairs-requires
@@ -32,8 +32,8 @@ shared-slice-read-wide c = omega (arith, length-unpacked (c .before .before .bef
 wide-requires : tie.Need-wide-requires
 wide-requires c κs = search needs
 
-mul-signed : tie.Need-mul-signed
-mul-signed c = search needs
+mul-reading-of : tie.Need-mul-reading-of
+mul-reading-of c = search needs
 
 mul-wide-2 : tie.Need-mul-wide-2
 mul-wide-2 c = search needs
@@ -47,11 +47,11 @@ shared-slice-read-wide-2 c = omega (arith, length-unpacked (c .before .before .b
 wide-requires-2 : tie.Need-wide-requires-2
 wide-requires-2 c κs = search needs
 
-add-signed : tie.Need-add-signed
-add-signed c = search needs
+add-reading-of : tie.Need-add-reading-of
+add-reading-of c = search needs
 
-signed-requires : tie.Need-signed-requires
-signed-requires c κs = search needs
+reading-of-requires : tie.Need-reading-of-requires
+reading-of-requires c κs = search needs
 
 mul-t23 : tie.Need-mul-t23
 mul-t23 c = search needs
@@ -72,9 +72,9 @@ returns c =
     let p = g .args .part .now in
     let x = unpacked p in
     let k = length d / 2 in
-    let stored : toZ w16 (ofZ w16 (c .signed .result)) ≡ getD x (2 * k) (pos 0) =
-    toZ-ofZ (record { sfits = c .signed .ok })
-    ∙ c .signed .ensures
+    let stored : toZ w16 (ofZ w16 (c .reading-of .result)) ≡ getD x (2 * k) (pos 0) =
+    toZ-ofZ (record { sfits = c .reading-of .ok })
+    ∙ c .reading-of .ensures
     ∙ rw (c .before .before .before .wide .ensures .0, c .before .wide2 .ensures .0) (sym (reading-even k p (omega (arith, length-unpacked p)))) in
     ap₂ (λ (l : List ℤ) (v : ℤ). set l (2 * k) v) (c .before .before .before .before .before .before .before .put-reading-pairs .ensures) stored
     ∙ pairs-and-last d x (pos 0) (sym (g .pre)) (c .before .before .before .before .before .if1 .taken)
@@ -95,13 +95,13 @@ put-readings-spec =
     mul-wide
     shared-slice-read-wide
     wide-requires
-    mul-signed
+    mul-reading-of
     mul-wide-2
     add-wide
     shared-slice-read-wide-2
     wide-requires-2
-    add-signed
-    signed-requires
+    add-reading-of
+    reading-of-requires
     mul-t23
     mul-t24
     slice-set-from-readings

@@ -1,0 +1,151 @@
+-- The loop of `cross`, and the transform by halves.
+use mathlib.Core.Path.{_≡_, refl, ap, ap₂, sym, _∙_}
+use mathlib.Core.List.{List, [], _++_}
+use Prim.Native.Nat.{ℕ, zero, suc, _+_, _-_, _^_, _≤_, _<_}
+use native.Mathlib.Omega.{arith}
+use native.Mathlib.Numerals.{add-one}
+use lib.IntN.{ℤ, pos, natAbs, _+ℤ_, _-ℤ_}
+use lib.ListN.{length, getD, set, take, drop, length-drop, length-append, take-append-drop, drop-of-length-le}
+use lib.Seq.{take-at, drop-at, length-take-le, set-append-left, take-set-le, drop-set-add, getD-take, getD-drop}
+use borrow.Rule.Slice.PartMut.{midOf, putMid}
+use Rattle.numbers.specs.Lent.{lent-to, back-to, lent-from, back-from}
+use Rattle.numbers.specs.Front.{front, front-suc, front-after, front-done}
+use Rattle.numbers.specs.Halves.{length-first-half, length-second-half, getD-first, getD-second}
+use Rattle.decoding.specs.Readings.{turn, sizes}
+use Rattle.decoding.specs.StepLaws.{entry-sizes, sizes-append}
+use Rattle.hadamard.specs.Hadamard.{combined, sums, differences, hadamard}
+use Rattle.hadamard.specs.HadamardLaws.{getD-combined, length-combined, sizes-combined}
+use Rattle.first_order.specs.Work.{crossed}
+
+-- a store behind the first n entries
+set-second : {A : Type 0} (p q : List A) (n j : ℕ) (a : A) → length p ≡ n → set (p ++ q) (n + j) a ≡ p ++ set q j a
+set-second p q n j a e =
+    sym (take-append-drop n (set (p ++ q) (n + j) a))
+    ∙ ap₂ _++_ (take-set-le n (p ++ q) (n + j) a (omega arith) ∙ take-at p q n e)
+    (drop-set-add n (p ++ q) j a ∙ ap (λ l. set l j a) (drop-at p q n e))
+
+module _ (d : List ℤ) (h : ℕ) (long : length d ≡ h + h) where
+  abbrev part : ℕ → List ℤ
+  part e = combined e (take h d) (drop h d)
+
+  halves-alike : length (take h d) ≡ length (drop h d)
+  halves-alike = length-first-half h d long ∙ sym (length-second-half h d long)
+
+  pub length-part : (e : ℕ) → length (part e) ≡ h
+  length-part e = length-combined e (take h d) (drop h d) halves-alike ∙ length-first-half h d long
+
+  -- after j turns
+  abbrev pub crossing : ℕ → List ℤ
+  crossing j = front (take h d) (part 0) j ++ front (drop h d) (part 1) j
+
+  pub crossing-none : d ≡ crossing 0
+  crossing-none = sym (take-append-drop h d)
+
+  pub crossing-all : crossing h ≡ crossed h d
+  crossing-all =
+      ap₂ _++_
+      (front-done (take h d) (part 0) h (omega (arith, length-first-half h d long)) (drop-of-length-le (part 0) {i = h} (omega (arith, length-part 0))))
+      (front-done (drop h d) (part 1) h (omega (arith, length-second-half h d long)) (drop-of-length-le (part 1) {i = h} (omega (arith, length-part 1))))
+
+  length-front : (x y : List ℤ) (j : ℕ) → length x ≡ h → length y ≡ h → j ≤ h → length (front x y j) ≡ h
+  length-front x y j ex ey k = length-append (take j y) (drop j x) ∙ omega (arith, length-take-le j y (omega arith), length-drop j x)
+
+  pub length-crossing : (j : ℕ) → j ≤ h → length (crossing j) ≡ length d
+  length-crossing j k =
+      length-append (front (take h d) (part 0) j) (front (drop h d) (part 1) j)
+      ∙ omega (
+        arith,
+        length-front (take h d) (part 0) j (length-first-half h d long) (length-part 0) k,
+        length-front (drop h d) (part 1) j (length-second-half h d long) (length-part 1) k,
+      )
+
+  pub pair-small : (j : ℕ) → j < h → natAbs (getD d j (pos 0)) + natAbs (getD d (h + j) (pos 0)) ≤ sizes d
+  pair-small j k =
+      let e : sizes d ≡ sizes (take h d) + sizes (drop h d) = sym (ap sizes (take-append-drop h d)) ∙ sizes-append (take h d) (drop h d) in
+      rw (sym (getD-take h d j (pos 0) k), sym (getD-drop h d j (pos 0)), e) (omega (arith, entry-sizes (take h d) j, entry-sizes (drop h d) j))
+
+  module _ (s : List ℤ) (j : ℕ) (more : j < h) (is : s ≡ crossing j) where
+    first-long : length (front (take h d) (part 0) j) ≡ h
+    first-long = length-front (take h d) (part 0) j (length-first-half h d long) (length-part 0) (omega arith)
+
+    second-long : length (front (drop h d) (part 1) j) ≡ h
+    second-long = length-front (drop h d) (part 1) j (length-second-half h d long) (length-part 1) (omega arith)
+
+    -- what a turn reads is as it was
+    pub read-first : getD s j (pos 0) ≡ getD d j (pos 0)
+    read-first =
+        ap (λ (l : List ℤ). getD l j (pos 0)) is
+        ∙ getD-first (front (take h d) (part 0) j) (front (drop h d) (part 1) j) h first-long j (pos 0) more
+        ∙ front-after (take h d) (part 0) j j (pos 0) (omega (arith, length-first-half h d long)) (omega (arith, length-part 0)) (omega arith)
+        ∙ getD-take h d j (pos 0) more
+
+    pub read-second : getD s (h + j) (pos 0) ≡ getD d (h + j) (pos 0)
+    read-second =
+        ap (λ (l : List ℤ). getD l (h + j) (pos 0)) is
+        ∙ getD-second (front (take h d) (part 0) j) (front (drop h d) (part 1) j) h first-long j (pos 0)
+        ∙ front-after (drop h d) (part 1) j j (pos 0) (omega (arith, length-second-half h d long)) (omega (arith, length-part 1)) (omega arith)
+        ∙ getD-drop h d j (pos 0)
+
+    entry-at : (e : ℕ) → getD (part e) j (pos 0) ≡ getD d j (pos 0) +ℤ turn e (getD d (h + j) (pos 0))
+    entry-at e =
+        getD-combined e (take h d) (drop h d) j halves-alike
+        ∙ ap₂ (λ (x y : ℤ). x +ℤ turn e y) (getD-take h d j (pos 0) more) (getD-drop h d j (pos 0))
+
+    -- what a turn stores
+    pub turn-stores : (a b : ℤ) → a ≡ getD d j (pos 0) +ℤ getD d (h + j) (pos 0) → b ≡ getD d j (pos 0) -ℤ getD d (h + j) (pos 0)
+        → set (set s j a) (h + j) b ≡ crossing (j + 1)
+    turn-stores a b ea eb =
+        let x = front (take h d) (part 0) j in
+        let y = front (drop h d) (part 1) j in
+        let p : a ≡ getD (part 0) j (pos 0) = ea ∙ sym (entry-at 0) in
+        let q : b ≡ getD (part 1) j (pos 0) = eb ∙ sym (entry-at 1) in
+        let first : set x j a ≡ front (take h d) (part 0) (suc j) =
+        ap (set x j) p ∙ front-suc (take h d) (part 0) j (pos 0) (omega (arith, length-first-half h d long)) (omega (arith, length-part 0)) in
+        let second : set y j b ≡ front (drop h d) (part 1) (suc j) =
+        ap (set y j) q ∙ front-suc (drop h d) (part 1) j (pos 0) (omega (arith, length-second-half h d long)) (omega (arith, length-part 1)) in
+        let long-first : length (front (take h d) (part 0) (suc j)) ≡ h =
+        length-front (take h d) (part 0) (suc j) (length-first-half h d long) (length-part 0) (omega arith) in
+        rw (add-one, is)
+        (ap (λ (l : List ℤ). set l (h + j) b) (set-append-left x y j a (omega (arith, first-long)) ∙ ap (λ (l : List ℤ). l ++ y) first)
+        ∙ set-second (front (take h d) (part 0) (suc j)) y h j b long-first
+        ∙ ap (λ (l : List ℤ). front (take h d) (part 0) (suc j) ++ l) second)
+
+  -- ---- the halves of what came out
+  pub first-crossed : take h (crossed h d) ≡ part 0
+  first-crossed = take-at (part 0) (part 1) h (length-part 0)
+
+  pub second-crossed : drop h (crossed h d) ≡ part 1
+  second-crossed = drop-at (part 0) (part 1) h (length-part 0)
+
+  pub part-small : (e : ℕ) → sizes (part e) ≤ sizes d
+  part-small e =
+      let whole : sizes (take h d) + sizes (drop h d) ≡ sizes d = sym (sizes-append (take h d) (drop h d)) ∙ ap sizes (take-append-drop h d) in
+      omega (arith, sizes-combined e (take h d) (drop h d))
+
+  -- lent one after the other: r is what `cross` left, a and b are what came back of the halves
+  module _ (r : List ℤ) (is : r ≡ crossed h d) where
+    pub first-lent : midOf 0 (h - 0) r ≡ part 0
+    first-lent = lent-to h r ∙ ap (take h) is ∙ first-crossed
+
+    pub first-back : (a : List ℤ) → putMid 0 (h - 0) r a ≡ a ++ part 1
+    first-back a = back-to h r a ∙ ap (λ (l : List ℤ). a ++ l) (ap (drop h) is ∙ second-crossed)
+
+    module _ (a : List ℤ) (la : length a ≡ h) where
+      pub length-back : length (putMid 0 (h - 0) r a) ≡ h + h
+      length-back = ap length (first-back a) ∙ length-append a (part 1) ∙ omega (arith, length-part 1)
+
+      pub second-lent : (w : List ℤ) → w ≡ putMid 0 (h - 0) r a → midOf h (length w - h) w ≡ part 1
+      second-lent w e = lent-from h w ∙ ap (drop h) (e ∙ first-back a) ∙ drop-at a (part 1) h la
+
+      pub second-back : (w : List ℤ) → w ≡ putMid 0 (h - 0) r a → (b : List ℤ) → putMid h (length w - h) w b ≡ a ++ b
+      second-back w e b = back-from h w b ∙ ap (λ (l : List ℤ). l ++ b) (ap (take h) (e ∙ first-back a) ∙ take-at a (part 1) h la)
+
+-- the transforms of both are the transform
+pub by-halves : (m : ℕ) (d : List ℤ) (h : ℕ) → h ≡ 2 ^ (m - 1) → m ≡ suc (m - 1) → (a b : List ℤ)
+    → a ≡ hadamard (m - 1) (combined 0 (take h d) (drop h d)) → b ≡ hadamard (m - 1) (combined 1 (take h d) (drop h d)) → a ++ b ≡ hadamard m d
+unfolding hadamard
+by-halves zero d h e f a b ea eb = absurd (omega arith)
+by-halves (suc m) d h e f a b ea eb =
+    let q : suc m - 1 ≡ m = omega arith in
+    let p : h ≡ 2 ^ m = e ∙ ap (λ (k : ℕ). 2 ^ k) q in
+    ap₂ _++_ ea eb ∙ rw (q, p) refl
