@@ -3,6 +3,7 @@ pub mod Outcome
 pub mod Turned
 pub mod Work
 -- That it holds, and that no second outcome meets a promise
+pub mod Demand1Met
 pub mod TurnedMet
 pub mod OnlyOutcome
 -- Laws

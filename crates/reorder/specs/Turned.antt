@@ -1,31 +1,73 @@
--- C-20 of the calls: 11 exactly, the undo map that is handed back, and two searches, of readings and of reordered readings. Proved in TurnedMet.
+-- C-20 of the calls: Demand 1, with 11 exactly; the undo map that is handed back; and two searches, of readings and of reordered readings. Proved in TurnedMet.
 use mathlib.Core.Path.{_≡_}
-use mathlib.Core.Logic.{_↔_}
-use mathlib.Core.List.{List}
-use Prim.Native.Nat.{ℕ, _^_}
-use lib.IntN.{ℤ}
+use mathlib.Core.List.{List, []}
+use Prim.Native.Nat.{ℕ, _*_, _^_, _<_}
+use lib.IntN.{ℤ, pos, natAbs}
 use lib.ListN.{length}
 use Rattle.words.specs.Kinds.{dimension}
-use Rattle.maps.specs.Maps.{Map, reordered, Undoes, Undoable}
-use Rattle.images.specs.Images.{Mapped}
+use Rattle.code.specs.declared.Refusal.the-variants.{Parameters, InputLength, OutputLength, Entry, Map}
+use Rattle.code.specs.Sound.{largestM, largestReading}
+use Rattle.code.specs.Entries.{firstBadBit, firstBadReading}
+use Rattle.code.specs.Demand1.{View, Checks, passed, check, LowestBad, Demand1}
+use Rattle.maps.specs.Maps as Maps
+use Rattle.maps.specs.Maps.{reordered, Undoes, Undoable}
 use Rattle.search.specs.Outcome as Search
 use Rattle.search.specs.Demands.{SoundSearch}
-use Rattle.reorder.specs.Outcome.{reordering, reorderingWord, undoing, multiplying}
+use Rattle.reorder.specs.Outcome.{Outcome, reordering, reorderingWord, undoing, multiplying}
 
 -- whole bits, and some table and row, of any kind, undo the map
 abbrev pub Good : ℕ → List ℕ → List ℕ → Type 0
-Good m A b = Map m A b × Undoable m A b
+Good m A b = Maps.Map m A b × Undoable m A b
 
--- where all lengths are right, 11 is given exactly if the map is not good; for a product, either
-pub record ElevenExactly (m : ℕ) (A b : List ℕ) : Type 0 where
-  pub by-reorder : (l out : List ℤ) → length l ≡ 2 ^ m → length out ≡ 2 ^ m → (reordering m A b l out .carry .number ≡ 11) ↔ (Good m A b → ⊥)
-  pub by-reorder-word : (x out : List ℕ) → length x ≡ 2 ^ m → length out ≡ 2 ^ m → (reorderingWord m A b x out .carry .number ≡ 11) ↔ (Good m A b → ⊥)
-  pub by-undo : (C c : List ℕ) → Mapped m C c → (undoing m A b C c .carry .number ≡ 11) ↔ (Good m A b → ⊥)
-  pub by-product : (C c D d : List ℕ) → Mapped m C c → Mapped m D d → (multiplying m A b C c D d .carry .number ≡ 11) ↔ ((Good m A b × Good m C c) → ⊥)
-  -- and else the undo map that is handed back undoes the map, from both sides
-  pub undone : (C c : List ℕ) → Mapped m C c → (undoing m A b C c .carry .number ≡ 11 → ⊥)
+-- ---- the checks of the calls, in their order: 1, 2, 3, 11, then 4
+-- the table is m by m, and the row m long
+abbrev pub LongMap : ℕ → List ℕ → List ℕ → Type 0
+LongMap m A b = (length A ≡ m * m) × (length b ≡ m)
+
+-- by the lengths of the inputs, those of the outputs, and the maps
+abbrev pub mapChecks : ℕ → Type 0 → Type 0 → Type 0 → Checks → Checks
+mapChecks m inputs outputs maps rest =
+    check Parameters (largestM < m) (check InputLength (inputs → ⊥) (check OutputLength (outputs → ⊥) (check Map (maps → ⊥) rest)))
+
+abbrev pub reorderChecks : ℕ → List ℕ → List ℕ → List ℤ → List ℤ → Checks
+reorderChecks m A b l out =
+    let place = firstBadReading largestReading l in
+    mapChecks m (LongMap m A b × (length l ≡ 2 ^ m)) (length out ≡ 2 ^ m) (Good m A b)
+    (check (Entry place) (LowestBad (pos 0) natAbs largestReading l place) passed)
+
+abbrev pub reorderWordChecks : ℕ → List ℕ → List ℕ → List ℕ → List ℕ → Checks
+reorderWordChecks m A b x out =
+    let place = firstBadBit x in
+    mapChecks m (LongMap m A b × (length x ≡ 2 ^ m)) (length out ≡ 2 ^ m) (Good m A b) (check (Entry place) (LowestBad 0 (λ b. b) 1 x place) passed)
+
+abbrev pub undoChecks : ℕ → List ℕ → List ℕ → List ℕ → List ℕ → Checks
+undoChecks m A b C c = mapChecks m (LongMap m A b) (LongMap m C c) (Good m A b) passed
+
+-- of either map
+abbrev pub productChecks : ℕ → List ℕ → List ℕ → List ℕ → List ℕ → List ℕ → List ℕ → Checks
+productChecks m A b C c D d = mapChecks m (LongMap m A b × LongMap m C c) (LongMap m D d) (Good m A b × Good m C c) passed
+
+-- what a call tells; what is lent stands beside it, since it is of another kind for each call
+abbrev pub reorderView : {B : Type 0} → Outcome B → View
+reorderView o =
+    let c = o .carry in
+    record { number = c .number; place = c .place; penalty = c .penalty; gap = 0; visits = c .visits; buffers = [] }
+
+-- Demand 1: each number exactly if the first check that applies gives it, with what it carries; a refusal leaves what is lent as it was
+pub record ReorderDemand1 {B : Type 0} (checks : Checks) (lent : B) (o : Outcome B) : Type 0 where
+  pub numbers : Demand1 checks [] (reorderView o)
+  pub kept : 0 < o .carry .number → o .lent ≡ lent
+
+pub record ReorderDemands (m : ℕ) (A b : List ℕ) : Type 0 where
+  pub by-reorder : (l out : List ℤ) → ReorderDemand1 (reorderChecks m A b l out) out (reordering m A b l out)
+  pub by-reorder-word : (x out : List ℕ) → ReorderDemand1 (reorderWordChecks m A b x out) out (reorderingWord m A b x out)
+  pub by-undo : (C c : List ℕ) → ReorderDemand1 (undoChecks m A b C c) (C, c) (undoing m A b C c)
+  pub by-product : (C c D d : List ℕ) → ReorderDemand1 (productChecks m A b C c D d) (D, d) (multiplying m A b C c D d)
+  -- where nothing is refused, the undo map that is handed back undoes the map, from both sides
+  pub undone : (C c : List ℕ) → undoing m A b C c .carry .number ≡ 0
       → let o = undoing m A b C c in Undoes m A b (o .lent .0) (o .lent .1) × Undoes m (o .lent .0) (o .lent .1) A b
 
+-- ---- two searches
 -- two outcomes of the search: of one number, penalty and gap; where the best word is found, the second word is the first, reordered
 pub record WordReordered (m : ℕ) (A b : List ℕ) (o o′ : Search.Outcome) : Type 0 where
   pub same-number : o′ .number ≡ o .number
