@@ -10,6 +10,7 @@ pub mod LayoutLaws
 pub mod PairLaws
 pub mod ReaderLaws
 pub mod Accepted
+pub mod RunningSums
 pub mod HeaderLaws
 pub mod OnlyHeader
 pub mod UnpackingLaws
