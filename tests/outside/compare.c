@@ -164,9 +164,10 @@ static void largest_sums(void) {
     begin("RM(8,8), 256 readings of the largest size, any signs");
     for (int t = 0; t < 40; t++) {
         for (int j = 0; j < 256; j++) l[j] = t == 0 ? LARGEST : t == 1 ? -LARGEST : random_below(2) ? LARGEST : -LARGEST;
-        s = run(8, 8, 512, l);
-        CHECK(s.a.refusal == 0 && s.a.penalty == 0 && s.a.gap == LARGEST && s.a.visits == 512, "%u, gap %u, visits %u", s.a.refusal, s.a.gap, s.a.visits);
+        s = run(8, 8, UINT32_MAX, l);
+        CHECK(s.a.refusal == 0 && s.a.penalty == 0 && s.a.gap == LARGEST, "%u, penalty %u, gap %u", s.a.refusal, s.a.penalty, s.a.gap);
         for (int j = 0; j < 256; j++) CHECK(s.word[j] == (l[j] < 0), "bit %d", j);
+        if (t < 4) against_walk(8, 8, l, 5000);
         quick_and_encode(8, 8, l);
     }
     end();
