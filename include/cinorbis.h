@@ -186,7 +186,7 @@ CINORBIS_CALL uint32_t cinorbis_write_record(uint32_t r, uint32_t m, size_t plac
                                              uint8_t *buffer, size_t buffer_length, cinorbis_written *written);
 
 /* The readings of a packed part, as cinorbis_record gives it. In: the part's bytes. Out: its n readings; the numbers are all 0. Refuses 2
- * for a part of a length that no record has, 3 for a buffer of another length than its readings. Promise: record::unpack. */
+ * for a part of a length that no record has, 3 for a buffer of another length than its readings. Promise: packing::unpack. */
 CINORBIS_CALL uint32_t cinorbis_unpack(const uint8_t *part, size_t part_length, int16_t *readings, size_t readings_length,
                                        cinorbis_numbers *numbers);
 
