@@ -22,8 +22,8 @@ abbrev pub runnerUpBy : Header → List ℕ → List ℕ
 runnerUpBy (Refused why) s = []
 runnerUpBy (Record c) s = runnerUp (c .m) (kinds (c .r) (c .m)) (readingsOf c s)
 
-abbrev pub wholeBy : Header → ℕ → List ℕ → List ℕ → List ℕ → WholeOutcome
-wholeBy h allowed s bits word = shownWith (runnerUpBy h s) (searchingBy h allowed s bits word)
+abbrev pub searchingWholeBy : Header → ℕ → List ℕ → List ℕ → List ℕ → WholeOutcome
+searchingWholeBy h allowed s bits word = shownWith (runnerUpBy h s) (searchingBy h allowed s bits word)
 
 abbrev pub searchingRecordWhole : ℕ → List ℕ → List ℕ → List ℕ → WholeOutcome
 searchingRecordWhole allowed s bits word = shownWith (runnerUpBy (headerOf s) s) (searchingRecord allowed s bits word)

@@ -9,7 +9,7 @@ ghost use Rattle.record.specs.Reader.{codeOf, lengthBy, headedBy, header
 ghost use Rattle.record.specs.Writing as Writing;
 ghost use Rattle.record.specs.Writing.{writable, writing};
 ghost use Rattle.search.specs.RunnerUp.{toldWhole};
-ghost use Rattle.record.specs.Searching.{wholeBy, searchingRecordWhole};
+ghost use Rattle.record.specs.Searching.{searchingWholeBy, searchingRecordWhole};
 use code::Admitted;
 use code::Code;
 use code::Made;
@@ -106,10 +106,16 @@ pub fn search_record(s: &[u8], allowed: u32, bits: &mut [u8], word: &mut [u8]) -
     }
 }
 
-fn search_framed(s: &[u8], code: Code, allowed: u32, bits: &mut [u8], word: &mut [u8]) -> WithRunnerUp
+fn search_framed(
+    s: &[u8],
+    code: Code,
+    allowed: u32,
+    bits: &mut [u8],
+    word: &mut [u8],
+) -> WithRunnerUp
     requires { ⌜ Sound code × (suc (partLength (code .m)) ≤ length (now s)) ⌝ }
     ensures { λ answer. ⌜ toldWhole answer (now (bits .exit)) (now (word .exit))
-        ≡ wholeBy (Header.Record code) allowed (now (s .entry))
+        ≡ searchingWholeBy (Header.Record code) allowed (now (s .entry))
         (now (bits .entry)) (now (word .entry)) ⌝ }
 {
     let mut readings = [0i16; 256];
