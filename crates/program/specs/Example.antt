@@ -14,7 +14,7 @@ use Rattle.decoding.specs.Walk.{value, walk, walked}
 use Rattle.decoding.specs.Answer.{answer}
 use Rattle.code.specs.Sound.{made, defaultAllowance}
 use Rattle.code.specs.Entries.{firstAbove}
-use Rattle.record.specs.Layout.{unpacked, partLength, padOf}
+use Rattle.packing.specs.Layout.{unpacked, partLength, padOf}
 use Rattle.record.specs.Reader.{headerOf}
 use Rattle.lines.specs.Line.{bytesOf, decimalWithin, infoText, figuresText, answerLine, refusedLine, totalLine}
 use Rattle.program.specs.Program.{allowance, resultOf, outputFrom, output}

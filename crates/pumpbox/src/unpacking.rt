@@ -1,7 +1,7 @@
 // The readings of a packed part.
 use answers::put_unpacked;
 ghost use mathlib.Core.Path.{_≡_};
-ghost use Rattle.record.specs.Unpacking.{unpacking};
+ghost use Rattle.packing.specs.Unpacking.{unpacking};
 ghost use Rattle.answers.specs.Unpacked.{unpackTold, shownUnpacked};
 
 #[no_mangle]
@@ -9,6 +9,6 @@ pub extern "C" fn cinorbis_unpack(part: &[u8], readings: &mut [i16], out: &mut [
     ensures { λ number. ⌜ unpackTold number (now (out .exit)) (now (readings .exit))
         ≡ shownUnpacked (unpacking (now (part .entry)) (now (readings .entry))) ⌝ }
 {
-    let answer = record::unpack(part, readings);
+    let answer = packing::unpack(part, readings);
     put_unpacked(answer, out)
 }

@@ -1,7 +1,7 @@
 -- `answers::put_unpacked` meets its contract.
 use mathlib.Core.Path.{_≡_, refl}
-use Rattle.record.specs.Unpacking.{carriedIn}
-use Rattle.record.specs.declared.Unpacked.the-variants.{Done}
+use Rattle.packing.specs.Unpacking.{carriedIn}
+use Rattle.packing.specs.declared.Unpacked.the-variants.{Done}
 use Rattle.answers.specs.Told.{numbers}
 use Rattle.answers.specs.ToldLaws.{handed}
 use borrow.Author.Needs.{needs}

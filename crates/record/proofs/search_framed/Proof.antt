@@ -10,18 +10,12 @@ use borrow.Rule.Slice.PartMut.{midOf, mid-len, same-len-mid}
 use Rattle.numbers.specs.Lent.{lent-again}
 use Rattle.code.specs.SoundLaws.{length-most}
 use Rattle.search.specs.Outcome.{searching}
-use Rattle.record.specs.Layout.{unpacked}
-use Rattle.record.specs.Reader.{partOf, readingsOf}
+use Rattle.packing.specs.Layout.{unpacked}
+use Rattle.record.specs.Reader.{partOf}
 use Rattle.record.specs.ReaderLaws.{part-taken, length-readings-of}
 use borrow.Author.Needs.{needs}
 use Rattle.record.proofs.search_framed.Statement.{statement}
 use Rattle.record.proofs.search_framed.Tie as tie
-use Rattle.record.proofs.search_framed.Reads as reads
-use Rattle.record.proofs.search_framed.Lts as lts
-use Rattle.code.proofs.Code.length.Reads as length-reads
-use Rattle.record.proofs.packing.put_readings.Reads as put-readings-reads
-use Rattle.record.proofs.part_length.Reads as part-length-reads
-use Rattle.search.proofs.search_within.Reads as search-within-reads
 
 length-requires : tie.Need-length-requires
 length-requires c κs = search needs
