@@ -8,6 +8,7 @@ use quick::Read;
 use record::Header;
 use reorder::Answer;
 use search::Searched;
+use search::WithRunnerUp;
 use telegram::Heard;
 use telegram::Telegram;
 ghost use mathlib.Core.Path.{_≡_};
@@ -92,6 +93,17 @@ pub fn put_searched(answer: Searched, out: &mut [u64; 4]) -> u32
         }
         Searched::Refused(why) => put_refused(why, out),
     }
+}
+
+// An answer with a runner-up, which goes into the lent bytes, zeros as they are.
+pub fn put_whole(answer: WithRunnerUp, runner_up: &mut [u8; 256], out: &mut [u64; 4]) -> u32
+    ensures { λ number. ⌜ (number ≡ searchedNumber (answer .result)) × (now (out .exit) ≡ searchedNumbers (answer .result))
+        × (now («runner_up» .exit) ≡ answer .«runner_up») ⌝ }
+{
+    let shown = answer.runner_up;
+    *runner_up = shown;
+    let result = answer.result;
+    put_searched(result, out)
 }
 
 pub fn put_answered(answer: Answered, out: &mut [u64; 4]) -> u32

@@ -11,16 +11,16 @@ mod writing;
 use answers::put_encoded;
 use answers::put_header;
 use answers::put_read;
-use answers::put_searched;
+use answers::put_whole;
 ghost use mathlib.Core.Path.{_≡_};
 ghost use mathlib.Core.List.{[], _∷_};
 ghost use Rattle.encode.specs.Outcome.{encoding, inverting};
 ghost use Rattle.quick.specs.Outcome.{quickReading};
 ghost use Rattle.record.specs.Reader.{headerOf, partBy};
-ghost use Rattle.record.specs.Searching.{searchingRecord};
-ghost use Rattle.search.specs.Outcome.{searching};
+ghost use Rattle.record.specs.Searching.{searchingRecordWhole};
+ghost use Rattle.search.specs.RunnerUp.{searchingWhole};
 ghost use Rattle.code.specs.Sound.{defaultAllowance};
-ghost use Rattle.answers.specs.Told.{told, shown, shownQuick, shownSearch, shownPart};
+ghost use Rattle.answers.specs.Told.{told, shown, shownQuick, shownWhole, shownPart};
 
 #[no_mangle]
 pub extern "C" fn cinorbis_encode(
@@ -76,13 +76,14 @@ pub extern "C" fn cinorbis_search_within(
     readings: &[i16],
     bits: &mut [u8],
     word: &mut [u8],
+    runner_up: &mut [u8; 256],
     out: &mut [u64; 4],
 ) -> u32
-    ensures { λ number. ⌜ told number (now (out .exit)) (now (bits .exit) ∷ now (word .exit) ∷ [])
-        ≡ shownSearch (searching r m allowed (now (readings .entry)) (now (bits .entry)) (now (word .entry))) ⌝ }
+    ensures { λ number. ⌜ told number (now (out .exit)) (now (bits .exit) ∷ now (word .exit) ∷ now («runner_up» .exit) ∷ [])
+        ≡ shownWhole (searchingWhole r m allowed (now (readings .entry)) (now (bits .entry)) (now (word .entry))) ⌝ }
 {
     let answer = search::search_within(r, m, allowed, readings, bits, word);
-    put_searched(answer, out)
+    put_whole(answer, runner_up, out)
 }
 
 #[no_mangle]
@@ -92,13 +93,14 @@ pub extern "C" fn cinorbis_search(
     readings: &[i16],
     bits: &mut [u8],
     word: &mut [u8],
+    runner_up: &mut [u8; 256],
     out: &mut [u64; 4],
 ) -> u32
-    ensures { λ number. ⌜ told number (now (out .exit)) (now (bits .exit) ∷ now (word .exit) ∷ [])
-        ≡ shownSearch (searching r m defaultAllowance (now (readings .entry)) (now (bits .entry)) (now (word .entry))) ⌝ }
+    ensures { λ number. ⌜ told number (now (out .exit)) (now (bits .exit) ∷ now (word .exit) ∷ now («runner_up» .exit) ∷ [])
+        ≡ shownWhole (searchingWhole r m defaultAllowance (now (readings .entry)) (now (bits .entry)) (now (word .entry))) ⌝ }
 {
     let answer = search::search(r, m, readings, bits, word);
-    put_searched(answer, out)
+    put_whole(answer, runner_up, out)
 }
 
 #[no_mangle]
@@ -107,13 +109,14 @@ pub extern "C" fn cinorbis_search_record(
     bytes: &[u8],
     bits: &mut [u8],
     word: &mut [u8],
+    runner_up: &mut [u8; 256],
     out: &mut [u64; 4],
 ) -> u32
-    ensures { λ number. ⌜ told number (now (out .exit)) (now (bits .exit) ∷ now (word .exit) ∷ [])
-        ≡ shownSearch (searchingRecord allowed (now (bytes .entry)) (now (bits .entry)) (now (word .entry))) ⌝ }
+    ensures { λ number. ⌜ told number (now (out .exit)) (now (bits .exit) ∷ now (word .exit) ∷ now («runner_up» .exit) ∷ [])
+        ≡ shownWhole (searchingRecordWhole allowed (now (bytes .entry)) (now (bits .entry)) (now (word .entry))) ⌝ }
 {
     let answer = record::search_record(bytes, allowed, bits, word);
-    put_searched(answer, out)
+    put_whole(answer, runner_up, out)
 }
 
 #[no_mangle]
