@@ -5,7 +5,7 @@ use mathlib.Core.Logic.{⊎-elim}
 use mathlib.Core.List.{List, [], _∷_, _++_, append-nil, append-assoc}
 use Prim.Native.Nat.{ℕ, zero, suc, _+_, _*_, _-_, _^_, _/_, _%_, _≤_, _<_, zero-le}
 use native.Mathlib.Omega.{arith}
-use native.Mathlib.Nat.{two-pow-succ, div-div-eq-div-mul}
+use native.Mathlib.Nat.{two-pow-succ, div-div-eq-div-mul, not-suc-le-zero, le-of-suc-le-suc}
 use lib.Pow.{pow-add}
 use lib.Count as Count
 use lib.Dec.{leb}
@@ -98,6 +98,13 @@ same-kinds d k e = ap eightKinds e
 pub no-kinds : (d : ℕ) → 4 ≤ d → eightKinds d ≡ eightKinds 4
 unfolding eightKinds tabulate ones digit
 no-kinds d h = rw (lt-leb d 0 (omega arith), lt-leb d 1 (omega arith), lt-leb d 2 (omega arith), lt-leb d 3 (omega arith))
+
+-- ---- the bits in front, one by one
+pub first-of : (n : ℕ) (b : List ℕ) → n ≤ length b → b ≡ tabulate (λ i. getD b i 0) n ++ drop n b
+unfolding tabulate
+first-of zero b h = refl
+first-of (suc n) [] h = absurd (not-suc-le-zero h)
+first-of (suc n) (a ∷ b) h = ap (λ (l : List ℕ). a ∷ l) (first-of n b (le-of-suc-le-suc h))
 
 -- ---- filling by parts
 pub fill-append : (p q b : List ℕ) → Bits p → sum p ≤ length b → fill (p ++ q) b ≡ fill p b ++ fill q (drop (sum p) b)

@@ -1,9 +1,10 @@
 -- Three layers on eight bits at once are their transform: all 256 rows of eight bits are computed.
 use mathlib.Core.Path.{_≡_, refl, ap, sym, _∙_}
 use mathlib.Core.List.{List, [], _∷_, _++_}
-use Prim.Native.Nat.{ℕ, zero, suc, _*_, _^_, _/_, _%_, _≤_}
+use Prim.Native.Nat.{ℕ, zero, suc, _+_, _*_, _^_, _/_, _%_, _≤_, _<_}
 use native.Mathlib.Omega.{arith}
-use native.Mathlib.Nat.{suc-inj, suc-ne-zero, div-one}
+use native.Mathlib.Nat.{suc-inj, suc-ne-zero, div-one, add-comm}
+use lib.Bits.{bitOr, or-shifted-r}
 use lib.ListN.{length, getD, take, drop}
 use lib.Seq.{getD-take, length-take-le, sets, sets-eq}
 use Rattle.numbers.specs.Sums.{total, tabulate}
@@ -67,3 +68,35 @@ stored x =
 pub eight-stored : (x : ℕ) (word : List ℕ) → 8 ≤ length word → sets word 0 (stored x) ≡ unpacked x ++ drop 8 word
 unfolding unpacked tabulate
 eight-stored x word h = sets-eq (stored x) word 0 h ∙ rw (div-one x)
+
+-- ---- eight loads: bytes at different places are added
+join : (k x b : ℕ) → x < 2 ^ k → bitOr x (b * 2 ^ k) ≡ x + b * 2 ^ k
+join k x b h = or-shifted-r b k x h ∙ add-comm (b * 2 ^ k) x
+
+pub eight-joined : (a b c d e f g h : ℕ) → a < 256 → b < 256 → c < 256 → d < 256 → e < 256 → f < 256 → g < 256
+    → bitOr (bitOr (bitOr (bitOr (bitOr (bitOr (bitOr a (b * 256)) (c * 65536)) (d * 16777216)) (e * 4294967296)) (f * 1099511627776)) (g * 281474976710656))
+    (h * 72057594037927936)
+    ≡ a + b * 256 + c * 65536 + d * 16777216 + e * 4294967296 + f * 1099511627776 + g * 281474976710656 + h * 72057594037927936
+eight-joined a b c d e f g h ha hb hc hd he hf hg =
+    let x1 = a + b * 256 in
+    let x2 = x1 + c * 65536 in
+    let x3 = x2 + d * 16777216 in
+    let x4 = x3 + e * 4294967296 in
+    let x5 = x4 + f * 1099511627776 in
+    let x6 = x5 + g * 281474976710656 in
+    let x7 = x6 + h * 72057594037927936 in
+    let h1 : a < 256 = omega arith in
+    let s1 : bitOr a (b * 256) ≡ x1 = join 8 a b h1 in
+    let h2 : x1 < 65536 = omega arith in
+    let s2 : bitOr x1 (c * 65536) ≡ x2 = join 16 x1 c h2 in
+    let h3 : x2 < 16777216 = omega arith in
+    let s3 : bitOr x2 (d * 16777216) ≡ x3 = join 24 x2 d h3 in
+    let h4 : x3 < 4294967296 = omega arith in
+    let s4 : bitOr x3 (e * 4294967296) ≡ x4 = join 32 x3 e h4 in
+    let h5 : x4 < 1099511627776 = omega arith in
+    let s5 : bitOr x4 (f * 1099511627776) ≡ x5 = join 40 x4 f h5 in
+    let h6 : x5 < 281474976710656 = omega arith in
+    let s6 : bitOr x5 (g * 281474976710656) ≡ x6 = join 48 x5 g h6 in
+    let h7 : x6 < 72057594037927936 = omega arith in
+    let s7 : bitOr x6 (h * 72057594037927936) ≡ x7 = join 56 x6 h h7 in
+    rw (s1, s2, s3, s4, s5, s6, s7)

@@ -1,12 +1,16 @@
--- The loops of `fill`, `pick` and `first_frozen_one`: what holds before each turn, and what a turn does.
+-- The loops of `fill`, `pick`, `some_frozen_one` and `first_frozen_one`: what holds before each turn, and what a turn does.
 use mathlib.Core.Path.{_≡_, refl, ap, sym, _∙_, subst}
+use mathlib.Core.Bool.{Bool, true, false, true≢false, not, _||_, _&&_}
 use mathlib.Core.List.{List, [], _∷_}
-use Prim.Native.Nat.{ℕ, zero, suc, _+_, _-_, _≤_, _<_, zero-le}
+use mathlib.Core.Logic.{_⊎_, inl, inr, ⊎-elim}
+use Prim.Native.Nat.{ℕ, zero, suc, _+_, _-_, _≤_, _<_, zero-le, suc-le-suc}
 use native.Mathlib.Omega.{arith}
 use native.Mathlib.Nat.{suc-ne-zero}
 use native.Mathlib.Numerals.{add-one}
+use lib.Dec.{ltb, eqb, eqb·suc-zero}
 use lib.ListN.{length, getD, set, drop, length-set, drop-of-length-le}
 use lib.Seq.{drop-cons}
+use borrow.Author.Tests.{lt-ltb, le-ltb, ltb-false}
 use Rattle.numbers.specs.Sums.{sum}
 use Rattle.numbers.specs.Front.{front, front-done, front-next, drop-next}
 use Rattle.words.specs.Kinds.{fill, pick}
@@ -154,3 +158,43 @@ module _ (ks u : List ℕ) (i : ℕ) (same : length u ≡ length ks) (p : Passed
   pub none-found : length ks ≤ i → i ≡ firstFrozenOne ks u
   unfolding firstFrozenOne
   none-found h = omega (arith, p .1, ap (λ (l : List ℕ). firstFrozenOne l (drop i u)) (drop-of-length-le ks {i = i} h))
+
+-- ---- some_frozen_one: i kinds are passed, or one was found
+abbrev pub Seen : List ℕ → List ℕ → ℕ → Bool → Type 0
+Seen ks u i some = ((some ≡ false) × Passed ks u i) ⊎ ((some ≡ true) × (firstFrozenOne ks u < length ks))
+
+-- whether an index is frozen and 1, as it is tested
+here : (k a : ℕ) → (((eqb k 0 && not (eqb a 0)) ≡ false) × (k ≡ 0 → a ≡ 0)) ⊎ (((eqb k 0 && not (eqb a 0)) ≡ true) × (k ≡ 0) × (a ≡ 0 → ⊥))
+here zero zero = inl (refl, λ z. refl)
+here zero (suc a) = inr (rw (eqb·suc-zero a) refl, refl, suc-ne-zero a)
+here (suc k) a = inl (rw (eqb·suc-zero k) refl, λ z. absurd (suc-ne-zero k z))
+
+module _ (ks u : List ℕ) (i : ℕ) (same : length u ≡ length ks) where
+  pub see-more : (some : Bool) → i < length ks → Seen ks u i some → Seen ks u (i + 1) (some || (eqb (getD ks i 0) 0 && not (eqb (getD u i 0) 0)))
+  see-more true h s = inr (refl, ⊎-elim (λ w. absurd (true≢false (w .0))) (λ w. w .1) s)
+  see-more false h s =
+      ⊎-elim
+      (λ w. ⊎-elim
+      (λ n. inl (n .0, pass ks u i same (w .1) h (n .1)))
+      (λ y. inr (y .0, omega (arith, found ks u i same (w .1) h (y .1) (y .2))))
+      (here (getD ks i 0) (getD u i 0)))
+      (λ w. absurd (true≢false (sym (w .0))))
+      s
+
+  pub see-all : (some : Bool) → length ks ≤ i → Seen ks u i some → some ≡ ltb (firstFrozenOne ks u) (length ks)
+  see-all some h s =
+      ⊎-elim
+      (λ w. w .0 ∙ sym (le-ltb (firstFrozenOne ks u) (length ks) (omega (arith, none-found ks u i same (w .1) h))))
+      (λ w. w .0 ∙ sym (lt-ltb (firstFrozenOne ks u) (length ks) (w .1)))
+      s
+
+most : (ks u : List ℕ) → firstFrozenOne ks u ≤ length ks
+unfolding firstFrozenOne
+most [] u = zero-le
+most (k ∷ ks) [] = zero-le
+most (zero ∷ ks) (zero ∷ u) = suc-le-suc (most ks u)
+most (zero ∷ ks) (suc a ∷ u) = zero-le
+most (suc k ∷ ks) (a ∷ u) = suc-le-suc (most ks u)
+
+pub none-seen : (ks u : List ℕ) → ltb (firstFrozenOne ks u) (length ks) ≡ false → length ks ≡ firstFrozenOne ks u
+none-seen ks u e = omega (arith, most ks u, ltb-false (firstFrozenOne ks u) (length ks) e)

@@ -3,6 +3,7 @@
 ghost use mathlib.Core.Path.{_≡_};
 ghost use Prim.Native.Nat.{_+_, _*_, _-_, _^_, _≤_, _<_};
 ghost use mathlib.Core.List.{_++_};
+ghost use lib.Dec.{ltb};
 ghost use lib.ListN.{length, drop};
 ghost use Rattle.numbers.specs.Sums.{sum};
 ghost use Rattle.words.specs.Bits.{Bits};
@@ -50,14 +51,13 @@ fn fold_blocks(word: &mut [u8], h: usize)
     }
 }
 
-// One layer. The compiler unrolls the fold of a block where its step is a constant.
+// One layer. The compiler unrolls the fold of a block where its step is a constant; only words of
+// fewer than eight bits have other steps.
 fn layer(word: &mut [u8], h: usize)
     requires { ⌜ Steps h (now word) ⌝ }
     ensures { λ _. ⌜ now (word .exit) ≡ layer h (now (word .entry)) ⌝ }
 {
     match h {
-        1 => fold_blocks(word, 1),
-        2 => fold_blocks(word, 2),
         8 => fold_blocks(word, 8),
         16 => fold_blocks(word, 16),
         32 => fold_blocks(word, 32),
@@ -87,19 +87,20 @@ fn wide(x: u8) -> u64
     x as u64
 }
 
-// The first eight bytes as one number, the first byte lowest. The compiler makes one load of it.
+// The first eight bytes as one number, the first byte lowest. The compiler makes one load of bytes
+// that are joined by `|`, and vector code of a loop over such loads; not so of their sum.
 fn load(word: &[u8]) -> u64
     requires { ⌜ 8 ≤ length (now word) ⌝ }
     ensures { λ x. ⌜ x ≡ packed (now (word .entry)) ⌝ }
 {
     wide(word[0])
-        + wide(word[1]) * 0x100
-        + wide(word[2]) * 0x10000
-        + wide(word[3]) * 0x1000000
-        + wide(word[4]) * 0x100000000
-        + wide(word[5]) * 0x10000000000
-        + wide(word[6]) * 0x1000000000000
-        + wide(word[7]) * 0x100000000000000
+        | wide(word[1]) * 0x100
+        | wide(word[2]) * 0x10000
+        | wide(word[3]) * 0x1000000
+        | wide(word[4]) * 0x100000000
+        | wide(word[5]) * 0x10000000000
+        | wide(word[6]) * 0x1000000000000
+        | wide(word[7]) * 0x100000000000000
 }
 
 // Puts the eight bytes of a number in front. The compiler makes one store of it.
@@ -191,8 +192,64 @@ pub fn fill(kinds: &[u8], bits: &[u8], row: &mut [u8])
     }
 }
 
+// Eight information indices in a row. All bits are read before one is written, so that the
+// compiler makes few loads and stores of them.
+fn put_eight(bits: &[u8], row: &mut [u8])
+    requires { ⌜ (8 ≤ length (now bits)) × (length (now row) ≡ 8) ⌝ }
+    ensures { λ _. ⌜ now (row .exit) ≡ fill (eightKinds 0) (now (bits .entry)) ⌝ }
+{
+    copy(
+        &[
+            bits[0],
+            bits[1],
+            bits[2],
+            bits[3],
+            bits[4],
+            bits[5],
+            bits[6],
+            bits[7],
+        ],
+        row,
+    );
+}
+
+// Eight indices of which all but the first carry information.
+fn put_seven(bits: &[u8], row: &mut [u8])
+    requires { ⌜ (7 ≤ length (now bits)) × (length (now row) ≡ 8) ⌝ }
+    ensures { λ _. ⌜ now (row .exit) ≡ fill (eightKinds 1) (now (bits .entry)) ⌝ }
+{
+    copy(
+        &[
+            0,
+            bits[0],
+            bits[1],
+            bits[2],
+            bits[3],
+            bits[4],
+            bits[5],
+            bits[6],
+        ],
+        row,
+    );
+}
+
+// Eight indices of which those with two ones or more carry information.
+fn put_four(bits: &[u8], row: &mut [u8])
+    requires { ⌜ (4 ≤ length (now bits)) × (length (now row) ≡ 8) ⌝ }
+    ensures { λ _. ⌜ now (row .exit) ≡ fill (eightKinds 2) (now (bits .entry)) ⌝ }
+{
+    copy(&[0, 0, 0, bits[0], 0, bits[1], bits[2], bits[3]], row);
+}
+
+// Eight indices of which the last carries information.
+fn put_one(bits: &[u8], row: &mut [u8])
+    requires { ⌜ (1 ≤ length (now bits)) × (length (now row) ≡ 8) ⌝ }
+    ensures { λ _. ⌜ now (row .exit) ≡ fill (eightKinds 3) (now (bits .entry)) ⌝ }
+{
+    copy(&[0, 0, 0, 0, 0, 0, 0, bits[0]], row);
+}
+
 // Eight indices of which those with d ones or more carry information; how many bits they take.
-// The kinds are constants, so that the compiler makes straight code of each arm.
 fn fill_eight(d: u32, bits: &[u8], row: &mut [u8]) -> usize
     requires { ⌜ (length (now row) ≡ 8) × (sum (eightKinds d) ≤ length (now bits)) ⌝ }
     ensures { λ taken. ⌜ (now (row .exit) ≡ fill (eightKinds d) (now (bits .entry)))
@@ -200,23 +257,23 @@ fn fill_eight(d: u32, bits: &[u8], row: &mut [u8]) -> usize
 {
     match d {
         0 => {
-            fill(&[1, 1, 1, 1, 1, 1, 1, 1], bits, row);
+            put_eight(bits, row);
             8
         }
         1 => {
-            fill(&[0, 1, 1, 1, 1, 1, 1, 1], bits, row);
+            put_seven(bits, row);
             7
         }
         2 => {
-            fill(&[0, 0, 0, 1, 0, 1, 1, 1], bits, row);
+            put_four(bits, row);
             4
         }
         3 => {
-            fill(&[0, 0, 0, 0, 0, 0, 0, 1], bits, row);
+            put_one(bits, row);
             1
         }
         _ => {
-            fill(&[0, 0, 0, 0, 0, 0, 0, 0], bits, row);
+            copy(&[0, 0, 0, 0, 0, 0, 0, 0], row);
             0
         }
     }
@@ -261,11 +318,29 @@ pub fn pick(kinds: &[u8], row: &[u8], bits: &mut [u8])
     }
 }
 
+// Whether the row is 1 at a frozen index: without an early end, so that many are tested at once.
+fn some_frozen_one(kinds: &[u8], row: &[u8]) -> bool
+    requires { ⌜ length (now row) ≡ length (now kinds) ⌝ }
+    ensures { λ some. ⌜ some ≡ ltb (firstFrozenOne (now (kinds .entry)) (now (row .entry)))
+        (length (now (kinds .entry))) ⌝ }
+{
+    let mut some = false;
+    let mut i = 0;
+    while i < kinds.len() {
+        some = some | ((kinds[i] == 0) & (row[i] != 0));
+        i += 1;
+    }
+    some
+}
+
 // The lowest frozen index where the row is 1, or the row's length where there is none.
 pub fn first_frozen_one(kinds: &[u8], row: &[u8]) -> usize
     requires { ⌜ length (now row) ≡ length (now kinds) ⌝ }
     ensures { λ i. ⌜ i ≡ firstFrozenOne (now (kinds .entry)) (now (row .entry)) ⌝ }
 {
+    if !some_frozen_one(kinds, row) {
+        return kinds.len();
+    }
     let mut i = 0;
     while i < kinds.len() {
         if kinds[i] == 0 && row[i] != 0 {

@@ -11,3 +11,4 @@ pub mod DemandsMet
 pub mod RunningSums
 pub mod PenaltyLaws
 pub mod EngineLaws
+pub mod FrozenLaws

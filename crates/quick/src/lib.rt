@@ -5,7 +5,9 @@ use code::Refusal;
 ghost use mathlib.Core.Path.{_≡_};
 ghost use mathlib.Core.List.{_++_};
 ghost use Prim.Native.Nat.{_-_, _^_, _≤_, _<_};
-ghost use lib.ListN.{length, take, drop};
+ghost use lib.Dec.{ltb};
+ghost use lib.ListN.{length, take, drop, replicate};
+ghost use Rattle.numbers.specs.Sums.{sum};
 ghost use Rattle.decoding.specs.Readings.{penalty, sizes, sumLimit};
 ghost use Rattle.decoding.specs.Quick.{decide, quickWord};
 ghost use Rattle.code.specs.Sound.{largestM};
@@ -70,7 +72,31 @@ fn decide(kind: u8, value: i32) -> u8
     if value < 0 { 1 } else { 0 }
 }
 
-// The word of a row of 2^m sums, down to a single one.
+// Whether an index of a row carries information: without an early end, so that many are tested at
+// once.
+fn some_information(kinds: &[u8]) -> bool
+    ensures { λ some. ⌜ some ≡ ltb 0 (sum (now (kinds .entry))) ⌝ }
+{
+    let mut some = false;
+    let mut i = 0;
+    while i < kinds.len() {
+        some = some | (kinds[i] != 0);
+        i += 1;
+    }
+    some
+}
+
+fn put_zeros(word: &mut [u8])
+    ensures { λ _. ⌜ now (word .exit) ≡ replicate (length (now (word .entry))) 0 ⌝ }
+{
+    let mut i = 0;
+    while i < word.len() {
+        word[i] = 0;
+        i += 1;
+    }
+}
+
+// The word of a row of 2^m sums, down to a single one; zeros at once where every index is frozen.
 fn quick_row(rows: &mut [i32], kinds: &[u8], word: &mut [u8], m: usize)
     requires { ⌜ Ready m (now rows) (now kinds) (now word) ⌝ }
     ensures { λ _. ⌜ now (word .exit)
@@ -78,6 +104,10 @@ fn quick_row(rows: &mut [i32], kinds: &[u8], word: &mut [u8], m: usize)
 {
     if m == 0 {
         word[0] = decide(kinds[0], rows[1]);
+        return;
+    }
+    if !some_information(kinds) {
+        put_zeros(word);
         return;
     }
     let h = word.len() / 2;

@@ -1,9 +1,10 @@
 -- Each arm fills by the kinds that d stands for.
 use borrow.Author.Needs.{needs}
-use mathlib.Core.Path.{ap, sym, _∙_}
+use mathlib.Core.Path.{ap, sym, _∙_, subst}
 use mathlib.Core.List.{List}
-use Prim.Native.Nat.{ℕ}
+use Prim.Native.Nat.{ℕ, _≤_}
 use native.Mathlib.Omega.{arith}
+use lib.ListN.{length}
 use Rattle.numbers.specs.Sums.{tabulate, sum}
 use Rattle.words.specs.Bits.{digit, ones}
 use Rattle.words.specs.Kinds.{fill}
@@ -12,50 +13,35 @@ use Rattle.half.specs.EightKindsLaws.{same-kinds, no-kinds}
 use Rattle.half.proofs.fill_eight.Statement.{statement}
 use Rattle.half.proofs.fill_eight.Tie as tie
 
-slice-aggregate-fill : tie.Need-slice-aggregate-fill
-slice-aggregate-fill c = search needs
+put-eight-requires : tie.Need-put-eight-requires
+unfolding eightKinds tabulate ones digit sum
+put-eight-requires c κs =
+    let g = c .before .before .before .before in
+    (subst (λ (ks : List ℕ). sum ks ≤ length (g .args .bits .now)) (same-kinds (g .args .d) 0 (omega arith)) (g .pre .1), g .pre .0)
 
-fill-requires : tie.Need-fill-requires
-unfolding eightKinds tabulate ones digit
-fill-requires c κs =
-    let g = c .before .before .before .before .before in
-    (g .pre .0, rw (same-kinds (g .args .d) 0 (omega arith)) at (g .pre .1))
+put-seven-requires : tie.Need-put-seven-requires
+unfolding eightKinds tabulate ones digit sum
+put-seven-requires c κs =
+    let g = c .before .before .before .before in
+    (subst (λ (ks : List ℕ). sum ks ≤ length (g .args .bits .now)) (same-kinds (g .args .d) 1 (omega arith)) (g .pre .1), g .pre .0)
 
-slice-aggregate-fill-2 : tie.Need-slice-aggregate-fill-2
-slice-aggregate-fill-2 c = search needs
+put-four-requires : tie.Need-put-four-requires
+unfolding eightKinds tabulate ones digit sum
+put-four-requires c κs =
+    let g = c .before .before .before .before in
+    (subst (λ (ks : List ℕ). sum ks ≤ length (g .args .bits .now)) (same-kinds (g .args .d) 2 (omega arith)) (g .pre .1), g .pre .0)
 
-fill-requires-2 : tie.Need-fill-requires-2
-unfolding eightKinds tabulate ones digit
-fill-requires-2 c κs =
-    let g = c .before .before .before .before .before in
-    (g .pre .0, rw (same-kinds (g .args .d) 1 (omega arith)) at (g .pre .1))
+put-one-requires : tie.Need-put-one-requires
+unfolding eightKinds tabulate ones digit sum
+put-one-requires c κs =
+    let g = c .before .before .before .before in
+    (subst (λ (ks : List ℕ). sum ks ≤ length (g .args .bits .now)) (same-kinds (g .args .d) 3 (omega arith)) (g .pre .1), g .pre .0)
 
-slice-aggregate-fill-3 : tie.Need-slice-aggregate-fill-3
-slice-aggregate-fill-3 c = search needs
+slice-aggregate-copy : tie.Need-slice-aggregate-copy
+slice-aggregate-copy c = search needs
 
-fill-requires-3 : tie.Need-fill-requires-3
-unfolding eightKinds tabulate ones digit
-fill-requires-3 c κs =
-    let g = c .before .before .before .before .before in
-    (g .pre .0, rw (same-kinds (g .args .d) 2 (omega arith)) at (g .pre .1))
-
-slice-aggregate-fill-4 : tie.Need-slice-aggregate-fill-4
-slice-aggregate-fill-4 c = search needs
-
-fill-requires-4 : tie.Need-fill-requires-4
-unfolding eightKinds tabulate ones digit
-fill-requires-4 c κs =
-    let g = c .before .before .before .before .before in
-    (g .pre .0, rw (same-kinds (g .args .d) 3 (omega arith)) at (g .pre .1))
-
-slice-aggregate-fill-5 : tie.Need-slice-aggregate-fill-5
-slice-aggregate-fill-5 c = search needs
-
-fill-requires-5 : tie.Need-fill-requires-5
-unfolding eightKinds tabulate ones digit
-fill-requires-5 c κs =
-    let g = c .before .before .before .before .before in
-    (g .pre .0, rw (no-kinds (g .args .d) (omega arith)) at (g .pre .1))
+copy-requires : tie.Need-copy-requires
+copy-requires c κs = search needs
 
 same-length : tie.Need-same-length
 same-length c = search needs
@@ -63,9 +49,9 @@ same-length c = search needs
 returns : tie.Need-returns
 unfolding eightKinds tabulate ones digit sum
 returns c =
-    let g = c .before .before .before .before .before .before .before .before in
+    let g = c .before .before .before .before .before .before .before in
     let e = same-kinds 0 (g .args .d) (omega arith) in
-    (c .before .before .fill .ensures ∙ ap (λ (ks : List ℕ). fill ks (g .args .bits .now)) e, ap sum e)
+    (c .before .before .put-eight .ensures ∙ ap (λ (ks : List ℕ). fill ks (g .args .bits .now)) e, ap sum e)
 
 same-length-2 : tie.Need-same-length-2
 same-length-2 c = search needs
@@ -73,9 +59,9 @@ same-length-2 c = search needs
 returns-2 : tie.Need-returns-2
 unfolding eightKinds tabulate ones digit sum
 returns-2 c =
-    let g = c .before .before .before .before .before .before .before .before in
+    let g = c .before .before .before .before .before .before .before in
     let e = same-kinds 1 (g .args .d) (omega arith) in
-    (c .before .before .fill2 .ensures ∙ ap (λ (ks : List ℕ). fill ks (g .args .bits .now)) e, ap sum e)
+    (c .before .before .put-seven .ensures ∙ ap (λ (ks : List ℕ). fill ks (g .args .bits .now)) e, ap sum e)
 
 same-length-3 : tie.Need-same-length-3
 same-length-3 c = search needs
@@ -83,9 +69,9 @@ same-length-3 c = search needs
 returns-3 : tie.Need-returns-3
 unfolding eightKinds tabulate ones digit sum
 returns-3 c =
-    let g = c .before .before .before .before .before .before .before .before in
+    let g = c .before .before .before .before .before .before .before in
     let e = same-kinds 2 (g .args .d) (omega arith) in
-    (c .before .before .fill3 .ensures ∙ ap (λ (ks : List ℕ). fill ks (g .args .bits .now)) e, ap sum e)
+    (c .before .before .put-four .ensures ∙ ap (λ (ks : List ℕ). fill ks (g .args .bits .now)) e, ap sum e)
 
 same-length-4 : tie.Need-same-length-4
 same-length-4 c = search needs
@@ -93,9 +79,9 @@ same-length-4 c = search needs
 returns-4 : tie.Need-returns-4
 unfolding eightKinds tabulate ones digit sum
 returns-4 c =
-    let g = c .before .before .before .before .before .before .before .before in
+    let g = c .before .before .before .before .before .before .before in
     let e = same-kinds 3 (g .args .d) (omega arith) in
-    (c .before .before .fill4 .ensures ∙ ap (λ (ks : List ℕ). fill ks (g .args .bits .now)) e, ap sum e)
+    (c .before .before .put-one .ensures ∙ ap (λ (ks : List ℕ). fill ks (g .args .bits .now)) e, ap sum e)
 
 same-length-5 : tie.Need-same-length-5
 same-length-5 c = search needs
@@ -105,22 +91,18 @@ unfolding eightKinds tabulate ones digit sum
 returns-5 c =
     let g = c .before .before .before .before .before .before .before .before in
     let e = sym (no-kinds (g .args .d) (omega arith)) in
-    (c .before .before .fill5 .ensures ∙ ap (λ (ks : List ℕ). fill ks (g .args .bits .now)) e, ap sum e)
+    (c .before .before .copy .ensures ∙ ap (λ (ks : List ℕ). fill ks (g .args .bits .now)) e, ap sum e)
 
 pub fill-eight-spec : {M : Type 1} → statement M
 fill-eight-spec =
     tie.close
     (tie.spec
-    slice-aggregate-fill
-    fill-requires
-    slice-aggregate-fill-2
-    fill-requires-2
-    slice-aggregate-fill-3
-    fill-requires-3
-    slice-aggregate-fill-4
-    fill-requires-4
-    slice-aggregate-fill-5
-    fill-requires-5
+    put-eight-requires
+    put-seven-requires
+    put-four-requires
+    put-one-requires
+    slice-aggregate-copy
+    copy-requires
     same-length
     returns
     same-length-2

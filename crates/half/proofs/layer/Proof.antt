@@ -25,19 +25,13 @@ fold-blocks-requires-5 c κs = search needs
 fold-blocks-requires-6 : tie.Need-fold-blocks-requires-6
 fold-blocks-requires-6 c κs = search needs
 
-fold-blocks-requires-7 : tie.Need-fold-blocks-requires-7
-fold-blocks-requires-7 c κs = search needs
-
-fold-blocks-requires-8 : tie.Need-fold-blocks-requires-8
-fold-blocks-requires-8 c κs = search needs
-
 same-length : tie.Need-same-length
 same-length c = search needs
 
 returns : tie.Need-returns
 returns c =
     let g = c .before .before .before .before .before .before in
-    let e : 1 ≡ g .args .h = omega arith in
+    let e : 8 ≡ g .args .h = omega arith in
     c .before .before .fold-blocks .ensures ∙ ap (λ (h : ℕ). layer h (g .args .word .now)) e
 
 same-length-2 : tie.Need-same-length-2
@@ -46,7 +40,7 @@ same-length-2 c = search needs
 returns-2 : tie.Need-returns-2
 returns-2 c =
     let g = c .before .before .before .before .before .before in
-    let e : 2 ≡ g .args .h = omega arith in
+    let e : 16 ≡ g .args .h = omega arith in
     c .before .before .fold-blocks2 .ensures ∙ ap (λ (h : ℕ). layer h (g .args .word .now)) e
 
 same-length-3 : tie.Need-same-length-3
@@ -55,7 +49,7 @@ same-length-3 c = search needs
 returns-3 : tie.Need-returns-3
 returns-3 c =
     let g = c .before .before .before .before .before .before in
-    let e : 8 ≡ g .args .h = omega arith in
+    let e : 32 ≡ g .args .h = omega arith in
     c .before .before .fold-blocks3 .ensures ∙ ap (λ (h : ℕ). layer h (g .args .word .now)) e
 
 same-length-4 : tie.Need-same-length-4
@@ -64,7 +58,7 @@ same-length-4 c = search needs
 returns-4 : tie.Need-returns-4
 returns-4 c =
     let g = c .before .before .before .before .before .before in
-    let e : 16 ≡ g .args .h = omega arith in
+    let e : 64 ≡ g .args .h = omega arith in
     c .before .before .fold-blocks4 .ensures ∙ ap (λ (h : ℕ). layer h (g .args .word .now)) e
 
 same-length-5 : tie.Need-same-length-5
@@ -73,32 +67,14 @@ same-length-5 c = search needs
 returns-5 : tie.Need-returns-5
 returns-5 c =
     let g = c .before .before .before .before .before .before in
-    let e : 32 ≡ g .args .h = omega arith in
+    let e : 128 ≡ g .args .h = omega arith in
     c .before .before .fold-blocks5 .ensures ∙ ap (λ (h : ℕ). layer h (g .args .word .now)) e
 
 same-length-6 : tie.Need-same-length-6
 same-length-6 c = search needs
 
 returns-6 : tie.Need-returns-6
-returns-6 c =
-    let g = c .before .before .before .before .before .before in
-    let e : 64 ≡ g .args .h = omega arith in
-    c .before .before .fold-blocks6 .ensures ∙ ap (λ (h : ℕ). layer h (g .args .word .now)) e
-
-same-length-7 : tie.Need-same-length-7
-same-length-7 c = search needs
-
-returns-7 : tie.Need-returns-7
-returns-7 c =
-    let g = c .before .before .before .before .before .before in
-    let e : 128 ≡ g .args .h = omega arith in
-    c .before .before .fold-blocks7 .ensures ∙ ap (λ (h : ℕ). layer h (g .args .word .now)) e
-
-same-length-8 : tie.Need-same-length-8
-same-length-8 c = search needs
-
-returns-8 : tie.Need-returns-8
-returns-8 c = search needs
+returns-6 c = search needs
 
 pub layer-spec : {M : Type 1} → statement M
 layer-spec =
@@ -110,8 +86,6 @@ layer-spec =
     fold-blocks-requires-4
     fold-blocks-requires-5
     fold-blocks-requires-6
-    fold-blocks-requires-7
-    fold-blocks-requires-8
     same-length
     returns
     same-length-2
@@ -123,8 +97,4 @@ layer-spec =
     same-length-5
     returns-5
     same-length-6
-    returns-6
-    same-length-7
-    returns-7
-    same-length-8
-    returns-8)
+    returns-6)

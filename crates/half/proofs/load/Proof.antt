@@ -1,8 +1,10 @@
--- Eight bytes as one number: no sum wraps.
+-- Eight bytes as one number: no product wraps.
 use borrow.Author.Needs.{needs}
+use mathlib.Core.Path.{_∙_}
 use native.Mathlib.Omega.{arith}
 use Rattle.numbers.specs.Sums.{total}
 use Rattle.half.specs.Eight.{packed}
+use Rattle.half.specs.EightLaws.{eight-joined}
 use Rattle.half.proofs.load.Statement.{statement}
 use Rattle.half.proofs.load.Tie as tie
 
@@ -21,9 +23,6 @@ wide-requires-2 c κs = search needs
 mul-result : tie.Need-mul-result
 mul-result c = omega arith
 
-add-result : tie.Need-add-result
-add-result c = omega arith
-
 shared-slice-read-wide-3 : tie.Need-shared-slice-read-wide-3
 shared-slice-read-wide-3 c = search needs
 
@@ -32,9 +31,6 @@ wide-requires-3 c κs = search needs
 
 mul-result-2 : tie.Need-mul-result-2
 mul-result-2 c = omega arith
-
-add-result-2 : tie.Need-add-result-2
-add-result-2 c = omega arith
 
 shared-slice-read-wide-4 : tie.Need-shared-slice-read-wide-4
 shared-slice-read-wide-4 c = search needs
@@ -45,9 +41,6 @@ wide-requires-4 c κs = search needs
 mul-result-3 : tie.Need-mul-result-3
 mul-result-3 c = omega arith
 
-add-result-3 : tie.Need-add-result-3
-add-result-3 c = omega arith
-
 shared-slice-read-wide-5 : tie.Need-shared-slice-read-wide-5
 shared-slice-read-wide-5 c = search needs
 
@@ -56,9 +49,6 @@ wide-requires-5 c κs = search needs
 
 mul-result-4 : tie.Need-mul-result-4
 mul-result-4 c = omega arith
-
-add-result-4 : tie.Need-add-result-4
-add-result-4 c = omega arith
 
 shared-slice-read-wide-6 : tie.Need-shared-slice-read-wide-6
 shared-slice-read-wide-6 c = search needs
@@ -69,9 +59,6 @@ wide-requires-6 c κs = search needs
 mul-result-5 : tie.Need-mul-result-5
 mul-result-5 c = omega arith
 
-add-result-5 : tie.Need-add-result-5
-add-result-5 c = omega arith
-
 shared-slice-read-wide-7 : tie.Need-shared-slice-read-wide-7
 shared-slice-read-wide-7 c = search needs
 
@@ -80,9 +67,6 @@ wide-requires-7 c κs = search needs
 
 mul-result-6 : tie.Need-mul-result-6
 mul-result-6 c = omega arith
-
-add-result-6 : tie.Need-add-result-6
-add-result-6 c = omega arith
 
 shared-slice-read-wide-8 : tie.Need-shared-slice-read-wide-8
 shared-slice-read-wide-8 c = search needs
@@ -93,12 +77,33 @@ wide-requires-8 c κs = search needs
 mul-result-7 : tie.Need-mul-result-7
 mul-result-7 c = omega arith
 
-add-result-7 : tie.Need-add-result-7
-add-result-7 c = omega arith
-
 returns : tie.Need-returns
 unfolding packed total
-returns c = omega arith
+returns c =
+    let c2 = c .before .before in
+    let c4 = c2 .before .before in
+    let c6 = c4 .before .before in
+    let c8 = c6 .before .before in
+    let c10 = c8 .before .before in
+    let c12 = c10 .before .before in
+    let c14 = c12 .before .before in
+    eight-joined
+    (c14 .wide .result)
+    (c12 .wide2 .result)
+    (c10 .wide3 .result)
+    (c8 .wide4 .result)
+    (c6 .wide5 .result)
+    (c4 .wide6 .result)
+    (c2 .wide7 .result)
+    (c .wide8 .result)
+    (c14 .wide .ensures .1)
+    (c12 .wide2 .ensures .1)
+    (c10 .wide3 .ensures .1)
+    (c8 .wide4 .ensures .1)
+    (c6 .wide5 .ensures .1)
+    (c4 .wide6 .ensures .1)
+    (c2 .wide7 .ensures .1)
+    ∙ omega arith
 
 pub load-spec : {M : Type 1} → statement M
 load-spec =
@@ -109,29 +114,22 @@ load-spec =
     shared-slice-read-wide-2
     wide-requires-2
     mul-result
-    add-result
     shared-slice-read-wide-3
     wide-requires-3
     mul-result-2
-    add-result-2
     shared-slice-read-wide-4
     wide-requires-4
     mul-result-3
-    add-result-3
     shared-slice-read-wide-5
     wide-requires-5
     mul-result-4
-    add-result-4
     shared-slice-read-wide-6
     wide-requires-6
     mul-result-5
-    add-result-5
     shared-slice-read-wide-7
     wide-requires-7
     mul-result-6
-    add-result-6
     shared-slice-read-wide-8
     wide-requires-8
     mul-result-7
-    add-result-7
     returns)

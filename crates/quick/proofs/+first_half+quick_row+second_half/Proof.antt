@@ -1,9 +1,10 @@
 -- The recursion meets its contracts. What the three functions ask of each other falls: a row of 2^m sums counts 2m + 1, a half of it 2m.
-use mathlib.Core.Path.{_≡_, ap, _∙_}
+use mathlib.Core.Path.{_≡_, ap, sym, _∙_}
 use Prim.Native.Nat.{ℕ, _+_, _-_, _*_, _/_, _^_, _<_}
 use native.Mathlib.Omega.{arith}
 use lib.Pow.{pow-pos}
 use lib.ListN.{length, getD, length-set}
+use borrow.Author.Tests.{not-true}
 use borrow.Rule.Slice.PartMut.{same-len-mid}
 use borrow.Fn.Kinds.{In}
 use borrow.Fn.PlainCycle.{Measures, is, falls, and}
@@ -11,6 +12,7 @@ use Rattle.decoding.specs.Quick.{decide}
 use Rattle.rows.specs.Rows.{rowOf}
 use Rattle.quick.specs.EngineLaws.{one-word, first-ready, second-ready, behind-kept, first-back, second-back, Foldable}
 use Rattle.quick.specs.EngineLaws.{FirstRead, one-value, lower-asked, first-asked, first-read, upper-row-asked, second-asked, second-read}
+use Rattle.quick.specs.FrozenLaws.{frozen-word}
 use Rattle.quick.proofs.first_half.Reads as first-half
 use Rattle.quick.proofs.first_half.Kinds as first-half-kinds
 use Rattle.quick.proofs.+first_half+quick_row+second_half.Lts-first_half as first-half-lts
@@ -22,6 +24,8 @@ use Rattle.quick.proofs.second_half.Kinds as second-half-kinds
 use Rattle.quick.proofs.+first_half+quick_row+second_half.Lts-second_half as second-half-lts
 use Rattle.half.proofs.fold.Reads as fold-reads
 use Rattle.quick.proofs.decide.Reads as decide-reads
+use Rattle.quick.proofs.put_zeros.Reads as put-zeros-reads
+use Rattle.quick.proofs.some_information.Reads as some-information-reads
 use Rattle.rows.proofs.lower_row.Reads as lower-row-reads
 use Rattle.rows.proofs.upper_row.Reads as upper-row-reads
 use Rattle.quick.proofs.+first_half+quick_row+second_half.{statement}
@@ -66,6 +70,10 @@ abbrev quick-row-calls : ℕ → quick-row-lts.Claims
 quick-row-calls t = (
   decide-reads.Asked,
   decide-reads.Learnt,
+  some-information-reads.Asked,
+  some-information-reads.Learnt,
+  put-zeros-reads.Asked,
+  put-zeros-reads.Learnt,
   lower-row-reads.Asked,
   lower-row-reads.Learnt,
   first-half-below t,
@@ -168,24 +176,44 @@ quick-row-returns t c =
     one-word m kinds word (rowOf (2 ^ m) rows) (c .decide .result) z (g .pre .1 .sized .long-word)
     (c .decide .ensures ∙ ap (decide (getD kinds 0 0)) (one-value m rows kinds word (g .pre .1) z))
 
-quick-row-lower-row-requires : (t : ℕ) → quick-row-lts.Need-lower-row-requires (quick-row-calls t) (quick-row-at t) quick-row.Post
-quick-row-lower-row-requires t c κs =
-    let g = c .before .before .before .before in
+quick-row-some-information-requires : (t : ℕ) → quick-row-lts.Need-some-information-requires (quick-row-calls t) (quick-row-at t) quick-row.Post
+quick-row-some-information-requires t c κs = tt
+
+quick-row-put-zeros-requires : (t : ℕ) → quick-row-lts.Need-put-zeros-requires (quick-row-calls t) (quick-row-at t) quick-row.Post
+quick-row-put-zeros-requires t c κs = tt
+
+quick-row-same-length-2 : (t : ℕ) → quick-row-lts.Need-same-length-2 (quick-row-calls t) (quick-row-at t) quick-row.Post
+quick-row-same-length-2 t c = c .before .before .put-zeros .kept .0
+
+quick-row-returns-2 : (t : ℕ) → quick-row-lts.Need-returns-2 (quick-row-calls t) (quick-row-at t) quick-row.Post
+quick-row-returns-2 t c =
+    let p = c .before .before .before .before in
+    let g = p .before .before .before .before .before in
     let m = g .args .m in
     let rows = g .args .rows .now in
     let kinds = g .args .kinds .now in
     let word = g .args .word .now in
-    lower-asked m rows kinds word (g .pre .1) (c .before .if1 .left)
+    c .before .before .put-zeros .ensures
+    ∙ frozen-word m kinds word (rowOf (2 ^ m) rows) (g .pre .1 .sized .long-word) (sym (p .before .some-information .ensures) ∙ not-true _ (p .if2 .taken))
+
+quick-row-lower-row-requires : (t : ℕ) → quick-row-lts.Need-lower-row-requires (quick-row-calls t) (quick-row-at t) quick-row.Post
+quick-row-lower-row-requires t c κs =
+    let g = c .before .before .before .before .before .before in
+    let m = g .args .m in
+    let rows = g .args .rows .now in
+    let kinds = g .args .kinds .now in
+    let word = g .args .word .now in
+    lower-asked m rows kinds word (g .pre .1) (c .before .before .before .if1 .left)
 
 quick-row-first-half-requires : (t : ℕ) → quick-row-lts.Need-first-half-requires (quick-row-calls t) (quick-row-at t) quick-row.Post
 quick-row-first-half-requires t c κs =
-    let g = c .before .before .before .before .before .before .before .before in
+    let g = c .before .before .before .before .before .before .before .before .before .before in
     let m = g .args .m in
     let rows = g .args .rows .now in
     let kinds = g .args .kinds .now in
     let word = g .args .word .now in
     let o = c .before .before .before in
-    (omega (arith, g .pre .0), first-asked m rows kinds word (g .pre .1) (o .before .before .if1 .left) (o .lower-row .last .0) (o .lower-row .ensures))
+    (omega (arith, g .pre .0), first-asked m rows kinds word (g .pre .1) (o .before .before .before .before .if1 .left) (o .lower-row .last .0) (o .lower-row .ensures))
 
 -- the places that the later ones look back to, each behind the next
 abbrev Lowered : ℕ → Type 0
@@ -201,7 +229,7 @@ abbrev SecondDone : ℕ → Type 0
 SecondDone t = quick-row-lts.After-second-half (quick-row-calls t) (quick-row-at t) quick-row.Post
 
 abbrev entry : (t : ℕ) → Lowered t → quick-row-lts.Start (quick-row-calls t) (quick-row-at t) quick-row.Post
-entry t c = c .before .before .before .before .before
+entry t c = c .before .before .before .before .before .before .before
 
 abbrev lowered : (t : ℕ) → FirstDone t → Lowered t
 lowered t c = c .before .before .before .before
@@ -213,7 +241,7 @@ abbrev raised : (t : ℕ) → SecondDone t → Raised t
 raised t c = c .before .before .before .before
 
 above : (t : ℕ) (c : Lowered t) → entry t c .args .m ≡ 0 → ⊥
-above t c = c .before .before .if1 .left
+above t c = c .before .before .before .before .if1 .left
 
 -- what is known once the first half is read
 first-done : (t : ℕ) (c : FirstDone t)
@@ -271,19 +299,19 @@ second-done t c =
 quick-row-fold-requires : (t : ℕ) → quick-row-lts.Need-fold-requires (quick-row-calls t) (quick-row-at t) quick-row.Post
 quick-row-fold-requires t c κs = let done = second-done t (c .before .before .before .before) in (done .long, done .bits)
 
-quick-row-same-length-2 : (t : ℕ) → quick-row-lts.Need-same-length-2 (quick-row-calls t) (quick-row-at t) quick-row.Post
-quick-row-same-length-2 t c =
+quick-row-same-length-3 : (t : ℕ) → quick-row-lts.Need-same-length-3 (quick-row-calls t) (quick-row-at t) quick-row.Post
+quick-row-same-length-3 t c =
     let s = c .before .before .before .before .before .before .before in
     let u = raised t s in
     s .second-half .kept .0 ∙ u .upper-row .kept .0 ∙ first t u .first-half .kept .0 ∙ lowered t (first t u) .lower-row .kept .0
 
-quick-row-same-length-3 : (t : ℕ) → quick-row-lts.Need-same-length-3 (quick-row-calls t) (quick-row-at t) quick-row.Post
-quick-row-same-length-3 t c =
+quick-row-same-length-4 : (t : ℕ) → quick-row-lts.Need-same-length-4 (quick-row-calls t) (quick-row-at t) quick-row.Post
+quick-row-same-length-4 t c =
     let s = c .before .before .before .before .before .before .before in
     c .before .before .fold .kept .0 ∙ s .second-half .kept .1 .1 .0 ∙ first t (raised t s) .first-half .kept .1 .1 .0
 
-quick-row-returns-2 : (t : ℕ) → quick-row-lts.Need-returns-2 (quick-row-calls t) (quick-row-at t) quick-row.Post
-quick-row-returns-2 t c = c .before .before .fold .ensures ∙ second-done t (c .before .before .before .before .before .before .before) .gives
+quick-row-returns-3 : (t : ℕ) → quick-row-lts.Need-returns-3 (quick-row-calls t) (quick-row-at t) quick-row.Post
+quick-row-returns-3 t c = c .before .before .fold .ensures ∙ second-done t (c .before .before .before .before .before .before .before) .gives
 
 second-half-sub-quick-row : (t : ℕ) → second-half-lts.Need-sub-quick-row (second-half-calls t) (second-half-at t) second-half.Post
 second-half-sub-quick-row t c = omega arith
@@ -372,14 +400,18 @@ pub +first-half+quick-row+second-half-spec : {M : Type 1} → statement M
     (quick-row-slice-write-word t)
     (quick-row-same-length t)
     (quick-row-returns t)
+    (quick-row-some-information-requires t)
+    (quick-row-put-zeros-requires t)
+    (quick-row-same-length-2 t)
+    (quick-row-returns-2 t)
     (quick-row-lower-row-requires t)
     (quick-row-first-half-requires t)
     (quick-row-upper-row-requires t)
     (quick-row-second-half-requires t)
     (quick-row-fold-requires t)
-    (quick-row-same-length-2 t)
     (quick-row-same-length-3 t)
-    (quick-row-returns-2 t))
+    (quick-row-same-length-4 t)
+    (quick-row-returns-3 t))
     λ t. second-half-lts.spec (second-half-calls t) (second-half-at t)
     second-half.Post
     (second-half-sub-quick-row t)
