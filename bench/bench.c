@@ -176,6 +176,42 @@ static double v_search(work w) {
     return visits;
 }
 
+static double library_first_order(work w) {
+    uint8_t word[256], bits[256];
+    cinorbis_numbers n;
+    size_t l = (size_t)1 << w.m;
+    for (int i = 0; i < w.repeats; i++)
+        for (int t = 0; t < SETS; t++) {
+            uint32_t refusal = cinorbis_first_order(1, w.m, readings[t], l, bits, w.m + 1, word, l, &n);
+            sum_library += refusal == 0 ? n.penalty * 3 + n.gap + bits[w.m] + word[t & (l - 1)] : refusal;
+        }
+    return (double)w.repeats * SETS;
+}
+
+static double c_first_order(work w) {
+    uint8_t word[256], bits[256];
+    plain_state s = {0, 0, 0, 0, 0};
+    size_t l = (size_t)1 << w.m;
+    for (int i = 0; i < w.repeats; i++)
+        for (int t = 0; t < SETS; t++) {
+            uint32_t refusal = (uint32_t)plain_first_order(w.m, readings[t], l, bits, w.m + 1, word, l, &s);
+            sum_plain += refusal == 0 ? (uint64_t)s.best * 3 + (s.second - s.best) + bits[w.m] + word[t & (l - 1)] : refusal;
+        }
+    return (double)w.repeats * SETS;
+}
+
+static double v_first_order(work w) {
+    uint8_t word[256], bits[256];
+    vector_end e = {0, 0, 0};
+    size_t l = (size_t)1 << w.m;
+    for (int i = 0; i < w.repeats; i++)
+        for (int t = 0; t < SETS; t++) {
+            uint32_t refusal = (uint32_t)vector_first_order(w.m, readings[t], l, bits, w.m + 1, word, l, &e);
+            sum_vector += refusal == 0 ? (uint64_t)e.best * 3 + (e.second - e.best) + bits[w.m] + word[t & (l - 1)] : refusal;
+        }
+    return (double)w.repeats * SETS;
+}
+
 static double once(double (*f)(work), work w, double *units) {
     double start = now();
     *units = f(w);
@@ -190,7 +226,8 @@ typedef struct {
 } sides;
 
 static const sides encode_sides = {library_encode, c_encode, v_encode}, quick_sides = {library_quick, c_quick, v_quick},
-                   search_sides = {library_search, c_search, v_search};
+                   search_sides = {library_search, c_search, v_search},
+                   first_order_sides = {library_first_order, c_first_order, v_first_order};
 
 typedef struct {
     double library, plain, vector, units;
@@ -235,6 +272,17 @@ static void search_figures(uint32_t r, uint32_t m, double noise, const char *kin
     if (noise < 0) return;
     snprintf(name, sizeof name, "search RM(%u,%u), %s, per word", (unsigned)r, (unsigned)m, kind);
     row(name, t, SETS);
+}
+
+/* first-order words, beside C and beside the search of the same readings with an allowance that is never too small */
+static void first_order_figures(void) {
+    char name[] = "first-order words RM(1,8)", search[] = "search RM(1,8), the same readings, per word";
+    work w = {1, 8, UINT32_MAX, 200}, s = {1, 8, UINT32_MAX, 1};
+    make(1, 8, 0.7);
+    times first = measure(name, w, first_order_sides), walk = measure(search, s, search_sides);
+    row(name, first, first.units);
+    row(search, walk, SETS);
+    printf("| first-order words of the search's time, per word | | | %.3f | | |\n", first.library / first.units / (walk.library / SETS));
 }
 
 /* records of RM(2,5): packed once, then searched */
@@ -306,6 +354,7 @@ int main(int argc, char **argv) {
     search_figures(3, 8, 0.5, "noisy");
     search_figures(2, 8, 0.7, "noisy");
     search_figures(2, 5, 0.5, "noisy");
+    first_order_figures();
     record_figures();
     return disagreed;
 }

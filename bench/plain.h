@@ -278,4 +278,55 @@ static int plain_search(uint32_t r, uint32_t m, uint32_t allowed, const int16_t 
     return 0;
 }
 
+/* ---- first-order words */
+static void plain_hadamard(int32_t *x, size_t n) {
+    if (n == 1) return;
+    size_t h = n / 2;
+    for (size_t j = 0; j < h; j++) {
+        int32_t a = x[j], b = x[h + j];
+        x[j] = a + b;
+        x[h + j] = a - b;
+    }
+    plain_hadamard(x, h);
+    plain_hadamard(x + h, h);
+}
+
+static uint32_t plain_size(int32_t x) { return (uint32_t)(x < 0 ? -x : x); }
+
+/* of s the least penalty and the next; the word of place p has bit j of the digits that p and j share */
+static int plain_first_order(uint32_t m, const int16_t *l, size_t ll, uint8_t *bits, size_t k, uint8_t *word, size_t w,
+                             plain_state *s) {
+    int32_t x[256];
+    uint32_t sum = 0, best = 0, second = 0;
+    size_t n = (size_t)1 << m, place = 0;
+    if (m > 8 || m < 1) return 1;
+    if (ll != n) return 2;
+    if (k != m + 1 || w != n) return 3;
+    if (!plain_readings_ok(l, n)) return 4;
+    for (size_t j = 0; j < n; j++) {
+        x[j] = l[j];
+        sum += plain_size(l[j]);
+    }
+    plain_hadamard(x, n);
+    for (size_t j = 0; j < n; j++) {
+        uint32_t size = plain_size(x[j]);
+        if (j == 0 || size > best) {
+            second = best;
+            best = size;
+            place = j;
+        } else if (size > second) {
+            second = size;
+        }
+    }
+    s->best = (sum - best) / 2;
+    s->second = (sum - second) / 2;
+    s->visits = 0;
+    if (best == second) return 7;
+    uint8_t sign = x[place] < 0;
+    for (size_t j = 0; j < n; j++) word[j] = (uint8_t)(__builtin_parity((unsigned)(place & j)) ^ sign);
+    for (uint32_t i = 0; i < m; i++) bits[i] = place >> (m - 1 - i) & 1;
+    bits[m] = (uint8_t)(__builtin_parity((unsigned)place) ^ sign);
+    return 0;
+}
+
 #endif

@@ -1,4 +1,4 @@
-/* Encode, quick reading and search in C that is written to be compiled to vector code, without intrinsics: loops of known steps over rows,
+/* Encode, quick reading, search and first-order words in C that is written to be compiled to vector code, without intrinsics: loops of known steps over rows,
  * no branch in a row, eight bits of a word in one number, small rows straight. The memory rule is the library's: 255 running sums, the
  * top row read from the readings. For measuring beside it. */
 #include "vector.h"
@@ -332,5 +332,82 @@ int vector_search(uint32_t r, uint32_t m, uint32_t allowed, const int16_t *l, si
     size_t at = 0;
     for (size_t i = 0; i < n; i++)
         if (kinds[i]) bits[at++] = memory.best[i];
+    return 0;
+}
+
+/* ---- first-order words: the transform, two layers at a time */
+static inline __attribute__((always_inline)) void vector_cross(int32_t *x, size_t n, size_t h) {
+    for (size_t s = 0; s < n; s += 2 * h)
+        for (size_t j = 0; j < h; j++) {
+            int32_t *y = x + s + j, a = y[0], b = y[h];
+            y[0] = a + b;
+            y[h] = a - b;
+        }
+}
+
+static inline __attribute__((always_inline)) void vector_cross_twice(int32_t *x, size_t n, size_t h) {
+    for (size_t s = 0; s < n; s += 4 * h)
+        for (size_t j = 0; j < h; j++) {
+            int32_t *y = x + s + j, a = y[0] + y[h], b = y[0] - y[h], c = y[2 * h] + y[3 * h], d = y[2 * h] - y[3 * h];
+            y[0] = a + c;
+            y[h] = b + d;
+            y[2 * h] = a - c;
+            y[3 * h] = b - d;
+        }
+}
+
+static void vector_hadamard(int32_t *x, size_t n) {
+    if (n == 2) vector_cross(x, n, 1);
+    if (n > 2) vector_cross_twice(x, n, 1);
+    if (n == 8) vector_cross(x, n, 4);
+    if (n > 8) vector_cross_twice(x, n, 4);
+    if (n == 32) vector_cross(x, n, 16);
+    if (n > 32) vector_cross_twice(x, n, 16);
+    if (n == 128) vector_cross(x, n, 64);
+    if (n > 128) vector_cross_twice(x, n, 64);
+}
+
+static inline uint32_t vector_size(int32_t x) { return (uint32_t)(x < 0 ? -x : x); }
+
+/* the word of a place by doubling, and its bits */
+static void vector_put(uint32_t m, size_t place, uint8_t sign, uint8_t *restrict bits, uint8_t *restrict word) {
+    uint8_t last = sign;
+    word[0] = sign;
+    for (uint32_t p = 0; p < m; p++) {
+        uint8_t bit = place >> p & 1;
+        size_t h = (size_t)1 << p;
+        for (size_t j = 0; j < h; j++) word[h + j] = word[j] ^ bit;
+        bits[m - 1 - p] = bit;
+        last ^= bit;
+    }
+    bits[m] = last;
+}
+
+/* a size and its place in one number: 256 times the size, plus the place */
+int vector_first_order(uint32_t m, const int16_t *l, size_t ll, uint8_t *bits, size_t k, uint8_t *word, size_t w, vector_end *end) {
+    int32_t x[256];
+    uint32_t sum = 0, best = 0, second = 0;
+    if (m > 8 || m < 1) return 1;
+    size_t n = (size_t)1 << m;
+    if (ll != n) return 2;
+    if (k != m + 1 || w != n) return 3;
+    if (!vector_readings_ok(l, n)) return 4;
+    for (size_t j = 0; j < n; j++) x[j] = l[j];
+    for (size_t j = 0; j < n; j++) sum += vector_size(l[j]);
+    vector_hadamard(x, n);
+    for (uint32_t j = 0; j < n; j++) {
+        uint32_t key = vector_size(x[j]) * 256 + j;
+        best = key > best ? key : best;
+    }
+    size_t place = best % 256;
+    uint8_t sign = x[place] < 0;
+    best /= 256;
+    x[place] = 0;
+    for (size_t j = 0; j < n; j++) second = vector_size(x[j]) > second ? vector_size(x[j]) : second;
+    end->best = (sum - best) / 2;
+    end->second = (sum - second) / 2;
+    end->visits = 0;
+    if (best == second) return 7;
+    vector_put(m, place, sign, bits, word);
     return 0;
 }

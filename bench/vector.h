@@ -15,5 +15,6 @@ int vector_quick(uint32_t r, uint32_t m, const int16_t *l, size_t ll, uint8_t *b
                  uint32_t *penalty);
 int vector_search(uint32_t r, uint32_t m, uint32_t allowed, const int16_t *l, size_t ll, uint8_t *bits, size_t k, uint8_t *word,
                   size_t w, vector_end *end);
+int vector_first_order(uint32_t m, const int16_t *l, size_t ll, uint8_t *bits, size_t k, uint8_t *word, size_t w, vector_end *end);
 
 #endif

@@ -1,6 +1,6 @@
--- The loop of `cross`, and the transform by halves.
+-- The loop of `cross`, and the transform by halves that are lent one after the other.
 use mathlib.Core.Path.{_≡_, refl, ap, ap₂, sym, _∙_}
-use mathlib.Core.List.{List, [], _++_}
+use mathlib.Core.List.{List, _++_}
 use Prim.Native.Nat.{ℕ, zero, suc, _+_, _-_, _^_, _≤_, _<_}
 use native.Mathlib.Omega.{arith}
 use native.Mathlib.Numerals.{add-one}
@@ -13,16 +13,31 @@ use Rattle.numbers.specs.Front.{front, front-suc, front-after, front-done}
 use Rattle.numbers.specs.Halves.{length-first-half, length-second-half, getD-first, getD-second}
 use Rattle.decoding.specs.Readings.{turn, sizes}
 use Rattle.decoding.specs.StepLaws.{entry-sizes, sizes-append}
-use Rattle.hadamard.specs.Hadamard.{combined, sums, differences, hadamard}
+use Rattle.hadamard.specs.Hadamard.{combined, hadamard}
 use Rattle.hadamard.specs.HadamardLaws.{getD-combined, length-combined, sizes-combined}
 use Rattle.first_order.specs.Work.{crossed}
 
 -- a store behind the first n entries
-set-second : {A : Type 0} (p q : List A) (n j : ℕ) (a : A) → length p ≡ n → set (p ++ q) (n + j) a ≡ p ++ set q j a
+pub set-second : {A : Type 0} (p q : List A) (n j : ℕ) (a : A) → length p ≡ n → set (p ++ q) (n + j) a ≡ p ++ set q j a
 set-second p q n j a e =
     sym (take-append-drop n (set (p ++ q) (n + j) a))
     ∙ ap₂ _++_ (take-set-le n (p ++ q) (n + j) a (omega arith) ∙ take-at p q n e)
     (drop-set-add n (p ++ q) j a ∙ ap (λ l. set l j a) (drop-at p q n e))
+
+-- the transforms of the sums and of the differences are the transform
+by-halves : (m : ℕ) (d : List ℤ) (h : ℕ) → h ≡ 2 ^ (m - 1) → m ≡ suc (m - 1) → (a b : List ℤ)
+    → a ≡ hadamard (m - 1) (combined 0 (take h d) (drop h d)) → b ≡ hadamard (m - 1) (combined 1 (take h d) (drop h d)) → a ++ b ≡ hadamard m d
+unfolding hadamard
+by-halves zero d h e f a b ea eb = absurd (omega arith)
+by-halves (suc m) d h e f a b ea eb =
+    let q : suc m - 1 ≡ m = omega arith in
+    let p : h ≡ 2 ^ m = e ∙ ap (λ (k : ℕ). 2 ^ k) q in
+    ap₂ _++_ ea eb ∙ rw (q, p) refl
+
+-- of two entries a step is the transform
+pub pair-crossed : (d : List ℤ) → crossed 1 d ≡ hadamard 1 d
+unfolding hadamard
+pair-crossed d = refl
 
 module _ (d : List ℤ) (h : ℕ) (long : length d ≡ h + h) where
   abbrev part : ℕ → List ℤ
@@ -31,7 +46,7 @@ module _ (d : List ℤ) (h : ℕ) (long : length d ≡ h + h) where
   halves-alike : length (take h d) ≡ length (drop h d)
   halves-alike = length-first-half h d long ∙ sym (length-second-half h d long)
 
-  pub length-part : (e : ℕ) → length (part e) ≡ h
+  length-part : (e : ℕ) → length (part e) ≡ h
   length-part e = length-combined e (take h d) (drop h d) halves-alike ∙ length-first-half h d long
 
   -- after j turns
@@ -111,41 +126,64 @@ module _ (d : List ℤ) (h : ℕ) (long : length d ≡ h + h) where
         ∙ ap (λ (l : List ℤ). front (take h d) (part 0) (suc j) ++ l) second)
 
   -- ---- the halves of what came out
-  pub first-crossed : take h (crossed h d) ≡ part 0
+  first-crossed : take h (crossed h d) ≡ part 0
   first-crossed = take-at (part 0) (part 1) h (length-part 0)
 
-  pub second-crossed : drop h (crossed h d) ≡ part 1
+  second-crossed : drop h (crossed h d) ≡ part 1
   second-crossed = drop-at (part 0) (part 1) h (length-part 0)
 
-  pub part-small : (e : ℕ) → sizes (part e) ≤ sizes d
+  part-small : (e : ℕ) → sizes (part e) ≤ sizes d
   part-small e =
       let whole : sizes (take h d) + sizes (drop h d) ≡ sizes d = sym (sizes-append (take h d) (drop h d)) ∙ ap sizes (take-append-drop h d) in
       omega (arith, sizes-combined e (take h d) (drop h d))
 
-  -- lent one after the other: r is what `cross` left, a and b are what came back of the halves
+  -- ---- lent one after the other: r is what `cross` left, a and b are what comes back of the halves
   module _ (r : List ℤ) (is : r ≡ crossed h d) where
-    pub first-lent : midOf 0 (h - 0) r ≡ part 0
+    abbrev pub first : List ℤ
+    first = midOf 0 (h - 0) r
+
+    first-lent : first ≡ part 0
     first-lent = lent-to h r ∙ ap (take h) is ∙ first-crossed
 
-    pub first-back : (a : List ℤ) → putMid 0 (h - 0) r a ≡ a ++ part 1
-    first-back a = back-to h r a ∙ ap (λ (l : List ℤ). a ++ l) (ap (drop h) is ∙ second-crossed)
+    pub first-asked : (n : ℕ) → sizes d < n → (length first ≡ h) × (sizes first < n)
+    first-asked n k = (ap length first-lent ∙ length-part 0, omega (arith, ap sizes first-lent, part-small 0))
 
-    module _ (a : List ℤ) (la : length a ≡ h) where
-      pub length-back : length (putMid 0 (h - 0) r a) ≡ h + h
-      length-back = ap length (first-back a) ∙ length-append a (part 1) ∙ omega (arith, length-part 1)
+    module _ (a : List ℤ) (kept : length a ≡ length first) where
+      first-long-back : length a ≡ h
+      first-long-back = kept ∙ ap length first-lent ∙ length-part 0
 
-      pub second-lent : (w : List ℤ) → w ≡ putMid 0 (h - 0) r a → midOf h (length w - h) w ≡ part 1
-      second-lent w e = lent-from h w ∙ ap (drop h) (e ∙ first-back a) ∙ drop-at a (part 1) h la
+      -- what `row` is by then
+      abbrev pub middle : List ℤ
+      middle = putMid 0 (h - 0) r a
 
-      pub second-back : (w : List ℤ) → w ≡ putMid 0 (h - 0) r a → (b : List ℤ) → putMid h (length w - h) w b ≡ a ++ b
-      second-back w e b = back-from h w b ∙ ap (λ (l : List ℤ). l ++ b) (ap (take h) (e ∙ first-back a) ∙ take-at a (part 1) h la)
+      middle-is : middle ≡ a ++ part 1
+      middle-is = back-to h r a ∙ ap (λ (l : List ℤ). a ++ l) (ap (drop h) is ∙ second-crossed)
 
--- the transforms of both are the transform
-pub by-halves : (m : ℕ) (d : List ℤ) (h : ℕ) → h ≡ 2 ^ (m - 1) → m ≡ suc (m - 1) → (a b : List ℤ)
-    → a ≡ hadamard (m - 1) (combined 0 (take h d) (drop h d)) → b ≡ hadamard (m - 1) (combined 1 (take h d) (drop h d)) → a ++ b ≡ hadamard m d
-unfolding hadamard
-by-halves zero d h e f a b ea eb = absurd (omega arith)
-by-halves (suc m) d h e f a b ea eb =
-    let q : suc m - 1 ≡ m = omega arith in
-    let p : h ≡ 2 ^ m = e ∙ ap (λ (k : ℕ). 2 ^ k) q in
-    ap₂ _++_ ea eb ∙ rw (q, p) refl
+      pub length-middle : length middle ≡ h + h
+      length-middle = ap length middle-is ∙ length-append a (part 1) ∙ omega (arith, length-part 1, first-long-back)
+
+      abbrev pub second : List ℤ
+      second = midOf h (length middle - h) middle
+
+      second-lent : second ≡ part 1
+      second-lent = lent-from h middle ∙ ap (drop h) middle-is ∙ drop-at a (part 1) h first-long-back
+
+      pub second-asked : (n : ℕ) → sizes d < n → (length second ≡ h) × (sizes second < n)
+      second-asked n k = (ap length second-lent ∙ length-part 1, omega (arith, ap sizes second-lent, part-small 1))
+
+      module _ (b : List ℤ) (kept-too : length b ≡ length second) where
+        abbrev pub last : List ℤ
+        last = putMid h (length middle - h) middle b
+
+        last-is : last ≡ a ++ b
+        last-is = back-from h middle b ∙ ap (λ (l : List ℤ). l ++ b) (ap (take h) middle-is ∙ take-at a (part 1) h first-long-back)
+
+        pub length-last : length last ≡ length d
+        length-last =
+            let lb : length b ≡ h = kept-too ∙ ap length second-lent ∙ length-part 1 in
+            ap length last-is ∙ length-append a b ∙ omega (arith, first-long-back, long)
+
+        -- the transforms of both are the transform
+        pub both-transformed : (m : ℕ) → h ≡ 2 ^ (m - 1) → m ≡ suc (m - 1) → a ≡ hadamard (m - 1) first → b ≡ hadamard (m - 1) second → last ≡ hadamard m d
+        both-transformed m e f ea eb =
+            last-is ∙ by-halves m d h e f a b (ea ∙ ap (hadamard (m - 1)) first-lent) (eb ∙ ap (hadamard (m - 1)) second-lent)

@@ -7,3 +7,6 @@ pub mod CrossLaws
 pub mod TopLaws
 pub mod WordLaws
 pub mod OutcomeLaws
+-- What C-24 asks of the call, and that it is met
+pub mod Demands
+pub mod DemandsMet

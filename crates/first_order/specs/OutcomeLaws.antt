@@ -1,7 +1,7 @@
 -- The outcome at each place where `first_order` returns.
-use mathlib.Core.Path.{_≡_, refl, ap, ap₂, sym, _∙_}
+use mathlib.Core.Path.{_≡_, refl, ap, sym, _∙_}
 use mathlib.Core.List.{List}
-use Prim.Native.Nat.{ℕ, zero, suc, _+_, _-_, _*_, _^_, _/_, _≤_, _<_}
+use Prim.Native.Nat.{ℕ, zero, suc, _-_, _^_, _/_, _≤_, _<_}
 use native.Mathlib.Omega.{arith}
 use native.Mathlib.Nat.{le-refl, two-pow-succ}
 use lib.IntN.{ℤ, pos, negsuc}
@@ -10,7 +10,7 @@ use lib.Pow.{pow-pos, pow-mono}
 use borrow.Author.Tests.{eq-eqb, ne-eqb}
 use Rattle.words.specs.Kinds.{kinds}
 use Rattle.decoding.specs.Readings.{sizes}
-use Rattle.decoding.specs.Walk.{needed, tree}
+use Rattle.decoding.specs.Walk.{tree}
 use Rattle.decoding.specs.Answer.{Answer, answer}
 use Rattle.decoding.specs.StepLaws.{sizes-within}
 use Rattle.decoding.specs.Quick.{hard}

@@ -1,10 +1,10 @@
 -- What the inner functions ask and give.
 use mathlib.Core.Path.{_≡_}
 use mathlib.Core.Logic.{_⊎_}
-use mathlib.Core.List.{List, _++_}
-use Prim.Native.Nat.{ℕ, _+_, _*_, _^_, _≤_, _<_}
+use mathlib.Core.List.{List, _++_, map}
+use Prim.Native.Nat.{ℕ, _+_, _*_, _^_, _%_, _≤_, _<_}
 use lib.IntN.{ℤ, pos, natAbs}
-use lib.ListN.{length, getD, take, drop}
+use lib.ListN.{getD, take, drop}
 use Rattle.decoding.specs.Quick.{hard}
 use Rattle.hadamard.specs.Hadamard.{sums, differences, LargestTwo}
 use Rattle.first_order.specs.declared.Seen.{Seen}
@@ -33,3 +33,7 @@ pub record Top (f : ℕ → ℕ) (j most : ℕ) : Type 0 where
 pub record Looked (h : List ℤ) (s : Seen) : Type 0 where
   pub largest : LargestTwo h (s .place) (s .best) (s .second)
   pub sign-is : s .sign ≡ hard (getD h (s .place) (pos 0))
+
+-- the first h bits again behind them, each plus b, modulo 2
+abbrev pub doubled : ℕ → ℕ → List ℕ → List ℕ
+doubled h b x = take h x ++ map (λ a. (a + b) % 2) (take h x) ++ drop (h + h) x

@@ -4,20 +4,19 @@ use code::Admitted;
 use code::Refusal;
 use search::Searched;
 ghost use mathlib.Core.Path.{_≡_};
-ghost use Prim.Native.Nat.{_+_, _-_, _^_, _%_, _≤_, _<_, max};
-ghost use lib.Bits.{bitAnd};
-ghost use lib.Count as Count;
+ghost use Prim.Native.Nat.{_+_, _-_, _^_, _≤_, _<_, max};
 ghost use lib.IntN.{natAbs};
-ghost use lib.ListN.{length};
-ghost use Rattle.numbers.specs.Sums.{tabulate};
+ghost use lib.ListN.{length, take};
+ghost use Rattle.words.specs.Bits.{Bits};
 ghost use Rattle.decoding.specs.Readings.{sizes, Within};
 ghost use Rattle.decoding.specs.Quick.{hard};
-ghost use Rattle.hadamard.specs.Hadamard.{hadamard, bitsOf};
+ghost use Rattle.hadamard.specs.Hadamard.{hadamard, firstOrder, bitsOf};
 ghost use Rattle.code.specs.Sound.{rm};
 ghost use Rattle.code.specs.SoundInput.{SoundReadings};
 ghost use Rattle.search.specs.Outcome.{told};
 ghost use Rattle.first_order.specs.Outcome.{asSearch, firstOrdering};
-ghost use Rattle.first_order.specs.Work.{crossed, largestEntry, Top, sizeAt, keyAt, Looked};
+ghost use Rattle.first_order.specs.Work.{crossed, doubled, largestEntry};
+ghost use Rattle.first_order.specs.Work.{Top, sizeAt, keyAt, Looked};
 
 // The place of the largest size, whether the entry there is negative, that size and the next.
 pub struct Seen {
@@ -56,7 +55,7 @@ fn decode(m: usize, readings: &[i16], bits: &mut [u8], word: &mut [u8]) -> Searc
         return Searched::Refused(Refusal::Tied { penalty, visits: 0 });
     }
     put_bits(bits, m, seen.place, seen.sign);
-    put_word(word, seen.place, seen.sign);
+    put_word(word, m, seen.place, seen.sign as u8);
     Searched::Found {
         penalty,
         gap: (seen.best - seen.second) / 2,
@@ -101,11 +100,44 @@ fn cross(row: &mut [i32], h: usize)
     }
 }
 
+// The transforms of four, eight and sixteen entries. All their steps are constants: the compiler
+// makes straight vector code of them.
+fn four(row: &mut [i32])
+    requires { ⌜ (length (now row) ≡ 4) × (sizes (now row) < 2 ^ 31) ⌝ }
+    ensures { λ _. ⌜ now (row .exit) ≡ hadamard 2 (now (row .entry)) ⌝ }
+{
+    cross(row, 2);
+    cross(&mut row[0..2], 1);
+    cross(&mut row[2..], 1);
+}
+
+fn eight(row: &mut [i32])
+    requires { ⌜ (length (now row) ≡ 8) × (sizes (now row) < 2 ^ 31) ⌝ }
+    ensures { λ _. ⌜ now (row .exit) ≡ hadamard 3 (now (row .entry)) ⌝ }
+{
+    cross(row, 4);
+    four(&mut row[0..4]);
+    four(&mut row[4..]);
+}
+
+fn sixteen(row: &mut [i32])
+    requires { ⌜ (length (now row) ≡ 16) × (sizes (now row) < 2 ^ 31) ⌝ }
+    ensures { λ _. ⌜ now (row .exit) ≡ hadamard 4 (now (row .entry)) ⌝ }
+{
+    cross(row, 8);
+    eight(&mut row[0..8]);
+    eight(&mut row[8..]);
+}
+
 // The transform of 2^m entries, in place.
 fn transform(row: &mut [i32], m: usize)
     requires { ⌜ (length (now row) ≡ 2 ^ m) × (sizes (now row) < 2 ^ 31) ⌝ }
     ensures { λ _. ⌜ now (row .exit) ≡ hadamard m (now (row .entry)) ⌝ }
 {
+    if m == 4 {
+        sixteen(row);
+        return;
+    }
     if m == 0 {
         return;
     }
@@ -193,16 +225,31 @@ fn look(row: &mut [i32]) -> Seen
 }
 
 // ---- the word
-// Bit j is the sign plus the number of ones that j and the place share, modulo 2.
-fn put_word(word: &mut [u8], place: usize, sign: u32)
-    requires { ⌜ sign < 2 ⌝ }
-    ensures { λ _. ⌜ now (word .exit)
-        ≡ tabulate (λ j. (Count.ones (bitAnd place j) + sign) % 2) (length (now (word .entry))) ⌝ }
+// The first h bits of the word again behind them, each plus the bit, modulo 2.
+fn double(word: &mut [u8], h: usize, bit: u8)
+    requires { ⌜ (h + h ≤ length (now word)) × Bits (take h (now word)) × (bit < 2) ⌝ }
+    ensures { λ _. ⌜ now (word .exit) ≡ doubled h bit (now (word .entry)) ⌝ }
 {
     let mut j = 0;
-    while j < word.len() {
-        word[j] = ((usize::count_ones(place & j) % 2 + sign) % 2) as u8;
+    while j < h {
+        word[h + j] = (word[j] + bit) % 2;
         j += 1;
+    }
+}
+
+// The word of the place: it starts with the sign and is doubled by each digit, the lowest first.
+fn put_word(word: &mut [u8], m: usize, place: usize, sign: u8)
+    requires { ⌜ (length (now word) ≡ 2 ^ m) × (m ≤ 8) × (sign < 2) ⌝ }
+    ensures { λ _. ⌜ now (word .exit) ≡ firstOrder m place sign ⌝ }
+{
+    word[0] = sign;
+    let mut h = 1;
+    let mut p = 0;
+    while p < m {
+        let above = place >> p;
+        double(word, h, (above % 2) as u8);
+        h = h + h;
+        p += 1;
     }
 }
 

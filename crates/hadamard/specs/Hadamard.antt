@@ -4,7 +4,7 @@ use mathlib.Core.Path.{_≡_}
 use mathlib.Core.Bool.{cond}
 use mathlib.Core.List.{List, [], _∷_, _++_, map}
 use Prim.Native.Nat.{ℕ, zero, suc, _+_, _-_, _*_, _^_, _%_, _/_, _≤_, _<_}
-use lib.IntN.{ℤ, pos, natAbs, _+ℤ_}
+use lib.IntN.{ℤ, pos, natAbs, _+ℤ_, _*ℤ_}
 use lib.Dec.{eqb}
 use lib.ListN.{length, getD, take, drop}
 use Rattle.numbers.specs.Sums.{sum, tabulate}
@@ -31,6 +31,10 @@ differences k l = combined 1 k l
 unfoldable pub hadamard : ℕ → List ℤ → List ℤ
 hadamard zero l = l
 hadamard (suc m) l = hadamard m (sums (take (2 ^ m) l) (drop (2 ^ m) l)) ++ hadamard m (differences (take (2 ^ m) l) (drop (2 ^ m) l))
+
+-- every entry times n
+abbrev pub times : ℕ → List ℤ → List ℤ
+times n l = map (λ x. pos n *ℤ x) l
 
 -- entry s of the transform
 abbrev pub entry : ℕ → List ℤ → ℕ → ℤ

@@ -2,14 +2,14 @@
 use mathlib.Core.Path.{_≡_, refl, ap, ap₂, _∙_}
 use Prim.Native.Nat.{_+_, _-_, _≤_, zero-le}
 use native.Mathlib.Omega.{arith}
-use lib.IntN.{ℤ, pos, _+ℤ_, _-ℤ_, negℤ}
+use lib.IntN.{ℤ, pos, natAbs, _+ℤ_, _-ℤ_}
 use lib.ListN.{length, getD, set, length-set}
 use lib.Seq.{lt-length-set}
 use mir.Syntax.{w32}
 use mir.Val.{toZ, ofZ}
 use mir.Facts.{toZ-ofZ}
-use Rattle.numbers.specs.PartsLaws.{parts, sum-parts, negated, fits-size}
-use Rattle.hadamard.specs.Hadamard.{combined}
+use Rattle.numbers.specs.PartsLaws.{fits-size}
+use Rattle.hadamard.specs.HadamardLaws.{size-combined}
 use Rattle.first_order.specs.CrossLaws.{crossing, crossing-none, crossing-all, read-first, read-second, pair-small, turn-stores}
 use Rattle.first_order.proofs.cross.Statement.{statement}
 use Rattle.first_order.proofs.cross.Tie as tie
@@ -77,8 +77,8 @@ add-row c =
     let j = c .before .before .before .loop .j in
     let x = getD d j (pos 0) in
     let y = getD d (h + j) (pos 0) in
-    rw (pair c .0, pair c .1)
-    (fits-size _ (omega (arith, parts x, parts y, parts (x +ℤ y), sum-parts x y, pair-small d h (s .pre .0) j (omega arith), s .pre .1)))
+    let small : natAbs (x +ℤ y) ≤ natAbs x + natAbs y = size-combined 0 x y in
+    rw (pair c .0, pair c .1) (fits-size _ (omega (arith, small, pair-small d h (s .pre .0) j (omega arith), s .pre .1)))
 
 mul-row : tie.Need-mul-row Inv-loop μ-loop
 mul-row c = omega arith
@@ -94,8 +94,10 @@ sub-row c =
     let j = c .before .before .before .loop .j in
     let x = getD d j (pos 0) in
     let y = getD d (h + j) (pos 0) in
-    rw (pair c .0, pair c .1)
-    (fits-size _ (omega (arith, parts x, parts y, parts (x -ℤ y), sum-parts x (negℤ y), negated y, pair-small d h (s .pre .0) j (omega arith), s .pre .1)))
+    -- the difference of two, whichever is taken from the other
+    let small : natAbs (x -ℤ y) ≤ natAbs x + natAbs y = size-combined 1 x y in
+    let turned : natAbs (y -ℤ x) ≤ natAbs y + natAbs x = size-combined 1 y x in
+    rw (pair c .0, pair c .1) (fits-size _ (omega (arith, small, turned, pair-small d h (s .pre .0) j (omega arith), s .pre .1)))
 
 add-t10 : tie.Need-add-t10 Inv-loop μ-loop
 add-t10 c = omega arith

@@ -1,18 +1,17 @@
 -- What the look finds gives the outcome.
-use mathlib.Core.Path.{_≡_, ap, sym, _∙_}
-use Prim.Native.Nat.{ℕ, _+_, _-_, _/_, _^_, _<_}
+use mathlib.Core.Path.{ap, sym, _∙_}
+use Prim.Native.Nat.{ℕ, _-_, _/_}
 use native.Mathlib.Omega.{arith}
-use lib.IntN.{ℤ, pos}
-use lib.ListN.{length, getD, replicate, length-replicate}
+use lib.IntN.{pos}
+use lib.ListN.{length, replicate, length-replicate}
 use lib.Seq.{length-take-le}
 use Rattle.words.specs.KindLaws.{sum-kinds}
-use Rattle.hadamard.specs.Hadamard.{hadamard, entry}
+use Rattle.hadamard.specs.Hadamard.{entry}
 use Rattle.hadamard.specs.HadamardLaws.{length-hadamard}
 use Rattle.hadamard.specs.EncodedLaws.{sum-first-order}
 use Rattle.code.specs.declared.Refusal.the-variants.{Tied}
 use Rattle.code.specs.SoundLaws.{length-most}
 use Rattle.search.specs.Outcome.{foundWith, refused}
-use Rattle.first_order.specs.WordLaws.{word-counted}
 use Rattle.first_order.specs.OutcomeLaws.{sums-small, hard-small, best-most, tied-told, found-told}
 use borrow.Author.Needs.{needs}
 use Rattle.first_order.proofs.decode.Statement.{statement}
@@ -45,29 +44,34 @@ total-size-requires c κs = omega (arith, sums-small (c .before .before .before 
 
 sub-penalty : tie.Need-sub-penalty
 sub-penalty c =
-    let s = c .before .before .before .before .before .before .before in
+    let at = c .before .before .before in
+    let s = at .before .before .before .before in
     let a = s .args in
-    let f = c .before .before .before .find in
+    let f = at .find in
+    let r = f .result in
     omega (
       arith,
-      best-most (a .m) (a .readings .now) (a .bits .now) (a .word .now) (s .pre) (f .result .place) (f .result .best) (f .result .second) (f .ensures .largest),
+      best-most (a .m) (a .readings .now) (a .bits .now) (a .word .now) (s .pre) (r .place) (r .best) (r .second) (f .ensures .largest),
       c .before .total-size .ensures,
     )
 
 returns : tie.Need-returns
 returns c =
-    let s = c .before .before .before .before .before .before .before .before .before in
+    let sized = c .before .before .before in
+    let at = sized .before .before in
+    let s = at .before .before .before .before in
     let a = s .args in
-    let f = c .before .before .before .before .before .find in
+    let f = at .find in
     let r = f .result in
-    ap (λ (t : ℕ). refused (Tied ((t - r .best) / 2) 0) (a .bits .now) (a .word .now)) (c .before .before .before .total-size .ensures)
+    ap (λ (t : ℕ). refused (Tied ((t - r .best) / 2) 0) (a .bits .now) (a .word .now)) (sized .total-size .ensures)
     ∙ tied-told (a .m) (a .readings .now) (a .bits .now) (a .word .now) (s .pre) (r .place) (r .best) (r .second) (f .ensures .largest) (c .if1 .taken)
 
 put-bits-requires : tie.Need-put-bits-requires
 put-bits-requires c κs =
-    let s = c .before .before .before .before .before .before .before .before .before .before in
+    let at = c .before .before .before .before .before .before in
+    let s = at .before .before .before .before in
     let m = s .args .m in
-    let f = c .before .before .before .before .before .before .find in
+    let f = at .find in
     let z = entry m (s .args .readings .now) (f .result .place) in (
       s .pre .long-bits ∙ sym (sum-kinds 1 m) ∙ sum-first-order m ∙ omega arith,
       s .pre .sound .m-small,
@@ -75,11 +79,18 @@ put-bits-requires c κs =
       omega (arith, f .ensures .sign-is, hard-small z),
     )
 
+cast-put-word : tie.Need-cast-put-word
+cast-put-word c =
+    let at = c .before .before .before .before .before .before .before .before .before .before .before in
+    let s = at .before .before .before .before in
+    omega (arith, at .find .ensures .sign-is, hard-small (entry (s .args .m) (s .args .readings .now) (at .find .result .place)))
+
 put-word-requires : tie.Need-put-word-requires
 put-word-requires c κs =
-    let s = c .before .before .before .before .before .before .before .before .before .before .before .before .before .before in
-    let f = c .before .before .before .before .before .before .before .before .before .before .find in
-    omega (arith, f .ensures .sign-is, hard-small (entry (s .args .m) (s .args .readings .now) (f .result .place)))
+    let at = c .before .before .before .before .before .before .before .before .before .before .before in
+    let s = at .before .before .before .before in
+    let z = entry (s .args .m) (s .args .readings .now) (at .find .result .place) in
+    (s .pre .long-word, s .pre .sound .m-small, omega (arith, at .find .ensures .sign-is, hard-small z))
 
 sub-t14 : tie.Need-sub-t14
 sub-t14 c = search needs
@@ -92,18 +103,20 @@ same-length-2 c = search needs
 
 returns-2 : tie.Need-returns-2
 returns-2 c =
-    let s = c .before .before .before .before .before .before .before .before .before .before .before .before .before .before .before .before .before .before in
+    let worded = c .before .before .before in
+    let bitted = worded .before .before .before .before .before in
+    let tested = bitted .before .before in
+    let sized = tested .before .before .before in
+    let at = sized .before .before in
+    let s = at .before .before .before .before in
     let a = s .args in
-    let l = a .readings .now in
-    let f = c .before .before .before .before .before .before .before .before .before .before .before .before .before .before .find in
+    let f = at .find in
     let r = f .result in
-    let b = c .before .before .before .before .before .before .before .put-bits in
-    let w = c .before .before .before .put-word in
-    let below : r .place < 2 ^ a .m = omega (arith, f .ensures .largest .within, length-hadamard (a .m) l (s .pre .entries .long)) in
-    ap (λ (t : ℕ). foundWith ((t - r .best) / 2) ((r .best - r .second) / 2) 0 (b .last .0) (w .last .0)) (c .before .before .before .before .before .before .before .before .before .before .before .before .total-size .ensures)
-    ∙ found-told (a .m) l (a .bits .now) (a .word .now) (s .pre) (r .place) (r .best) (r .second) (f .ensures .largest) (c .before .before .before .before .before .before .before .before .before .if1 .left)
-    (r .sign) (f .ensures .sign-is) (b .last .0) (w .last .0) (b .ensures)
-    (w .ensures ∙ word-counted (a .m) (r .place) (r .sign) (length (a .word .now)) (s .pre .long-word) below)
+    let b = bitted .put-bits in
+    let w = worded .put-word in
+    ap (λ (t : ℕ). foundWith ((t - r .best) / 2) ((r .best - r .second) / 2) 0 (b .last .0) (w .last .0)) (sized .total-size .ensures)
+    ∙ found-told (a .m) (a .readings .now) (a .bits .now) (a .word .now) (s .pre) (r .place) (r .best) (r .second) (f .ensures .largest)
+    (tested .if1 .left) (r .sign) (f .ensures .sign-is) (b .last .0) (w .last .0) (b .ensures) (w .ensures)
 
 pub decode-spec : {M : Type 1} → statement M
 decode-spec =
@@ -117,6 +130,7 @@ decode-spec =
     sub-penalty
     returns
     put-bits-requires
+    cast-put-word
     put-word-requires
     sub-t14
     same-length

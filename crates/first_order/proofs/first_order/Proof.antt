@@ -57,14 +57,17 @@ same-length-2 c = search needs
 
 returns-3 : tie.Need-returns-3
 returns-3 c =
-    let a = c .before .before .before .before .before .before .before .before .before .before .before .before .before .before .before .args in
+    let coded = c .before .before .before .before .before .before .before .before .before in
+    let admitted = coded .before .before in
+    let tested = admitted .before in
+    let a = tested .before .before .before .args in
     let l = a .readings .now in
-    let code = c .before .before .before .before .before .before .before .before .before .code .given in
-    let is = sym (code .1) ∙ c .before .before .before .before .before .before .before .before .before .before .before .admit .ensures in
+    let code = coded .code .given in
+    let is = sym (code .1) ∙ admitted .admit .ensures in
     let same = allowed-code 1 (a .m) l (length (a .bits .now)) (length (a .word .now)) (code .0 .0) is in
     c .before .before .before .before .decode .ensures
     ∙ ap (λ (d : Code). asSearch (d .m) l (a .bits .now) (a .word .now)) same
-    ∙ first-order (a .r) (a .m) l (a .bits .now) (a .word .now) (c .before .before .before .before .before .before .before .before .before .before .before .before .if1 .left)
+    ∙ first-order (a .r) (a .m) l (a .bits .now) (a .word .now) (tested .if1 .left)
 
 pub first-order-spec : {M : Type 1} → statement M
 first-order-spec =

@@ -25,9 +25,9 @@ cast-result : tie.Need-cast-result
 cast-result c =
     let s = c .before in
     let v = s .args .x in
+    let less = less-parts v (pos 0) (rw (toZ-ofZ (s .fits .x)) at (c .if1 .taken)) in
     rw (toZ-ofZ (sub-result c), toZ-ofZ (s .fits .x)) (
-      non-negative (pos 0 -ℤ v)
-          (omega (arith, parts v, negated v, parts (pos 0 -ℤ v), sum-parts (pos 0) (negℤ v), less-parts v (pos 0) (rw (toZ-ofZ (s .fits .x)) at (c .if1 .taken)))),
+      non-negative (pos 0 -ℤ v) (omega (arith, parts v, negated v, parts (pos 0 -ℤ v), sum-parts (pos 0) (negℤ v), less)),
       record { fits = omega (arith, parts v, parts (pos 0 -ℤ v), negated v, sum-parts (pos 0) (negℤ v)) },
     )
 

@@ -4,11 +4,12 @@ use Prim.Native.Nat.{_+_, _-_, _≤_}
 use native.Mathlib.Omega.{arith}
 use native.Mathlib.Numerals.{add-one}
 use lib.IntN.{pos, natAbs}
-use lib.ListN.{length, getD, take}
+use lib.ListN.{length, getD, take, drop, take-append-drop}
 use lib.Seq.{take-all}
 use Rattle.decoding.specs.Readings.{sizes}
+use Rattle.decoding.specs.StepLaws.{sizes-append}
 use Rattle.rows.specs.RowLaws.{reading-fits, reading-read, reading-size}
-use Rattle.first_order.specs.WordLaws.{sizes-more, sizes-part}
+use Rattle.first_order.specs.WordLaws.{sizes-more}
 use Rattle.first_order.proofs.total_size.Statement.{statement}
 use Rattle.first_order.proofs.total_size.Tie as tie
 
@@ -54,7 +55,7 @@ add-sum c =
     let g = c .before .before .before .before in
     let l = g .args .readings .now in
     let j = c .before .before .before .loop .j + 1 in
-    record { fits = omega (arith, more c, sizes-part l j, g .pre) }
+    record { fits = omega (arith, more c, ap sizes (take-append-drop j l), sizes-append (take j l) (drop j l), g .pre) }
 
 add-j : tie.Need-add-j Inv-loop μ-loop
 add-j c = omega arith
