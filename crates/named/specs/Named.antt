@@ -57,6 +57,6 @@ unfoldable pub rowAdmitted : ℕ → ℕ → List ℕ → Admitted
 rowAdmitted r m named = ifMade (made r m) (λ c. cond (goodRow named (kinds (c .r) (c .m))) (Allowed c) (Refused Named))
 
 -- what a call gives after these tests: refused, or as a call of a code does
-abbrev pub afterRow : {O : Type 0} → Admitted → (Refusal → O) → (Code → O) → O
-afterRow (Refused why) refuse then = refuse why
-afterRow (Allowed c) refuse then = then c
+abbrev pub afterTest : {O : Type 0} → Admitted → (Refusal → O) → (Code → O) → O
+afterTest (Refused why) refuse then = refuse why
+afterTest (Allowed c) refuse then = then c

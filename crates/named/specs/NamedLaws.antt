@@ -1,9 +1,8 @@
 -- Laws of rows that name indices: the kinds left, the test, and what the loops over a row have found so far.
-use mathlib.Core.Path.{_≡_, refl, ap, ap₂, sym, _∙_}
-use mathlib.Core.Logic.{⊎-elim}
+use mathlib.Core.Path.{_≡_, refl, ap, ap₂, sym, _∙_, subst}
 use mathlib.Core.Bool.{Bool, true, false, not, _&&_, _||_, true≢false}
 use mathlib.Core.List.{List, [], _∷_}
-use Prim.Native.Nat.{ℕ, zero, suc, _+_, _^_, _≤_, _<_}
+use Prim.Native.Nat.{ℕ, zero, suc, _+_, _^_, _≤_, _<_, zero-le}
 use native.Mathlib.Omega.{arith}
 use native.Mathlib.Decide.{ℕ-discrete}
 use native.Mathlib.Nat.{suc-inj, suc-ne-zero}
@@ -12,15 +11,21 @@ use lib.ListN.{length, getD, drop, replicate, drop-of-length-le, length-replicat
 use lib.Seq.{drop-cons}
 use lib.Dec.{ltb, eqb}
 use borrow.Author.Tests.{eq-eqb, ne-eqb, eqb-true, lt-ltb, le-ltb, ltb-true, ltb-false, not-true}
-use Rattle.numbers.specs.Choice.{lt-or-le}
 use Rattle.numbers.specs.Sums.{sum}
 use Rattle.words.specs.Bits.{Bits}
 use Rattle.words.specs.Kinds.{kinds, Frozen}
 use Rattle.words.specs.KindLaws.{length-kinds, bits-kinds, sum-kinds-pos}
 use Rattle.words.specs.TransformLaws.{bits-zeros}
+use Rattle.code.specs.declared.Code.{Code}
+use Rattle.code.specs.declared.Made.{Made}
+use Rattle.code.specs.declared.Made.the-variants.{Good, Bad}
+use Rattle.code.specs.declared.Refusal.the-variants.{Parameters, Named}
+use Rattle.code.specs.declared.Admitted.the-variants.{Allowed, Refused}
+use Rattle.code.specs.Sound.{Sound, made, rm}
+use Rattle.code.specs.SoundLaws.{made-of}
 use Rattle.code.specs.Entries.{firstBadBit}
 use Rattle.code.specs.EntriesLaws.{good-bits, first-none}
-use Rattle.named.specs.Named.{kindLeft, left, GoodRow, namedFrozen, namesFrozen, goodRow}
+use Rattle.named.specs.Named.{kindLeft, left, GoodRow, namedFrozen, namesFrozen, goodRow, rowAdmitted}
 
 -- ---- the kinds left
 kindLeft-frozen : (a : ℕ) → kindLeft a 0 ≡ 0
@@ -94,7 +99,7 @@ is-named (suc a) (suc k) f e = absurd (suc-ne-zero k e)
 pub named-frozen : (a k : ℕ) → (a ≡ 0 → ⊥) → eqb k 0 ≡ namedFrozen a k
 named-frozen zero k f = absurd (f refl)
 named-frozen (suc a) zero f = refl
-named-frozen (suc a) (suc k) f = refl
+named-frozen (suc a) (suc k) f = ne-eqb (suc k) 0 (suc-ne-zero k)
 
 not-both : (a k : ℕ) → ((a ≡ 0 → ⊥) → k ≡ 0 → ⊥) → namedFrozen a k ≡ false
 not-both zero k f = refl
@@ -145,6 +150,74 @@ module _ (named ks : List ℕ) (are : Bits ks) where
       let none = frozen-none named ks (λ i f z. omega (arith, g .information i (omega (arith, g .are-bits i)))) in
       rw (eq-eqb (length named) (length ks) (g .long), le-ltb place (length named) (omega (arith, all)), none, lt-ltb 0 (sum (left named ks)) (g .leaves))
 
+  -- each end of the test
+  pub wrong-length : (length named ≡ length ks → ⊥) → false ≡ goodRow named ks
+  unfolding goodRow
+  wrong-length f = rw (ne-eqb (length named) (length ks) f)
+
+  module _ (long : length named ≡ length ks) where
+    pub wrong-byte : firstBadBit named < length named → false ≡ goodRow named ks
+    unfolding goodRow
+    wrong-byte h = rw (eq-eqb (length named) (length ks) long, lt-ltb (firstBadBit named) (length named) h)
+
+    module _ (bits : length named ≤ firstBadBit named) where
+      pub frozen-named : namesFrozen named ks ≡ true → false ≡ goodRow named ks
+      unfolding goodRow
+      frozen-named e = rw (eq-eqb (length named) (length ks) long, le-ltb (firstBadBit named) (length named) bits, e)
+
+      pub none-wrong : namesFrozen named ks ≡ false → ltb 0 (sum (left named ks)) ≡ goodRow named ks
+      unfolding goodRow
+      none-wrong e = rw (eq-eqb (length named) (length ks) long, le-ltb (firstBadBit named) (length named) bits, e)
+
+-- ---- the tests 1 and 12
+module _ (r m : ℕ) (named : List ℕ) where
+  pub row-parameters : made r m ≡ Bad → Refused Parameters ≡ rowAdmitted r m named
+  unfolding rowAdmitted
+  row-parameters e = rw e
+
+  module _ (c : Code) (good : made r m ≡ Good c) where
+    pub row-named : goodRow named (kinds (c .r) (c .m)) ≡ false → Refused Named ≡ rowAdmitted r m named
+    unfolding rowAdmitted
+    row-named e = rw (good, e)
+
+    pub row-allowed : goodRow named (kinds (c .r) (c .m)) ≡ true → Allowed c ≡ rowAdmitted r m named
+    unfolding rowAdmitted
+    row-allowed e = rw (good, e)
+
+-- and back: 1 first, then 12 exactly if the row is no good one
+pub data RowDecided (r m : ℕ) (named : List ℕ) : Type 0 where
+  bad-parameters : made r m ≡ Bad → Refused Parameters ≡ rowAdmitted r m named → RowDecided r m named
+  bad-row : Sound (rm r m) → (GoodRow named (kinds r m) → ⊥) → Refused Named ≡ rowAdmitted r m named → RowDecided r m named
+  sound-row : Sound (rm r m) → GoodRow named (kinds r m) → Allowed (rm r m) ≡ rowAdmitted r m named → RowDecided r m named
+
+module _ (r m : ℕ) (named : List ℕ) where
+  row-decided-good : (c : Code) (b : Bool) → made r m ≡ Good c → goodRow named (kinds (c .r) (c .m)) ≡ b → RowDecided r m named
+  row-decided-good c true e f =
+      let is = made-of r m c e in
+      sound-row (subst Sound (is .same) (is .sound))
+      (subst (λ (d : Code). GoodRow named (kinds (d .r) (d .m))) (is .same) (row-good named (kinds (c .r) (c .m)) (bits-kinds (c .r) (c .m)) f))
+      (ap Allowed (sym (is .same)) ∙ row-allowed r m named c e f)
+  row-decided-good c false e f =
+      let is = made-of r m c e in
+      let bad : GoodRow named (kinds (c .r) (c .m)) → ⊥ = λ g. true≢false (sym (good-row named (kinds (c .r) (c .m)) (bits-kinds (c .r) (c .m)) g) ∙ f) in
+      bad-row (subst Sound (is .same) (is .sound)) (subst (λ (d : Code). GoodRow named (kinds (d .r) (d .m)) → ⊥) (is .same) bad) (row-named r m named c e f)
+
+  row-decided-by : (x : Made) → made r m ≡ x → RowDecided r m named
+  row-decided-by (Good c) e = row-decided-good c (goodRow named (kinds (c .r) (c .m))) e refl
+  row-decided-by Bad e = bad-parameters e (row-parameters r m named e)
+
+  pub row-decided : RowDecided r m named
+  row-decided = row-decided-by (made r m) refl
+
+  -- what an allowed row shows
+  pub allowed-row : (c : Code) → Allowed c ≡ rowAdmitted r m named → (c ≡ rm r m) × Sound c × GoodRow named (kinds (c .r) (c .m))
+  allowed-row c e =
+      elim row-decided [
+        | bad-parameters b f ↦ let z : _≡_ {A = ℕ} 0 1 = cc in absurd (omega arith)
+        | bad-row s b f ↦ let z : _≡_ {A = ℕ} 0 1 = cc in absurd (omega arith)
+        | sound-row s g f ↦ let same : c ≡ rm r m = cc in rw same (refl, s, g)
+      ]
+
 -- an empty choice is a good row
 zero-at : (n i : ℕ) → _≡_ {A = ℕ} (getD (replicate n 0) i 0) 0
 zero-at zero i = refl
@@ -190,6 +263,9 @@ module _ (named ks : List ℕ) (same : length named ≡ length ks) where
   pub none-named : (i : ℕ) → length named ≤ i → NoneBefore named ks i → false ≡ namesFrozen named ks
   unfolding namesFrozen
   none-named i h before = ap (λ (l : List ℕ). namesFrozen l (drop i ks)) (sym (drop-of-length-le named {i = i} h)) ∙ before .1
+
+  pub counted-none : CountedBefore named ks 0 0
+  counted-none = (zero-le, zero-le, omega arith)
 
   pub count-more : (i count k : ℕ) → i < length named → CountedBefore named ks i count → Bits ks → k ≡ kindLeft (getD named i 0) (getD ks i 0)
       → CountedBefore named ks (i + 1) (count + k)

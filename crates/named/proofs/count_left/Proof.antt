@@ -6,7 +6,7 @@ use lib.ListN.{length, getD}
 use Rattle.words.specs.Kinds.{kinds}
 use Rattle.words.specs.KindLaws.{length-kinds, bits-kinds, kinds-at}
 use Rattle.named.specs.Named.{kindLeft}
-use Rattle.named.specs.NamedLaws.{CountedBefore, count-more, counted-all}
+use Rattle.named.specs.NamedLaws.{CountedBefore, counted-none, count-more, counted-all}
 use Rattle.named.proofs.count_left.Statement.{statement}
 use Rattle.named.proofs.count_left.Tie as tie
 
@@ -16,14 +16,17 @@ Inv-loop code named count₀ i₀ count i = CountedBefore named (kinds (code .r)
 abbrev μ-loop : tie.MeasureT-loop
 μ-loop code named count₀ i₀ count i = length named - i
 
+long : (s : tie.Start Inv-loop μ-loop) → length (s .args .named .now) ≡ length (kinds (s .args .code .r) (s .args .code .m))
+long s = s .pre .1 ∙ sym (length-kinds (s .args .code .r) (s .args .code .m))
+
 loop-holds : tie.Need-loop-holds Inv-loop μ-loop
-loop-holds c = (omega arith, omega arith, refl)
+loop-holds c = counted-none _ _ (long (c .before))
 
 shared-slice-read-kind-left : tie.Need-shared-slice-read-kind-left Inv-loop μ-loop
 shared-slice-read-kind-left c = omega arith
 
 kind-requires : tie.Need-kind-requires Inv-loop μ-loop
-kind-requires c κs = let s = c .before .before in (s .pre .0, omega (arith, s .pre .1))
+kind-requires c κs = let s = c .before .before .before .before in (s .pre .0, omega (arith, s .pre .1))
 
 kind-left-requires : tie.Need-kind-left-requires Inv-loop μ-loop
 kind-left-requires c κs = tt
@@ -31,17 +34,14 @@ kind-left-requires c κs = tt
 wide-requires : tie.Need-wide-requires Inv-loop μ-loop
 wide-requires c κs = tt
 
-long : (s : tie.Start) → length (s .args .named .now) ≡ length (kinds (s .args .code .r) (s .args .code .m))
-long s = s .pre .1 ∙ sym (length-kinds (s .args .code .r) (s .args .code .m))
-
 -- one index more
 more : (c : tie.After-wide Inv-loop μ-loop)
-    → let l = c .before .before .before .before .loop in
-    let s = c .before .before .before .before .before .args in
+    → let l = c .before .before .before .before .before .loop in
+    let s = c .before .before .before .before .before .before .before .args in
     CountedBefore (s .named .now) (kinds (s .code .r) (s .code .m)) (l .i + 1) (l .count + c .wide .result)
 more c =
-    let l = c .before .before .before .before .loop in
-    let start = c .before .before .before .before .before in
+    let l = c .before .before .before .before .before .loop in
+    let start = c .before .before .before .before .before .before .before in
     let s = start .args in
     let r = s .code .r in
     let m = s .code .m in
@@ -62,7 +62,7 @@ loop-again : tie.Need-loop-again Inv-loop μ-loop
 loop-again c = more c
 
 returns : tie.Need-returns Inv-loop μ-loop
-returns c = counted-all _ _ (long (c .before .before)) (c .before .loop .i) (c .before .loop .count) (omega arith) (c .before .loop .inv)
+returns c = counted-all _ _ (long (c .before .before .before)) (c .before .loop .i) (c .before .loop .count) (omega arith) (c .before .loop .inv)
 
 pub count-left-spec : {M : Type 1} → statement M
 count-left-spec =

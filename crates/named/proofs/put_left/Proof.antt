@@ -25,7 +25,7 @@ shared-slice-read-kind-left : tie.Need-shared-slice-read-kind-left Inv-loop μ-l
 shared-slice-read-kind-left c = omega arith
 
 kind-requires : tie.Need-kind-requires Inv-loop μ-loop
-kind-requires c κs = let s = c .before .before .before in (s .pre .0, omega (arith, s .pre .1))
+kind-requires c κs = let s = c .before .before .before .before .before in (s .pre .0, omega (arith, s .pre .2))
 
 kind-left-requires : tie.Need-kind-left-requires Inv-loop μ-loop
 kind-left-requires c κs = tt
@@ -41,8 +41,8 @@ loop-less c = omega arith
 
 loop-again : tie.Need-loop-again Inv-loop μ-loop
 loop-again c =
-    let s = c .before .before .before .before .before in
-    let l = c .before .before .before .loop in
+    let s = c .before .before .before .before .before .before .before in
+    let l = c .before .before .before .before .loop in
     let d = s .args .row .now in
     let named = s .args .named .now in
     let r = s .args .code .r in
@@ -61,7 +61,7 @@ same-length c = c .before .loop .inv .2
 
 returns : tie.Need-returns Inv-loop μ-loop
 returns c =
-    let s = c .before .before .before in
+    let s = c .before .before .before .before in
     let l = c .before .loop in
     let d = s .args .row .now in
     let ks = kinds (s .args .code .r) (s .args .code .m) in
