@@ -24,7 +24,7 @@ use Rattle.code.specs.SoundInput.{GoodReadings, SoundFor}
 use Rattle.code.specs.Admitted.{admittedFor}
 use Rattle.code.specs.AdmittedLaws.{tested-made, refused-small-for, sound-allowed-for}
 use Rattle.code.specs.RefusalLaws.{carries-none}
-use Rattle.code.specs.Demand1.{View, refusedAs, Checks, passed, check}
+use Rattle.code.specs.Demand1.{View, refusedAs, Checks, passed, check, bitChecks, readingChecksFor}
 use Rattle.code.specs.Demand1Laws.{Decides, demand-1, decides-readings-for}
 use Rattle.named.specs.Named.{GoodRow, rowAdmitted}
 use Rattle.named.specs.NamedLaws.{left-frozen, bad-parameters, bad-row, sound-row, row-decided}
@@ -66,6 +66,11 @@ module _ (r m : ℕ) where
         | sound-row s g e ↦ ⊎-elim (λ x. absurd (sound-not s (x .0))) (λ x. inr (x .0, inr (λ bad. bad g, x .1))) (then s e)
       ]
 
+-- the checks after the first
+abbrev pub afterOne : Checks → Checks
+afterOne passed = passed
+afterOne (check why applies rest) = rest
+
 -- ---- Demand 1
 module _ (r m : ℕ) (named : List ℕ) where
   abbrev ks : List ℕ
@@ -76,7 +81,7 @@ module _ (r m : ℕ) (named : List ℕ) where
       let before = word ∷ [] in
       let o = encoders.view (encodingShortened r m named bits word) in
       demand-1 before o (encodeChecks r m named bits word)
-      (decides-row r m named before o _
+      (decides-row r m named before o (afterOne (bitChecks r m bits (sum ks) (length word) (2 ^ m) passed))
       (λ e. ap encoders.view (sym (encoding-refused r m named Parameters e bits word)))
       (λ e. ap encoders.view (sym (encoding-refused r m named Named e bits word)))
       (λ s e. rw (← encoding-left r m named (rm r m) e bits word)
@@ -87,7 +92,7 @@ module _ (r m : ℕ) (named : List ℕ) where
       let before = bits ∷ [] in
       let o = encoders.view (invertingShortened r m named word bits) in
       demand-1 before o (inverseChecks r m named word bits)
-      (decides-row r m named before o _
+      (decides-row r m named before o (afterOne (bitChecks r m word (2 ^ m) (length bits) (sum ks) (encoders.frozenCheck m ks word)))
       (λ e. ap encoders.view (sym (inverting-refused r m named Parameters e word bits)))
       (λ e. ap encoders.view (sym (inverting-refused r m named Named e word bits)))
       (λ s e. rw (← inverting-left r m named (rm r m) e word bits)
@@ -113,7 +118,7 @@ module _ (r m : ℕ) (named : List ℕ) where
         let before = bits ∷ word ∷ [] in
         let o = readers.view (quickShortened r m named l bits word) in
         demand-1 before o (quickChecks r m named l bits word)
-        (decides-row r m named before o _
+        (decides-row r m named before o (afterOne (readingChecksFor (sum ks) r m l (length bits) (length word) passed))
         (λ e. ap readers.view (sym (quick-refused r m named Parameters e l bits word)))
         (λ e. ap readers.view (sym (quick-refused r m named Named e l bits word)))
         (λ s e. rw (← quick-left r m named (rm r m) e l bits word)

@@ -1,10 +1,12 @@
 -- What the steps of the work ask of each other, once a row k came back as the kinds that are left.
 use mathlib.Core.Path.{_≡_, ap, ap₂, sym, _∙_}
 use mathlib.Core.List.{List}
-use Prim.Native.Nat.{ℕ, _^_, _≤_}
+use Prim.Native.Nat.{ℕ, _-_, _^_, _≤_}
 use native.Mathlib.Omega.{arith}
+use native.Mathlib.Nat.{sub-zero}
 use lib.IntN.{ℤ}
-use lib.ListN.{length}
+use lib.ListN.{length, take, replicate}
+use lib.Seq.{length-take-le}
 use Rattle.numbers.specs.Sums.{sum}
 use Rattle.words.specs.Bits.{Bits}
 use Rattle.words.specs.Word.{transform}
@@ -17,6 +19,8 @@ use Rattle.decoding.specs.Readings.{penalty}
 use Rattle.decoding.specs.Quick.{quickWord, quickBits, quickPenalty}
 use Rattle.decoding.specs.QuickLaws.{length-quick, bits-quick}
 use Rattle.code.specs.declared.Code.{Code}
+use Rattle.code.specs.Sound.{Sound}
+use Rattle.code.specs.SoundLaws.{length-most}
 use Rattle.code.specs.SoundInput.{GoodReadings}
 use Rattle.half.specs.Takeable.{Takeable}
 use Rattle.named.specs.NamedLaws.{length-left, bits-left}
@@ -35,6 +39,10 @@ long-left named c = length-left named _ ∙ length-kinds (c .r) (c .m)
 
 pub are-left : (named : List ℕ) (c : Code) → Bits (leftOf named c)
 are-left named c = bits-left named _ (bits-kinds (c .r) (c .m))
+
+-- n bytes of scratch
+pub zeros-lent : (c : Code) (n : ℕ) → Sound c → n ≡ 2 ^ c .m → length (take (n - 0) (replicate {A = ℕ} 256 0)) ≡ 2 ^ c .m
+zeros-lent c n s e = ap (λ (k : ℕ). length (take k (replicate {A = ℕ} 256 0))) (sub-zero n) ∙ length-take-le n (replicate {A = ℕ} 256 0) (omega (arith, length-most s)) ∙ e
 
 module _ (c : Code) (named k : List ℕ) (is : k ≡ leftOf named c) where
   -- ---- the encoder

@@ -140,13 +140,7 @@ fn take_back(
 }
 
 // The tests 2 to 4 of the quick reading, and its work.
-fn quick_left(
-    code: Code,
-    named: &[u8],
-    readings: &[i16],
-    bits: &mut [u8],
-    word: &mut [u8],
-) -> Read
+fn quick_left(code: Code, named: &[u8], readings: &[i16], bits: &mut [u8], word: &mut [u8]) -> Read
     requires { ⌜ Sound code × GoodRow (now named) (kinds (code .r) (code .m)) ⌝ }
     ensures { λ answer. ⌜ reader.told answer (now (bits .exit)) (now (word .exit))
         ≡ quickOver (leftOf (now (named .entry)) code) code (now (readings .entry))
