@@ -113,6 +113,7 @@ static void refusals_by_name(void) {
     cinorbis_numbers n;
     static const uint8_t singular[1] = {0}, row[1] = {0};
     named("a map that nothing undoes", cinorbis_undo_map(1, singular, 1, row, 1, bits, 1, word, 1, &n), 11, CINORBIS_MAP);
+    named("a frozen index named", cinorbis_encode_shortened(1, 2, no_word, 4, bits, 3, word, 4, &n), 12, CINORBIS_NAMED);
     for (int j = 0; j < 32; j++) readings[j] = -1;
     named("a telegram turned over", cinorbis_telegram_read(readings, 32, &telegram, &n), 13, CINORBIS_MARKER);
     named("a large tilt", cinorbis_telegram_write(0, 0, 1501, word, 32, &n), 14, CINORBIS_TILT);
