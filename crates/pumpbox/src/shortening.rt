@@ -105,7 +105,14 @@ pub extern "C" fn cinorbis_search_within_shortened(
         ≡ shownWhole (searchingShortened r m allowed (now (named .entry))
         (now (readings .entry)) (now (bits .entry)) (now (word .entry))) ⌝ }
 {
-    let answer =
-        shortened_search::search_within_shortened(r, m, allowed, named, readings, bits, word);
+    let answer = shortened_search::search_within_shortened(
+        r,
+        m,
+        allowed,
+        named,
+        readings,
+        bits,
+        word,
+    );
     put_whole(answer, runner_up, out)
 }
