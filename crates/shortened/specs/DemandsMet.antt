@@ -35,7 +35,8 @@ use Rattle.quick.specs.Outcome as reader
 use Rattle.quick.specs.Demands as readers
 use Rattle.shortened.specs.Outcome.{leftOf, readingOver, quickOver, encodingShortened, invertingShortened, quickShortened}
 use Rattle.shortened.specs.WorkLaws.{long-left, are-left}
-use Rattle.shortened.specs.OutcomeLaws.{encoding-refused, inverting-refused, quick-refused, encoding-left, inverting-left, quick-left, over-refused, over-done}
+use Rattle.shortened.specs.OutcomeLaws.{encoding-refused, inverting-refused, quick-refused, over-refused}
+use Rattle.shortened.specs.OutcomeLaws.{encoding-left, inverting-left, quick-left, over-done}
 use Rattle.shortened.specs.Demands.{encodeChecks, inverseChecks, quickChecks, EncodeDemand1, InverseDemand1, QuickDemand1, QuickDone}
 
 -- ---- the tests 1 and 12, before any others
@@ -105,7 +106,8 @@ module _ (r m : ℕ) (named : List ℕ) where
     tests-refuse s why e =
         let same = tested-made (λ c. sum ks) r m l (length bits) (length word) (rm r m) (made-good r m (s .m-small) (s .r-small)) in
         let small = refused-small-for (λ c. sum ks) r m l (length bits) (length word) why e in
-        let plain : readers.view (reader.refused why bits word) ≡ refusedAs why (bits ∷ word ∷ []) = rw (carries-none why (λ k. omega arith) (λ k. omega arith)) in
+        let plain : readers.view (reader.refused why bits word) ≡ refusedAs why (bits ∷ word ∷ []) =
+        rw (carries-none why (λ k. omega arith) (λ k. omega arith)) in
         ap readers.view (sym (over-refused ks (rm r m) l bits word why (e ∙ sym same))) ∙ plain
 
     sound-read : SoundFor (rm r m) (sum ks) (length bits) (length word) (GoodReadings (rm r m) l) → readingOver m ks l ≡ quickOver ks (rm r m) l bits word

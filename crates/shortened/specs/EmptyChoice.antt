@@ -21,7 +21,8 @@ use Rattle.encode.specs.OutcomeLaws.{tested-parameters}
 use Rattle.quick.specs.Outcome as reader
 use Rattle.quick.specs.OutcomeLaws.{reading-refused, reading-done}
 use Rattle.shortened.specs.Outcome.{encodingOver, invertingOver, readingOver, quickOver, encodingShortened, invertingShortened, quickShortened}
-use Rattle.shortened.specs.OutcomeLaws.{encoding-refused, inverting-refused, quick-refused, encoding-left, inverting-left, quick-left, over-refused, over-done}
+use Rattle.shortened.specs.OutcomeLaws.{encoding-refused, inverting-refused, quick-refused, over-refused}
+use Rattle.shortened.specs.OutcomeLaws.{encoding-left, inverting-left, quick-left, over-done}
 
 module _ (r m : ℕ) where
   -- ---- the plain calls
@@ -38,7 +39,8 @@ module _ (r m : ℕ) where
   plain-quick s l bits word =
       let good = made-good r m (s .m-small) (s .r-small) in
       let same : admittedBy (rm r m) (sum (kinds r m)) l (length bits) (length word) ≡ admitted r m l (length bits) (length word) =
-      ap (λ (k : ℕ). admittedBy (rm r m) k l (length bits) (length word)) (sum-kinds r m) ∙ tested-made dimensionOf r m l (length bits) (length word) (rm r m) good in
+      ap (λ (k : ℕ). admittedBy (rm r m) k l (length bits) (length word)) (sum-kinds r m)
+      ∙ tested-made dimensionOf r m l (length bits) (length word) (rm r m) good in
       elim (decided r m l (length bits) (length word)) [
         | allows c e is a ↦ sym (over-done (kinds r m) (rm r m) l bits word c (e ∙ sym same))
             ∙ ap (λ (d : Code). readingOver (d .m) (kinds r m) l) is

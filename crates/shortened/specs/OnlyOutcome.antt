@@ -1,5 +1,5 @@
 -- No second answer and no second contents of the lent buffers meet the promise of a call on a shortened set.
-use mathlib.Core.Path.{_≡_, ap, sym, _∙_}
+use mathlib.Core.Path.{_≡_, sym, _∙_}
 use mathlib.Core.List.{List}
 use Prim.Native.Nat.{ℕ, _^_, _<_}
 use native.Mathlib.Omega.{arith}
@@ -8,7 +8,6 @@ use lib.ListN.{length}
 use Rattle.numbers.specs.Sums.{sum}
 use Rattle.words.specs.Kinds.{encoded}
 use Rattle.words.specs.Inverse.{takenBack}
-use Rattle.code.specs.declared.Code.{Code}
 use Rattle.code.specs.declared.Refusal.the-variants.{Parameters, Named}
 use Rattle.code.specs.Sound.{Sound, rm}
 use Rattle.code.specs.SoundLaws.{made-good}
@@ -22,7 +21,8 @@ use Rattle.quick.specs.declared.Read.{Read}
 use Rattle.quick.specs.Outcome as reader
 use Rattle.quick.specs.OnlyOutcome as readers
 use Rattle.shortened.specs.Outcome.{leftOf, quickOver, encodingShortened, invertingShortened, quickShortened}
-use Rattle.shortened.specs.OutcomeLaws.{encoding-refused, inverting-refused, quick-refused, encoding-left, inverting-left, quick-left, over-refused, over-done}
+use Rattle.shortened.specs.OutcomeLaws.{encoding-refused, inverting-refused, quick-refused, over-refused}
+use Rattle.shortened.specs.OutcomeLaws.{encoding-left, inverting-left, quick-left, over-done}
 
 -- a number below 6, or 12
 abbrev Plain : ℕ → Type 0
@@ -37,8 +37,10 @@ module _ (r m : ℕ) (named : List ℕ) where
       elim (row-decided r m named) [
         | bad-parameters b e ↦ rw (← encoding-refused r m named Parameters e bits word) (small-plain (omega arith))
         | bad-row s b e ↦ rw (← encoding-refused r m named Named e bits word) (λ k. omega arith, λ k. omega arith)
-        | sound-row s g e ↦ rw (← encoding-left r m named (rm r m) e bits word)
-            (small-plain (tested-small r m bits (sum (leftOf named (rm r m))) word (2 ^ m) (encoder.done (encoded m (leftOf named (rm r m)) bits)) (omega arith)))
+        | sound-row s g e ↦
+            let ks = leftOf named (rm r m) in
+            rw (← encoding-left r m named (rm r m) e bits word)
+            (small-plain (tested-small r m bits (sum ks) word (2 ^ m) (encoder.done (encoded m ks bits)) (omega arith)))
       ]
 
   inverting-plain : (word bits : List ℕ) → Plain (invertingShortened r m named word bits .number)
@@ -75,8 +77,8 @@ module _ (r m : ℕ) (named : List ℕ) where
         let p = encoding-plain bits word in
         encoders.outcome-only (encodingShortened r m named bits word) (p .0) (p .1) a b x y
 
-    pub inverse-only : (word bits : List ℕ) → encoder.told a x ≡ invertingShortened r m named word bits → encoder.told b y ≡ invertingShortened r m named word bits
-        → (a ≡ b) × (x ≡ y)
+    pub inverse-only : (word bits : List ℕ) → encoder.told a x ≡ invertingShortened r m named word bits
+        → encoder.told b y ≡ invertingShortened r m named word bits → (a ≡ b) × (x ≡ y)
     inverse-only word bits =
         let p = inverting-plain word bits in
         encoders.outcome-only (invertingShortened r m named word bits) (p .0) (p .1) a b x y

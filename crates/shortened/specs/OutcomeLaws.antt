@@ -54,7 +54,8 @@ allowed-over c due l k n s d e =
     (a .0, subst (λ (x : Code). SoundFor x due k n (GoodReadings x l)) (a .0) (a .1))
 
 module _ (ks : List ℕ) (c : Code) (l : List ℤ) (bits word : List ℕ) where
-  pub over-refused : (why : Refusal) → Refused why ≡ admittedBy c (sum ks) l (length bits) (length word) → reader.refused why bits word ≡ quickOver ks c l bits word
+  pub over-refused : (why : Refusal) → Refused why ≡ admittedBy c (sum ks) l (length bits) (length word)
+      → reader.refused why bits word ≡ quickOver ks c l bits word
   over-refused why e = rw (← e)
 
   pub over-done : (d : Code) → Allowed d ≡ admittedBy c (sum ks) l (length bits) (length word) → readingOver (d .m) ks l ≡ quickOver ks c l bits word

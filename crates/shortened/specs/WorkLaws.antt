@@ -42,7 +42,8 @@ are-left named c = bits-left named _ (bits-kinds (c .r) (c .m))
 
 -- n bytes of scratch
 pub zeros-lent : (c : Code) (n : ℕ) → Sound c → n ≡ 2 ^ c .m → length (take (n - 0) (replicate {A = ℕ} 256 0)) ≡ 2 ^ c .m
-zeros-lent c n s e = ap (λ (k : ℕ). length (take k (replicate {A = ℕ} 256 0))) (sub-zero n) ∙ length-take-le n (replicate {A = ℕ} 256 0) (omega (arith, length-most s)) ∙ e
+zeros-lent c n s e =
+    ap (λ (k : ℕ). length (take k (replicate {A = ℕ} 256 0))) (sub-zero n) ∙ length-take-le n (replicate {A = ℕ} 256 0) (omega (arith, length-most s)) ∙ e
 
 module _ (c : Code) (named k : List ℕ) (is : k ≡ leftOf named c) where
   -- ---- the encoder

@@ -1,7 +1,7 @@
 -- The demands on the search over a shortened set: 1 with its checks, 2 and 3 over the smaller set of words. That they are met is proved in DemandsMet.
 use mathlib.Core.Path.{_≡_}
 use mathlib.Core.List.{List, [], _∷_}
-use Prim.Native.Nat.{ℕ, _≤_}
+use Prim.Native.Nat.{ℕ}
 use lib.IntN.{ℤ}
 use lib.ListN.{length, replicate}
 use Rattle.numbers.specs.Sums.{sum}

@@ -110,7 +110,8 @@ module _ (r m allowed : ℕ) (named : List ℕ) (l : List ℤ) (bits word : List
                         (runner-up-shown m ks l long (long-left named (rm r m)) (are-left named (rm r m)) (g .leaves) allowed bits word
                         (ap (λ (w : WholeOutcome). w .outcome .number) is-left ∙ n));
                     refused = λ n. ap (λ (w : WholeOutcome). w .runnerUp) (sym is-left)
-                        ∙ rw (ne-eqb (byAnswer allowed bits word (answer m ks l allowed) .number) 0 (λ z. n (ap (λ (w : WholeOutcome). w .outcome .number) (sym is-left) ∙ z)));
+                        ∙ rw (ne-eqb (byAnswer allowed bits word (answer m ks l allowed) .number) 0
+                        (λ z. n (ap (λ (w : WholeOutcome). w .outcome .number) (sym is-left) ∙ z)));
                   }
             ]
       ]

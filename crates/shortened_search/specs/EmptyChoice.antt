@@ -26,7 +26,8 @@ module _ (r m allowed : ℕ) (l : List ℤ) (bits word : List ℕ) where
   plain-searching s =
       let good = made-good r m (s .m-small) (s .r-small) in
       let same : admittedBy (rm r m) (sum (kinds r m)) l (length bits) (length word) ≡ admitted r m l (length bits) (length word) =
-      ap (λ (k : ℕ). admittedBy (rm r m) k l (length bits) (length word)) (sum-kinds r m) ∙ tested-made dimensionOf r m l (length bits) (length word) (rm r m) good in
+      ap (λ (k : ℕ). admittedBy (rm r m) k l (length bits) (length word)) (sum-kinds r m)
+      ∙ tested-made dimensionOf r m l (length bits) (length word) (rm r m) good in
       elim (decided r m l (length bits) (length word)) [
         | allows c e is a ↦ sym (over-answered (kinds r m) (rm r m) allowed l bits word c (e ∙ sym same))
             ∙ ap (λ (d : Code). wholeBy (d .m) (kinds r m) l allowed bits word) is

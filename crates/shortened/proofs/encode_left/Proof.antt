@@ -26,19 +26,28 @@ count-left-requires : tie.Need-count-left-requires
 count-left-requires c κs = let start = c .before .before .before in (start .pre .0, long-named start)
 
 returns : tie.Need-returns
-returns c = tested-input _ _ _ _ _ _ _ (good (c .before .before .before .before .before)) (c .before .count-left .ensures) (c .if1 .taken)
+returns c =
+    let c5 = c .before .before .before .before .before in
+    tested-input _ _ _ _ _ _ _ (good c5) (c .before .count-left .ensures) (c .if1 .taken)
 
 length-requires : tie.Need-length-requires
 length-requires c κs = search needs
 
 returns-2 : tie.Need-returns-2
-returns-2 c = tested-output _ _ _ _ _ _ _ (good (c .before .before .before .before .before .before .before)) (c .before .before .before .count-left .ensures) (c .before .before .if1 .left) (c .before .length .ensures) (c .if2 .taken)
+returns-2 c =
+    let c7 = c .before .before .before .before .before .before .before in
+    tested-output _ _ _ _ _ _ _ (good c7) (c .before .before .before .count-left .ensures) (c .before .before .if1 .left)
+    (c .before .length .ensures) (c .if2 .taken)
 
 first-bad-bit-requires : tie.Need-first-bad-bit-requires
 first-bad-bit-requires c κs = search needs
 
 returns-3 : tie.Need-returns-3
-returns-3 c = tested-entry _ _ _ _ _ _ _ (good (c .before .before .before .before .before .before .before .before .before)) (c .before .before .before .before .before .count-left .ensures) (c .before .before .before .before .if1 .left) (c .before .before .before .length .ensures) (c .before .before .if2 .left)
+returns-3 c =
+    let c4 = c .before .before .before .before in
+    let c5 = c4 .before in
+    let c9 = c5 .before .before .before .before in
+    tested-entry _ _ _ _ _ _ _ (good c9) (c5 .count-left .ensures) (c4 .if1 .left) (c .before .before .before .length .ensures) (c .before .before .if2 .left)
     (c .before .first-bad-bit .ensures) (c .if3 .taken)
 
 sub-put-word : tie.Need-sub-put-word
@@ -48,19 +57,26 @@ part-kinds-start : tie.Need-part-kinds-start
 part-kinds-start c = search needs
 
 part-kinds-end : tie.Need-part-kinds-end
-part-kinds-end c = omega (arith, length-most (c .before .before .before .before .before .before .before .before .before .pre .0), c .before .before .before .length .ensures)
+part-kinds-end c =
+    let c9 = c .before .before .before .before .before .before .before .before .before in
+    omega (arith, length-most (c9 .pre .0), c .before .before .before .length .ensures)
 
 put-word-requires : tie.Need-put-word-requires
-put-word-requires c κs = let start = c .before .before .before .before .before .before .before .before .before .before .before in
+put-word-requires c κs =
+    let c4 = c .before .before .before .before in
+    let c5 = c4 .before in
+    let c6 = c5 .before in
+    let c7 = c6 .before in
+    let start = c7 .before .before .before .before in
     let s = start .args in
-    let n = c .before .before .before .before .before .length .ensures in
+    let n = c5 .length .ensures in
     record {
       long-named = long-named start;
       long-kinds = zeros-lent (s .code) _ (start .pre .0) n;
       input = record {
         sound = start .pre .0;
-        long-bits = c .before .before .before .before .before .before .if1 .left ∙ c .before .before .before .before .before .before .before .count-left .ensures;
-        long-word = c .before .before .before .before .if2 .left ∙ n;
+        long-bits = c6 .if1 .left ∙ c7 .count-left .ensures;
+        long-word = c4 .if2 .left ∙ n;
         entries = good-bits (s .bits .now) (rw (c .before .before .before .first-bad-bit .ensures) at (c .before .before .if3 .left));
       };
     }
@@ -69,9 +85,17 @@ same-length : tie.Need-same-length
 same-length c = search needs
 
 returns-4 : tie.Need-returns-4
-returns-4 c = ap done (c .before .before .before .put-word .ensures)
-    ∙ tested-all _ _ _ _ _ _ _ (good (c .before .before .before .before .before .before .before .before .before .before .before .before .before .before .before)) (c .before .before .before .before .before .before .before .before .before .before .before .count-left .ensures) (c .before .before .before .before .before .before .before .before .before .before .if1 .left) (c .before .before .before .before .before .before .before .before .before .length .ensures) (c .before .before .before .before .before .before .before .before .if2 .left)
-    (c .before .before .before .before .before .before .before .first-bad-bit .ensures) (c .before .before .before .before .before .before .if3 .left)
+returns-4 c =
+    let c6 = c .before .before .before .before .before .before in
+    let c7 = c6 .before in
+    let c8 = c7 .before in
+    let c9 = c8 .before in
+    let c10 = c9 .before in
+    let c11 = c10 .before in
+    let c15 = c11 .before .before .before .before in
+    ap done (c .before .before .before .put-word .ensures)
+    ∙ tested-all _ _ _ _ _ _ _ (good c15) (c11 .count-left .ensures) (c10 .if1 .left) (c9 .length .ensures) (c8 .if2 .left)
+    (c7 .first-bad-bit .ensures) (c6 .if3 .left)
 
 pub encode-left-spec : {M : Type 1} → statement M
 encode-left-spec =

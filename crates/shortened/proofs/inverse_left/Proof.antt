@@ -25,19 +25,30 @@ length-requires : tie.Need-length-requires
 length-requires c κs = search needs
 
 returns : tie.Need-returns
-returns c = tested-input _ _ _ _ _ _ _ (good (c .before .before .before .before .before)) (c .before .length .ensures) (c .if1 .taken)
+returns c =
+    let c5 = c .before .before .before .before .before in
+    tested-input _ _ _ _ _ _ _ (good c5) (c .before .length .ensures) (c .if1 .taken)
 
 count-left-requires : tie.Need-count-left-requires
-count-left-requires c κs = let start = c .before .before .before .before .before in (start .pre .0, long-named start)
+count-left-requires c κs =
+    let c5 = c .before .before .before .before .before in
+    let start = c5 in (start .pre .0, long-named start)
 
 returns-2 : tie.Need-returns-2
-returns-2 c = tested-output _ _ _ _ _ _ _ (good (c .before .before .before .before .before .before .before)) (c .before .before .before .length .ensures) (c .before .before .if1 .left) (c .before .count-left .ensures) (c .if2 .taken)
+returns-2 c =
+    let c7 = c .before .before .before .before .before .before .before in
+    tested-output _ _ _ _ _ _ _ (good c7) (c .before .before .before .length .ensures) (c .before .before .if1 .left)
+    (c .before .count-left .ensures) (c .if2 .taken)
 
 first-bad-bit-requires : tie.Need-first-bad-bit-requires
 first-bad-bit-requires c κs = search needs
 
 returns-3 : tie.Need-returns-3
-returns-3 c = tested-entry _ _ _ _ _ _ _ (good (c .before .before .before .before .before .before .before .before .before)) (c .before .before .before .before .before .length .ensures) (c .before .before .before .before .if1 .left) (c .before .before .before .count-left .ensures) (c .before .before .if2 .left)
+returns-3 c =
+    let c4 = c .before .before .before .before in
+    let c5 = c4 .before in
+    let c9 = c5 .before .before .before .before in
+    tested-entry _ _ _ _ _ _ _ (good c9) (c5 .length .ensures) (c4 .if1 .left) (c .before .before .before .count-left .ensures) (c .before .before .if2 .left)
     (c .before .first-bad-bit .ensures) (c .if3 .taken)
 
 sub-take-back : tie.Need-sub-take-back
@@ -47,7 +58,10 @@ part-kinds-start : tie.Need-part-kinds-start
 part-kinds-start c = search needs
 
 part-kinds-end : tie.Need-part-kinds-end
-part-kinds-end c = omega (arith, length-most (c .before .before .before .before .before .before .before .before .before .pre .0), c .before .before .before .before .before .length .ensures)
+part-kinds-end c =
+    let c5 = c .before .before .before .before .before in
+    let c9 = c5 .before .before .before .before in
+    omega (arith, length-most (c9 .pre .0), c5 .length .ensures)
 
 sub-take-back-2 : tie.Need-sub-take-back-2
 sub-take-back-2 c = search needs
@@ -56,21 +70,30 @@ part-row-start : tie.Need-part-row-start
 part-row-start c = search needs
 
 part-row-end : tie.Need-part-row-end
-part-row-end c = omega (arith, length-most (c .before .before .before .before .before .before .before .before .before .before .pre .0), c .before .before .before .before .before .before .length .ensures)
+part-row-end c =
+    let c6 = c .before .before .before .before .before .before in
+    let c10 = c6 .before .before .before .before in
+    omega (arith, length-most (c10 .pre .0), c6 .length .ensures)
 
 take-back-requires : tie.Need-take-back-requires
-take-back-requires c κs = let start = c .before .before .before .before .before .before .before .before .before .before .before .before in
+take-back-requires c κs =
+    let c4 = c .before .before .before .before in
+    let c5 = c4 .before in
+    let c6 = c5 .before in
+    let c7 = c6 .before in
+    let c8 = c7 .before in
+    let start = c8 .before .before .before .before in
     let s = start .args in
-    let n = c .before .before .before .before .before .before .before .before .length .ensures in
+    let n = c8 .length .ensures in
     let room = zeros-lent (s .code) _ (start .pre .0) n in (
       record {
         long-named = long-named start;
         long-kinds = room;
         input = record {
           sound = start .pre .0;
-          long-bits = c .before .before .before .before .before .if2 .left ∙ c .before .before .before .before .before .before .count-left .ensures;
-          long-word = c .before .before .before .before .before .before .before .if1 .left ∙ n;
-          entries = good-bits (s .word .now) (rw (c .before .before .before .before .first-bad-bit .ensures) at (c .before .before .before .if3 .left));
+          long-bits = c5 .if2 .left ∙ c6 .count-left .ensures;
+          long-word = c7 .if1 .left ∙ n;
+          entries = good-bits (s .word .now) (rw (c4 .first-bad-bit .ensures) at (c .before .before .before .if3 .left));
         };
       },
       room,
@@ -80,9 +103,18 @@ same-length : tie.Need-same-length
 same-length c = search needs
 
 returns-4 : tie.Need-returns-4
-returns-4 c = c .before .before .before .before .take-back .ensures
-    ∙ tested-all _ _ _ _ _ _ _ (good (c .before .before .before .before .before .before .before .before .before .before .before .before .before .before .before .before .before)) (c .before .before .before .before .before .before .before .before .before .before .before .before .before .length .ensures) (c .before .before .before .before .before .before .before .before .before .before .before .before .if1 .left) (c .before .before .before .before .before .before .before .before .before .before .before .count-left .ensures) (c .before .before .before .before .before .before .before .before .before .before .if2 .left)
-    (c .before .before .before .before .before .before .before .before .before .first-bad-bit .ensures) (c .before .before .before .before .before .before .before .before .if3 .left)
+returns-4 c =
+    let c4 = c .before .before .before .before in
+    let c8 = c4 .before .before .before .before in
+    let c9 = c8 .before in
+    let c10 = c9 .before in
+    let c11 = c10 .before in
+    let c12 = c11 .before in
+    let c13 = c12 .before in
+    let c17 = c13 .before .before .before .before in
+    c4 .take-back .ensures
+    ∙ tested-all _ _ _ _ _ _ _ (good c17) (c13 .length .ensures) (c12 .if1 .left) (c11 .count-left .ensures) (c10 .if2 .left)
+    (c9 .first-bad-bit .ensures) (c8 .if3 .left)
 
 pub inverse-left-spec : {M : Type 1} → statement M
 inverse-left-spec =

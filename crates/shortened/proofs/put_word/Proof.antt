@@ -13,19 +13,24 @@ put-left-requires : tie.Need-put-left-requires
 put-left-requires c κs = search needs
 
 fill-requires : tie.Need-fill-requires
-fill-requires c κs = let start = c .before .before .before .before .before .before .before .before .before .before in
+fill-requires c κs =
+    let c4 = c .before .before .before .before in
+    let start = c4 .before .before .before .before .before .before in
     let s = start .args in
-    let put = c .before .before .before .before .put-left in
+    let put = c4 .put-left in
     fill-asked (s .code) (s .named .now) (put .last .1 .1 .0) (put .ensures) (s .kinds .now) (s .bits .now) (s .word .now) (start .pre)
 
 cast-transform : tie.Need-cast-transform
 cast-transform c = search needs
 
 transform-requires : tie.Need-transform-requires
-transform-requires c κs = let start = c .before .before .before .before .before .before .before .before .before .before .before .before .before .before .before in
+transform-requires c κs =
+    let c4 = c .before .before .before .before in
+    let c9 = c4 .before .before .before .before .before in
+    let start = c9 .before .before .before .before .before .before in
     let s = start .args in
-    let put = c .before .before .before .before .before .before .before .before .before .put-left in
-    let filled = c .before .before .before .before .fill in
+    let put = c9 .put-left in
+    let filled = c4 .fill in
     transform-asked (s .code) (s .named .now) (put .last .1 .1 .0) (put .ensures) (s .kinds .now) (s .bits .now) (s .word .now) (start .pre)
     (filled .last .1 .1 .0) (filled .ensures)
 
@@ -36,9 +41,13 @@ same-length-2 : tie.Need-same-length-2
 same-length-2 c = search needs
 
 returns : tie.Need-returns
-returns c = let s = c .before .before .before .before .before .before .before .before .before .before .before .before .before .before .before .before .before .before .args in
+returns c =
+    let c7 = c .before .before .before .before .before .before .before in
+    let c12 = c7 .before .before .before .before .before in
+    let c18 = c12 .before .before .before .before .before .before in
+    let s = c18 .args in
     c .before .before .transform .ensures
-    ∙ ap (transform (s .code .m)) (c .before .before .before .before .before .before .before .fill .ensures ∙ ap (λ (ks : List ℕ). fill ks (s .bits .now)) (c .before .before .before .before .before .before .before .before .before .before .before .before .put-left .ensures))
+    ∙ ap (transform (s .code .m)) (c7 .fill .ensures ∙ ap (λ (ks : List ℕ). fill ks (s .bits .now)) (c12 .put-left .ensures))
 
 pub put-word-spec : {M : Type 1} → statement M
 put-word-spec =

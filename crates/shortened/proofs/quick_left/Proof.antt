@@ -40,17 +40,23 @@ part-kinds-start : tie.Need-part-kinds-start
 part-kinds-start c = search needs
 
 part-kinds-end : tie.Need-part-kinds-end
-part-kinds-end c = omega (arith, length-most (c .before .before .before .before .before .before .before .before .pre .0), c .length .ensures)
+part-kinds-end c =
+    let c8 = c .before .before .before .before .before .before .before .before in
+    omega (arith, length-most (c8 .pre .0), c .length .ensures)
 
 take-reading-requires : tie.Need-take-reading-requires
-take-reading-requires c κs = let start = c .before .before .before .before .before .before .before .before .before .before .before in
+take-reading-requires c κs =
+    let c4 = c .before .before .before .before in
+    let c6 = c4 .before .before in
+    let c7 = c6 .before in
+    let start = c7 .before .before .before .before in
     let s = start .args in
-    let told = c .before .before .before .before .enum-told .given in
-    let counted = c .before .before .before .before .before .before .before .count-left .ensures in
+    let told = c4 .enum-told .given in
+    let counted = c7 .count-left .ensures in
     let ks = leftOf (s .named .now) (s .code) in
     let k = length (s .bits .now) in
     let n = length (s .word .now) in
-    let is = sym (told .1) ∙ c .before .before .before .before .before .before .admit-for .ensures ∙ ap (λ (due : ℕ). admittedBy (s .code) due (s .readings .now) k n) counted in
+    let is = sym (told .1) ∙ c6 .admit-for .ensures ∙ ap (λ (due : ℕ). admittedBy (s .code) due (s .readings .now) k n) counted in
     record {
       long-named = long-named start;
       long-kinds = zeros-lent (s .code) _ (start .pre .0) (c .before .before .before .length .ensures);
@@ -58,12 +64,15 @@ take-reading-requires c κs = let start = c .before .before .before .before .bef
     }
 
 returns : tie.Need-returns
-returns c = let s = c .before .before .before .before .before .before .before .before .args in
+returns c =
+    let c4 = c .before .before .before .before in
+    let c8 = c4 .before .before .before .before in
+    let s = c8 .args in
     let why = c .before .why .given in
     let ks = leftOf (s .named .now) (s .code) in
     over-refused ks (s .code) (s .readings .now) (s .bits .now) (s .word .now) (why .0 .0)
     (sym (why .1) ∙ c .before .before .before .admit-for .ensures
-    ∙ ap (λ (due : ℕ). admittedBy (s .code) due (s .readings .now) (length (s .bits .now)) (length (s .word .now))) (c .before .before .before .before .count-left .ensures))
+    ∙ ap (λ (due : ℕ). admittedBy (s .code) due (s .readings .now) (length (s .bits .now)) (length (s .word .now))) (c4 .count-left .ensures))
 
 same-length : tie.Need-same-length
 same-length c = search needs
@@ -72,15 +81,20 @@ same-length-2 : tie.Need-same-length-2
 same-length-2 c = search needs
 
 returns-2 : tie.Need-returns-2
-returns-2 c = let start = c .before .before .before .before .before .before .before .before .before .before .before .before .before .before .before .before .before in
+returns-2 c =
+    let c5 = c .before .before .before .before .before in
+    let c10 = c5 .before .before .before .before .before in
+    let c12 = c10 .before .before in
+    let c13 = c12 .before in
+    let start = c13 .before .before .before .before in
     let s = start .args in
-    let told = c .before .before .before .before .before .before .before .before .before .before .enum-told .given in
+    let told = c10 .enum-told .given in
     let ks = leftOf (s .named .now) (s .code) in
     let k = length (s .bits .now) in
     let n = length (s .word .now) in
-    let is = sym (told .1) ∙ c .before .before .before .before .before .before .before .before .before .before .before .before .admit-for .ensures ∙ ap (λ (due : ℕ). admittedBy (s .code) due (s .readings .now) k n) (c .before .before .before .before .before .before .before .before .before .before .before .before .before .count-left .ensures) in
+    let is = sym (told .1) ∙ c12 .admit-for .ensures ∙ ap (λ (due : ℕ). admittedBy (s .code) due (s .readings .now) k n) (c13 .count-left .ensures) in
     let same = allowed-over (s .code) (sum ks) (s .readings .now) k n (start .pre .0) (told .0 .0) is .0 in
-    c .before .before .before .before .before .take-reading .ensures ∙ ap (λ (d : Code). readingOver (d .m) ks (s .readings .now)) (sym same)
+    c5 .take-reading .ensures ∙ ap (λ (d : Code). readingOver (d .m) ks (s .readings .now)) (sym same)
     ∙ over-done ks (s .code) (s .readings .now) (s .bits .now) (s .word .now) (told .0 .0) is
 
 pub quick-left-spec : {M : Type 1} → statement M

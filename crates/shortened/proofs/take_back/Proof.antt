@@ -14,11 +14,15 @@ put-row-requires : tie.Need-put-row-requires
 put-row-requires c κs = search needs
 
 take-row-requires : tie.Need-take-row-requires
-take-row-requires c κs = let start = c .before .before .before .before .before .before .before .before .before .before .before .before .before .before .before .before .before in
+take-row-requires c κs =
+    let c5 = c .before .before .before .before .before in
+    let c10 = c5 .before .before .before .before .before in
+    let start = c10 .before .before .before .before .before .before .before in
     let s = start .args in
-    let put = c .before .before .before .before .before .before .before .before .before .before .put-left in
-    let row = c .before .before .before .before .before .put-row in
-    take-asked (s .code) (s .named .now) (put .last .1 .1 .0) (put .ensures) (s .word .now) (row .last .1 .0) (row .ensures) (s .kinds .now) (s .bits .now) (start .pre .0)
+    let put = c10 .put-left in
+    let row = c5 .put-row in
+    take-asked (s .code) (s .named .now) (put .last .1 .1 .0) (put .ensures) (s .word .now) (row .last .1 .0) (row .ensures) (s .kinds .now) (s .bits .now)
+    (start .pre .0)
 
 same-length : tie.Need-same-length
 same-length c = search needs
@@ -30,11 +34,15 @@ same-length-3 : tie.Need-same-length-3
 same-length-3 c = search needs
 
 returns : tie.Need-returns
-returns c = let start = c .before .before .before .before .before .before .before .before .before .before .before .before .before .before .before .before .before .before .before .before in
+returns c =
+    let c8 = c .before .before .before .before .before .before .before .before in
+    let c13 = c8 .before .before .before .before .before in
+    let start = c13 .before .before .before .before .before .before .before in
     let s = start .args in
-    let put = c .before .before .before .before .before .before .before .before .before .before .before .before .before .put-left in
-    let row = c .before .before .before .before .before .before .before .before .put-row in
-    taken-word (s .code) (s .named .now) (put .last .1 .1 .0) (put .ensures) (s .word .now) (row .last .1 .0) (row .ensures) (s .kinds .now) (s .bits .now) (start .pre .0)
+    let put = c13 .put-left in
+    let row = c8 .put-row in
+    taken-word (s .code) (s .named .now) (put .last .1 .1 .0) (put .ensures) (s .word .now) (row .last .1 .0) (row .ensures) (s .kinds .now) (s .bits .now)
+    (start .pre .0)
     _ (c .before .before .take-row .ensures)
 
 pub take-back-spec : {M : Type 1} → statement M

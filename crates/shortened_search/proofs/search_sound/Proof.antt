@@ -24,12 +24,19 @@ part-kinds-start : tie.Need-part-kinds-start
 part-kinds-start c = search needs
 
 part-kinds-end : tie.Need-part-kinds-end
-part-kinds-end c = omega (arith, length-most (c .before .before .before .before .pre .1 .sound), c .length .ensures)
+part-kinds-end c =
+    let c4 = c .before .before .before .before in
+    omega (arith, length-most (c4 .pre .1 .sound), c .length .ensures)
 
 put-left-requires : tie.Need-put-left-requires
-put-left-requires c κs = let start = c .before .before .before .before .before in
-    let s = start .args in
-    (start .pre .1 .sound, start .pre .0 .long ∙ length-kinds (s .code .r) (s .code .m), zeros-lent (s .code) _ (start .pre .1 .sound) (c .before .length .ensures))
+put-left-requires c κs =
+    let start = c .before .before .before .before .before in
+    let s = start .args in (
+      start .pre .1 .sound,
+      start .pre .0 .long ∙ length-kinds (s .code .r) (s .code .m),
+      zeros-lent (s .code) _ (start .pre .1 .sound)
+          (c .before .length .ensures),
+    )
 
 sub-copy-readings : tie.Need-sub-copy-readings
 sub-copy-readings c = search needs
@@ -38,16 +45,21 @@ part-own-start : tie.Need-part-own-start
 part-own-start c = search needs
 
 part-own-end : tie.Need-part-own-end
-part-own-end c = omega (arith, length-most (c .before .before .before .before .before .before .before .pre .1 .sound), c .before .before .before .length .ensures)
+part-own-end c =
+    let c7 = c .before .before .before .before .before .before .before in
+    omega (arith, length-most (c7 .pre .1 .sound), c .before .before .before .length .ensures)
 
 copy-readings-requires : tie.Need-copy-readings-requires
 copy-readings-requires c κs = search needs
 
 search-kinds-requires : tie.Need-search-kinds-requires
-search-kinds-requires c κs = let start = c .before .before .before .before .before .before .before .before .before .before .before .before .before .before in
+search-kinds-requires c κs =
+    let c5 = c .before .before .before .before .before in
+    let c8 = c5 .before .before .before in
+    let start = c8 .before .before .before .before .before .before in
     let s = start .args in
-    let put = c .before .before .before .before .before .before .before .before .put-left in
-    let copied = c .before .before .before .before .before .copy-readings in
+    let put = c8 .put-left in
+    let copied = c5 .copy-readings in
     let n = 2 ^ s .code .m in
     left-searchable (s .code) (s .named .now) _ (s .readings .now) _ (s .bits .now) (s .word .now)
     (front-is (put .last .1 .1 .0) _ (leftOf (s .named .now) (s .code)) n (put .ensures) (long-left (s .named .now) (s .code)))
@@ -60,12 +72,16 @@ same-length-2 : tie.Need-same-length-2
 same-length-2 c = search needs
 
 returns : tie.Need-returns
-returns c = let start = c .before .before .before .before .before .before .before .before .before .before .before .before .before .before .before .before .before .before .before in
+returns c =
+    let c4 = c .before .before .before .before in
+    let c10 = c4 .before .before .before .before .before .before in
+    let c13 = c10 .before .before .before in
+    let start = c13 .before .before .before .before .before .before in
     let s = start .args in
-    let put = c .before .before .before .before .before .before .before .before .before .before .before .before .before .put-left in
-    let copied = c .before .before .before .before .before .before .before .before .before .before .copy-readings in
+    let put = c13 .put-left in
+    let copied = c10 .copy-readings in
     let m = s .code .m in
-    c .before .before .before .before .search-kinds .ensures
+    c4 .search-kinds .ensures
     ∙ ap₂ (λ (ks : List ℕ) (x : List ℤ). wholeBy m ks x (s .allowed) (s .bits .now) (s .word .now))
     (front-is (put .last .1 .1 .0) _ (leftOf (s .named .now) (s .code)) (2 ^ m) (put .ensures) (long-left (s .named .now) (s .code)))
     (front-is (copied .last .1 .0) _ (s .readings .now) (2 ^ m) (copied .ensures) (start .pre .1 .entries .long))
