@@ -192,8 +192,8 @@ static void random_rows(int r, int m) {
     uint8_t named[256], bits[256], word[256];
     int16_t l[256];
     begin("RM(%d,%d), random rows", r, m);
-    for (int t = 0; t < 12; t++) {
-        int share = t < 4 ? 10 : t < 8 ? 50 : 95;
+    for (int t = 0; t < (m > 5 ? 6 : 12); t++) {
+        int share = t % 3 == 0 ? 10 : t % 3 == 1 ? 50 : 95;
         do {
             ref_named = NULL;
             for (int i = 0; i < 1 << m; i++) named[i] = (uint8_t)(ref_is_information(r, m, i) && random_below(100) < share);
@@ -205,12 +205,14 @@ static void random_rows(int r, int m) {
             word[j] = (uint8_t)random_below(2);
         }
         coded(r, m, named, bits, word);
+        /* the walk by its text is slow for long words */
+        uint32_t allowed = k <= 12 ? UINT32_MAX : m > 6 ? 200 : 1000;
         near_word(r, m, l);
         read_quickly(r, m, named, l);
-        searched(r, m, k <= 12 ? UINT32_MAX : 2000, named, l, k <= 12 && m <= 6);
+        searched(r, m, allowed, named, l, k <= 12);
         some_readings(m, 100, l);
         read_quickly(r, m, named, l);
-        searched(r, m, k <= 12 ? UINT32_MAX : 2000, named, l, k <= 9 && m <= 6);
+        searched(r, m, m > 6 ? 200 : allowed, named, l, k <= 12 && m <= 6);
     }
     ref_named = NULL;
     end();
