@@ -13,7 +13,7 @@ static int16_t readings[256];
 static uint8_t bits[256], word[256], runner_up[256], record[CINORBIS_LARGEST_RECORD];
 static cinorbis_telegram shown;
 static cinorbis_written written;
-static uint8_t table[64], row[8];
+static uint8_t table[64], row[8], named[256];
 static int16_t moved[256];
 static cinorbis_numbers numbers;
 static volatile uint32_t refusal;
@@ -94,6 +94,28 @@ static void *inverse(void *a) {
     return a;
 }
 
+/* the same with the last index named */
+static void *encode_shortened(void *a) {
+    memset(bits, 1, sizeof bits);
+    refusal = cinorbis_encode_shortened(4, 8, named, 256, bits, 162, word, 256, &numbers);
+    return a;
+}
+
+static void *inverse_shortened(void *a) {
+    refusal = cinorbis_inverse_shortened(4, 8, named, 256, word, 256, bits, 162, &numbers);
+    return a;
+}
+
+static void *quick_shortened(void *a) {
+    refusal = cinorbis_quick_shortened(4, 8, named, 256, readings, 256, bits, 162, word, 256, &numbers);
+    return a;
+}
+
+static void *search_shortened(void *a) {
+    refusal = cinorbis_search_shortened(8, 8, named, 256, readings, 256, bits, 255, word, 256, runner_up, &numbers);
+    return a;
+}
+
 static size_t used(void *(*call)(void *)) {
     pthread_attr_t attributes;
     pthread_t thread;
@@ -130,6 +152,11 @@ int main(void) {
     bounded("inverse", inverse, 0, 800);
     bounded("quick reading", quick, 0, 2600);
     bounded("search", search, 0, 45000);
+    named[255] = 1;
+    bounded("encode, shortened", encode_shortened, 0, 1000);
+    bounded("inverse, shortened", inverse_shortened, 0, 1200);
+    bounded("quick reading, shortened", quick_shortened, 0, 3000);
+    bounded("search, shortened", search_shortened, CINORBIS_OUT_OF_VISITS, 46000);
     bounded("search of a record", search_record, 0, 46000);
     bounded("early answer", early, 0, 46000);
     /* two words of RM(1,8) share the least penalty */

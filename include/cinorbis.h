@@ -33,7 +33,7 @@ extern "C" {
 #endif
 
 /* Raised when a call is added or changed. */
-#define CINORBIS_VERSION 13
+#define CINORBIS_VERSION 14
 
 #define CINORBIS_LARGEST_M 8u
 /* A reading is from -32767 to 32767: of the 16-bit numbers only -32768 is none, and is refused as 4. */
@@ -67,6 +67,7 @@ enum cinorbis_refusal {
     CINORBIS_TORN = 8,          /* record: it ends before its last byte */
     CINORBIS_PAD = 9,           /* record: a pad bit is 1 */
     CINORBIS_MAP = 11,          /* maps of positions: a byte of a table or row is above 1, or no map undoes the map */
+    CINORBIS_NAMED = 12,        /* shortened sets: the row is not n bytes of 0 and 1, names a frozen index, or leaves no information index */
     CINORBIS_MARKER = 13,       /* telegram: its marker is set, as when the link is turned over */
     CINORBIS_TILT = 14,         /* telegram: the tilt is above 1500 */
     CINORBIS_ZERO_TILT = 15,    /* telegram: a tilt of zero with direction 1 */
@@ -87,6 +88,7 @@ static inline const char *cinorbis_refusal_text(uint32_t refusal) {
     case CINORBIS_TORN: return "the record ends before its last byte";
     case CINORBIS_PAD: return "a pad bit of the record is 1";
     case CINORBIS_MAP: return "no map of positions: a byte is above 1, or nothing undoes it";
+    case CINORBIS_NAMED: return "the row names no part of the information indices";
     case CINORBIS_MARKER: return "the telegram's marker is set: the link is turned over";
     case CINORBIS_TILT: return "the telegram's tilt is above 15.00 degrees";
     case CINORBIS_ZERO_TILT: return "the telegram has a direction and no tilt";
@@ -180,6 +182,38 @@ CINORBIS_CALL uint32_t cinorbis_early_within(uint32_t r, uint32_t m, uint32_t al
  * the whole tree, but visits are always 0, and there is no runner-up. Refuses 1 (also for r other than 1, and m = 0), 2, 3, 4, then 7; never 6. Promise: first_order::first_order. */
 CINORBIS_CALL uint32_t cinorbis_first_order(uint32_t r, uint32_t m, const int16_t *readings, size_t readings_length, uint8_t *bits,
                                             size_t bits_length, uint8_t *word, size_t word_length, cinorbis_numbers *numbers);
+
+/* ---- Shortened sets (§15)
+ *
+ * A row of n bytes names information indices that are to be 0 as well: 1 where named, 0 where not. These calls do what the plain ones do with a named
+ * index frozen: k counts the indices that are left, and the inverse gives 5 at a named index that is 1. A row of n zero bytes names none, and all is as
+ * without it. The row is refused as 12, after 1 and before 2. Where the last index, n - 1, is named, the all-ones word is not in the set: a link that is
+ * turned over is then seen as distance, as a large penalty or a tie, and not as a word. */
+
+/* In: the row, and the information bits that are left. Out: word, n bits. Refuses 1, 12, 2, 3, 4. Promise: shortened::encode_shortened. */
+CINORBIS_CALL uint32_t cinorbis_encode_shortened(uint32_t r, uint32_t m, const uint8_t *named, size_t named_length, const uint8_t *bits,
+                                                 size_t bits_length, uint8_t *word, size_t word_length, cinorbis_numbers *numbers);
+
+/* In: the row, and a word of n bits. Out: its information bits. Refuses 1, 12, 2, 3, 4, 5. Promise: shortened::inverse_shortened. */
+CINORBIS_CALL uint32_t cinorbis_inverse_shortened(uint32_t r, uint32_t m, const uint8_t *named, size_t named_length, const uint8_t *word,
+                                                  size_t word_length, uint8_t *bits, size_t bits_length, cinorbis_numbers *numbers);
+
+/* The quick reading in the smaller set. In: the row, and n readings. Out as cinorbis_quick. Refuses 1, 12, 2, 3, 4.
+ * Promise: shortened::quick_shortened. */
+CINORBIS_CALL uint32_t cinorbis_quick_shortened(uint32_t r, uint32_t m, const uint8_t *named, size_t named_length, const int16_t *readings,
+                                                size_t readings_length, uint8_t *bits, size_t bits_length, uint8_t *word, size_t word_length,
+                                                cinorbis_numbers *numbers);
+
+/* The search for the best word of the smaller set with the default allowance. In: the row, and n readings. Out as cinorbis_search. Refuses 1, 12, 2, 3,
+ * 4, then 6 or 7. Promise: shortened_search::search_shortened. */
+CINORBIS_CALL uint32_t cinorbis_search_shortened(uint32_t r, uint32_t m, const uint8_t *named, size_t named_length, const int16_t *readings,
+                                                 size_t readings_length, uint8_t *bits, size_t bits_length, uint8_t *word, size_t word_length,
+                                                 uint8_t runner_up[256], cinorbis_numbers *numbers);
+
+/* The same with an allowance of visits, any number. Promise: shortened_search::search_within_shortened. */
+CINORBIS_CALL uint32_t cinorbis_search_within_shortened(uint32_t r, uint32_t m, uint32_t allowed, const uint8_t *named, size_t named_length,
+                                                        const int16_t *readings, size_t readings_length, uint8_t *bits, size_t bits_length,
+                                                        uint8_t *word, size_t word_length, uint8_t runner_up[256], cinorbis_numbers *numbers);
 
 /* ---- Packed records (§7). A packed -2048, the bottom rail, is read as -2047. */
 

@@ -34,8 +34,8 @@ static void largest_reading(void) {
 /* every call on plain readings refuses the same ones, at their place; the writer of records those that 12 bits do not hold */
 static void readings_of_every_call(void) {
     static const int values[] = {INT16_MIN, -32767, -32766, -2049, -2048, -2047, -1, 1, 2047, 2048, 2049, 32766, 32767};
-    static const uint8_t row[5] = {0}, table[25] = {[0] = 1, [6] = 1, [12] = 1, [18] = 1, [24] = 1};
-    cinorbis_numbers n[6];
+    static const uint8_t row[5] = {0}, table[25] = {[0] = 1, [6] = 1, [12] = 1, [18] = 1, [24] = 1}, none[32];
+    cinorbis_numbers n[8];
     cinorbis_telegram telegram;
     cinorbis_written written;
     begin("the same readings in every call");
@@ -46,12 +46,14 @@ static void readings_of_every_call(void) {
             int size = values[v] < 0 ? -values[v] : values[v];
             for (int j = 0; j < 32; j++) l[j] = (int16_t)random_between(-CINORBIS_LARGEST_RECORD_READING, CINORBIS_LARGEST_RECORD_READING);
             l[at] = (int16_t)values[v];
-            uint32_t given[6] = {
+            uint32_t given[8] = {
                 cinorbis_search(1, 5, l, 32, bits, 6, word, 32, runner_up, &n[0]), cinorbis_quick(1, 5, l, 32, bits, 6, word, 32, &n[1]),
-                cinorbis_early(1, 5, l, 32, bits, 6, word, 32, &n[2]),             cinorbis_first_order(1, 5, l, 32, bits, 6, word, 32, &n[3]),
-                cinorbis_reorder(5, table, 25, row, 5, l, 32, out, 32, &n[4]),     cinorbis_telegram_read(l, 32, &telegram, &n[5]),
+                cinorbis_early(1, 5, l, 32, bits, 6, word, 32, &n[2]),         cinorbis_first_order(1, 5, l, 32, bits, 6, word, 32, &n[3]),
+                cinorbis_reorder(5, table, 25, row, 5, l, 32, out, 32, &n[4]), cinorbis_telegram_read(l, 32, &telegram, &n[5]),
+                cinorbis_quick_shortened(1, 5, none, 32, l, 32, bits, 6, word, 32, &n[6]),
+                cinorbis_search_shortened(1, 5, none, 32, l, 32, bits, 6, word, 32, runner_up, &n[7]),
             };
-            for (int c = 0; c < 6; c++)
+            for (int c = 0; c < 8; c++)
                 CHECK(size > CINORBIS_LARGEST_READING ? given[c] == CINORBIS_ENTRY && n[c].place == at : given[c] != CINORBIS_ENTRY,
                       "call %d, %d at %zu: %u", c, values[v], at, given[c]);
             if (given[4] == CINORBIS_DONE) CHECK(memcmp(l, out, sizeof l) == 0, "%d is reordered to another number", values[v]);
@@ -114,6 +116,7 @@ static void refusals_by_name(void) {
     cinorbis_numbers n;
     static const uint8_t singular[1] = {0}, row[1] = {0};
     named("a map that nothing undoes", cinorbis_undo_map(1, singular, 1, row, 1, bits, 1, word, 1, &n), 11, CINORBIS_MAP);
+    named("a frozen index named", cinorbis_encode_shortened(1, 2, no_word, 4, bits, 3, word, 4, &n), 12, CINORBIS_NAMED);
     for (int j = 0; j < 32; j++) readings[j] = -1;
     named("a telegram turned over", cinorbis_telegram_read(readings, 32, &telegram, &n), 13, CINORBIS_MARKER);
     named("a large tilt", cinorbis_telegram_write(0, 0, 1501, word, 32, &n), 14, CINORBIS_TILT);

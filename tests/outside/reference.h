@@ -14,7 +14,12 @@ static inline int ref_ones(unsigned i) {
     return c;
 }
 
-static inline int ref_is_information(int r, int m, int i) { return ref_ones((unsigned)i) >= m - r; }
+/* a row of n bytes that names information indices which are to be 0 as well, where it is not null: all below then speaks of the smaller set */
+static const uint8_t *ref_named;
+
+static inline int ref_is_information(int r, int m, int i) {
+    return ref_ones((unsigned)i) >= m - r && !(ref_named && ref_named[i]);
+}
 
 static inline int ref_k(int r, int m) {
     int k = 0;

@@ -5,7 +5,6 @@ use Prim.Native.Nat.{ℕ, _^_}
 use lib.IntN.{ℤ}
 use lib.ListN.{length}
 use lib.Dec.{ltb, eqb}
-use Rattle.words.specs.Kinds.{dimension}
 use Rattle.code.specs.declared.Code.{Code}
 use Rattle.code.specs.declared.Made.{Made}
 use Rattle.code.specs.declared.Made.the-variants.{Good, Bad}
@@ -13,20 +12,25 @@ use Rattle.code.specs.declared.Refusal.the-variants.{Parameters, InputLe
 use Rattle.code.specs.declared.Admitted.{Admitted}
 use Rattle.code.specs.declared.Admitted.the-variants.{Allowed, Refused}
 use Rattle.code.specs.Sound.{made, largestReading}
+use Rattle.code.specs.SoundInput.{dimensionOf}
 use Rattle.code.specs.Entries.{firstBadReading}
 
 abbrev pub ifMade : Made → (Code → Admitted) → Admitted
 ifMade (Good c) f = f c
 ifMade Bad f = Refused Parameters
 
--- of a code: readings l, and outputs of k and n bits
-abbrev pub admittedBy : Code → List ℤ → ℕ → ℕ → Admitted
-admittedBy c l k n =
+-- tests 2 to 4 of a code, where so many information bits are due: readings l, and outputs of k and n bits
+abbrev pub admittedBy : Code → ℕ → List ℤ → ℕ → ℕ → Admitted
+admittedBy c due l k n =
     let place = firstBadReading largestReading l in
     cond (not (eqb (length l) (2 ^ c .m))) (Refused InputLength)
-    (cond (not (eqb k (dimension (c .r) (c .m)))) (Refused OutputLength)
+    (cond (not (eqb k due)) (Refused OutputLength)
     (cond (not (eqb n (2 ^ c .m))) (Refused OutputLength)
     (cond (ltb place (length l)) (Refused (Entry place)) (Allowed c))))
 
-unfoldable pub admitted : ℕ → ℕ → List ℤ → ℕ → ℕ → Admitted
-admitted r m l k n = ifMade (made r m) (λ c. admittedBy c l k n)
+unfoldable pub admittedFor : (Code → ℕ) → ℕ → ℕ → List ℤ → ℕ → ℕ → Admitted
+admittedFor due r m l k n = ifMade (made r m) (λ c. admittedBy c (due c) l k n)
+
+-- the k information bits of RM(r,m)
+abbrev pub admitted : ℕ → ℕ → List ℤ → ℕ → ℕ → Admitted
+admitted r m l k n = admittedFor dimensionOf r m l k n

@@ -66,9 +66,12 @@ firstChecks d size limit r m l due outputs rest =
     (check OutputLength (outputs → ⊥)
     (check (Entry place) (LowestBad d size limit l place) rest)))
 
--- of readings, and the lengths of the lent outputs for the information bits and the word
+-- of readings, and the lengths of the lent outputs for the information bits, of which so many are due, and the word
+abbrev pub readingChecksFor : ℕ → ℕ → ℕ → List ℤ → ℕ → ℕ → Checks → Checks
+readingChecksFor due r m l bits word = firstChecks (pos 0) natAbs largestReading r m l (2 ^ m) ((bits ≡ due) × (word ≡ 2 ^ m))
+
 abbrev pub readingChecks : ℕ → ℕ → List ℤ → ℕ → ℕ → Checks → Checks
-readingChecks r m l bits word = firstChecks (pos 0) natAbs largestReading r m l (2 ^ m) ((bits ≡ dimension r m) × (word ≡ 2 ^ m))
+readingChecks r m = readingChecksFor (dimension r m) r m
 
 -- of bits, an output of this length, and the lengths that they should have
 abbrev pub bitChecks : ℕ → ℕ → List ℕ → ℕ → ℕ → ℕ → Checks → Checks

@@ -10,20 +10,20 @@ use lib.IntN.{ℤ, pos, natAbs}
 use lib.ListN.{length, getD}
 use borrow.Author.Tests.{lt-ltb, le-ltb}
 use Rattle.numbers.specs.Choice.{lt-or-le}
-use Rattle.words.specs.Kinds.{dimension}
-use Rattle.code.specs.declared.Made.the-variants.{Good, Bad}
+use Rattle.code.specs.declared.Code.{Code}
+use Rattle.code.specs.declared.Made.the-variants.{Bad}
 use Rattle.code.specs.declared.Refusal.{Refusal}
 use Rattle.code.specs.declared.Refusal.the-variants.{Parameters, InputLength, OutputLength, Entry}
 use Rattle.code.specs.declared.Admitted.the-variants.{Refused}
 use Rattle.code.specs.Sound.{Sound, largestM, largestReading, made, numberOf, rm}
-use Rattle.code.specs.SoundInput.{SoundReadings}
+use Rattle.code.specs.SoundInput.{dimensionOf, GoodReadings, SoundFor, SoundReadings}
 use Rattle.code.specs.SoundLaws.{made-large, made-crossed, made-good}
 use Rattle.code.specs.RefusalLaws.{number-above}
 use Rattle.code.specs.Entries.{firstAbove, firstBadReading}
 use Rattle.code.specs.EntriesLaws.{good-readings}
-use Rattle.code.specs.Admitted.{admitted}
-use Rattle.code.specs.AdmittedLaws.{refused-parameters, refused-input, refused-bits, refused-word, refused-entry}
-use Rattle.code.specs.Demand1.{View, refusedAs, Checks, passed, check, First, NoneApplies, Demand1, LowestBad, firstChecks, readingChecks}
+use Rattle.code.specs.Admitted.{admittedFor, admitted}
+use Rattle.code.specs.AdmittedLaws.{refused-parameters, tested-made, refused-input, refused-bits, refused-word, refused-entry}
+use Rattle.code.specs.Demand1.{View, refusedAs, Checks, passed, check, First, NoneApplies, Demand1, LowestBad, firstChecks, readingChecksFor, readingChecks}
 
 module _ (before : List (List ℕ)) (o : View) where
   -- the first check that applies refuses; where none does, nothing is refused
@@ -137,7 +137,7 @@ module _ {A : Type 0} (d : A) (size : A → ℕ) (limit : ℕ) where
       (lt-or-le largestM m)
 
 -- of readings, by the tests that `quick` and the search share
-module _ (r m : ℕ) (l : List ℤ) (k n : ℕ) where
+module _ (due : Code → ℕ) (r m : ℕ) (l : List ℤ) (k n : ℕ) where
   both-long : (b : ℕ) → ((k ≡ b) × (n ≡ 2 ^ m)) ⊎ ((k ≡ b) × (n ≡ 2 ^ m) → ⊥)
   both-long b =
       elim (ℕ-discrete k b) [
@@ -148,21 +148,24 @@ module _ (r m : ℕ) (l : List ℤ) (k n : ℕ) where
         ]
       ]
 
-  pub decides-readings : (before : List (List ℕ)) (o : View) (rest : Checks)
-      → ((why : Refusal) → Refused why ≡ admitted r m l k n → o ≡ refusedAs why before) → (SoundReadings (rm r m) l k n → Decides before o rest)
-      → Decides before o (readingChecks r m l k n rest)
-  decides-readings before o rest by then =
-      let good : Sound (rm r m) → made r m ≡ Good (rm r m) = λ s. made-good r m (s .m-small) (s .r-small) in
-      decides-first (pos 0) natAbs largestReading r m l (2 ^ m) ((k ≡ dimension r m) × (n ≡ 2 ^ m)) before o rest
+  pub decides-readings-for : (before : List (List ℕ)) (o : View) (rest : Checks)
+      → ((why : Refusal) → Refused why ≡ admittedFor due r m l k n → o ≡ refusedAs why before)
+      → (SoundFor (rm r m) (due (rm r m)) k n (GoodReadings (rm r m) l) → Decides before o rest)
+      → Decides before o (readingChecksFor (due (rm r m)) r m l k n rest)
+  decides-readings-for before o rest by then =
+      let c = rm r m in
+      let b = due c in
+      let after : Sound c → _ = λ s. tested-made due r m l k n c (made-good r m (s .m-small) (s .r-small)) in
+      decides-first (pos 0) natAbs largestReading r m l (2 ^ m) ((k ≡ b) × (n ≡ 2 ^ m)) before o rest
       (record {
-        decidable = both-long (dimension r m);
-        one = λ e. by Parameters (refused-parameters r m l k n e);
-        two = λ s e. by InputLength (refused-input r m l k n (rm r m) (good s) e);
-        three = λ s e f. by OutputLength (elim (ℕ-discrete k (dimension r m)) [
-          | no b ↦ refused-bits r m l k n (rm r m) (good s) e b
-          | yes b ↦ refused-word r m l k n (rm r m) (good s) e b (λ w. f (b, w))
+        decidable = both-long b;
+        one = λ e. by Parameters (refused-parameters due r m l k n e);
+        two = λ s e. by InputLength (refused-input c b l k n e ∙ after s);
+        three = λ s e f. by OutputLength (elim (ℕ-discrete k b) [
+          | no g ↦ refused-bits c b l k n e g ∙ after s
+          | yes g ↦ refused-word c b l k n e g (λ w. f (g, w)) ∙ after s
         ]);
-        four = λ s e out h. by (Entry (firstBadReading largestReading l)) (refused-entry r m l k n (rm r m) (good s) e (out .0) (out .1) h);
+        four = λ s e out h. by (Entry (firstBadReading largestReading l)) (refused-entry c b l k n e (out .0) (out .1) h ∙ after s);
         else = λ s e out h. then (record {
           sound = s;
           long-bits = out .0;
@@ -170,3 +173,8 @@ module _ (r m : ℕ) (l : List ℤ) (k n : ℕ) where
           entries = record { long = e; within = good-readings largestReading l h };
         });
       })
+
+pub decides-readings : (r m : ℕ) (l : List ℤ) (k n : ℕ) (before : List (List ℕ)) (o : View) (rest : Checks)
+    → ((why : Refusal) → Refused why ≡ admitted r m l k n → o ≡ refusedAs why before) → (SoundReadings (rm r m) l k n → Decides before o rest)
+    → Decides before o (readingChecks r m l k n rest)
+decides-readings = decides-readings-for dimensionOf

@@ -5,7 +5,7 @@ use Prim.Native.Nat.{ℕ, _<_}
 use native.Mathlib.Omega.{arith}
 use lib.Dec.{eqb}
 use Rattle.code.specs.declared.Refusal.{Refusal}
-use Rattle.code.specs.declared.Refusal.the-variants.{Parameters, InputLength, OutputLength, Entry, NotAWord, OutOfVisits, Tied, Torn, Pad, Map}
+use Rattle.code.specs.declared.Refusal.the-variants.{Parameters, InputLength, OutputLength, Entry, NotAWord, OutOfVisits, Tied, Torn, Pad, Map, Named}
 use Rattle.code.specs.Sound.{Carried, carrying, carried, numberOf}
 
 -- the refusal of a number that carries these values
@@ -19,7 +19,8 @@ refusalOf c =
     (cond (eqb (c .number) 6) (OutOfVisits (c .visits))
     (cond (eqb (c .number) 7) (Tied (c .penalty) (c .visits))
     (cond (eqb (c .number) 8) Torn
-    (cond (eqb (c .number) 9) Pad Map))))))))
+    (cond (eqb (c .number) 9) Pad
+    (cond (eqb (c .number) 11) Map Named)))))))))
 
 refusal-is : (why : Refusal) → refusalOf (carried why) ≡ why
 refusal-is Parameters = refl
@@ -32,6 +33,7 @@ refusal-is (Tied penalty visits) = refl
 refusal-is Torn = refl
 refusal-is Pad = refl
 refusal-is Map = refl
+refusal-is Named = refl
 
 pub refusal-only : (why why′ : Refusal) → carried why ≡ carried why′ → why ≡ why′
 refusal-only why why′ e = sym (refusal-is why) ∙ ap refusalOf e ∙ refusal-is why′
@@ -48,6 +50,7 @@ number-above (Tied penalty visits) = omega arith
 number-above Torn = omega arith
 number-above Pad = omega arith
 number-above Map = omega arith
+number-above Named = omega arith
 
 -- no penalty and no visits but under 6 and 7
 pub carries-none : (why : Refusal) → (numberOf why ≡ 6 → ⊥) → (numberOf why ≡ 7 → ⊥) → carried why ≡ carrying (numberOf why) (carried why .place) 0 0
@@ -61,3 +64,4 @@ carries-none (Tied penalty visits) f g = absurd (g refl)
 carries-none Torn f g = refl
 carries-none Pad f g = refl
 carries-none Map f g = refl
+carries-none Named f g = refl

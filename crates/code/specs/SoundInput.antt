@@ -8,12 +8,19 @@ use Rattle.words.specs.Kinds.{dimension}
 use Rattle.code.specs.declared.Code.{Code}
 use Rattle.code.specs.Sound.{Sound, largestReading}
 
--- rows of these lengths for the information bits and the word, and the entries that are given are good ones
-pub record SoundInput (c : Code) (bits word : ℕ) (good : Type 0) : Type 0 where
+-- rows of these lengths for the information bits, of which so many are due, and for the word; and the entries that are given are good ones
+pub record SoundFor (c : Code) (due bits word : ℕ) (good : Type 0) : Type 0 where
   pub sound : Sound c
-  pub long-bits : bits ≡ dimension (c .r) (c .m)
+  pub long-bits : bits ≡ due
   pub long-word : word ≡ 2 ^ c .m
   pub entries : good
+
+-- k
+abbrev pub dimensionOf : Code → ℕ
+dimensionOf c = dimension (c .r) (c .m)
+
+abbrev pub SoundInput : Code → ℕ → ℕ → Type 0 → Type 0
+SoundInput c bits word good = SoundFor c (dimensionOf c) bits word good
 
 -- n readings, none beyond the largest
 pub record GoodReadings (c : Code) (l : List ℤ) : Type 0 where

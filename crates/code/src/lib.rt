@@ -11,7 +11,7 @@ ghost use Rattle.words.specs.Kinds.{kind, kinds, dimension};
 ghost use Rattle.code.specs.Sound.{Sound, largestM, made, carried};
 ghost use Rattle.code.specs.Sound.{largestReading, largestRecordReading};
 ghost use Rattle.code.specs.Entries.{someBadBit, firstBadBit, someBadReading, firstBadReading};
-ghost use Rattle.code.specs.Admitted.{admitted};
+ghost use Rattle.code.specs.Admitted.{admittedBy, admitted};
 
 // The parameters of RM(r,m).
 pub struct Code {
@@ -40,6 +40,8 @@ pub enum Refusal {
     Pad,
     // a map of positions that is not of bits, or that nothing undoes
     Map,
+    // a row that does not name some of the information indices, but not all
+    Named,
 }
 
 // What the tests on readings leave.
@@ -225,11 +227,19 @@ pub fn admit(r: u32, m: u32, readings: &[i16], bits: usize, word: usize) -> Admi
     let Made::Good(code) = Code::new(r, m) else {
         return Admitted::Refused(Refusal::Parameters);
     };
+    admit_for(code, code.dimension(), readings, bits, word)
+}
+
+// The tests 2 to 4, where so many information bits are due.
+pub fn admit_for(code: Code, due: usize, readings: &[i16], bits: usize, word: usize) -> Admitted
+    requires { ⌜ Sound code ⌝ }
+    ensures { λ answer. ⌜ answer ≡ admittedBy code due (now (readings .entry)) bits word ⌝ }
+{
     let n = code.length();
     if readings.len() != n {
         return Admitted::Refused(Refusal::InputLength);
     }
-    if bits != code.dimension() {
+    if bits != due {
         return Admitted::Refused(Refusal::OutputLength);
     }
     if word != n {
@@ -261,6 +271,7 @@ impl Refusal {
             Refusal::Torn => 8,
             Refusal::Pad => 9,
             Refusal::Map => 11,
+            Refusal::Named => 12,
         }
     }
 
@@ -282,6 +293,7 @@ impl Refusal {
             Refusal::Torn => 0,
             Refusal::Pad => 0,
             Refusal::Map => 0,
+            Refusal::Named => 0,
         }
     }
 
@@ -300,6 +312,7 @@ impl Refusal {
             Refusal::Torn => 0,
             Refusal::Pad => 0,
             Refusal::Map => 0,
+            Refusal::Named => 0,
         }
     }
 
@@ -318,6 +331,7 @@ impl Refusal {
             Refusal::Torn => 0,
             Refusal::Pad => 0,
             Refusal::Map => 0,
+            Refusal::Named => 0,
         }
     }
 }

@@ -16,14 +16,14 @@ abbrev pub encodeChecks : ℕ → ℕ → List ℕ → List ℕ → Checks
 encodeChecks r m bits word = bitChecks r m bits (dimension r m) (length word) (2 ^ m) passed
 
 -- some frozen index of the row u that the word comes from is 1
-abbrev pub frozenCheck : ℕ → ℕ → List ℕ → Checks
-frozenCheck r m word =
+abbrev pub frozenCheck : ℕ → List ℕ → List ℕ → Checks
+frozenCheck m ks word =
     let u = transform m word in
-    let index = firstFrozenOne (kinds r m) u in
-    check (NotAWord index) (LowestFrozenOne (kinds r m) u index) passed
+    let index = firstFrozenOne ks u in
+    check (NotAWord index) (LowestFrozenOne ks u index) passed
 
 abbrev pub inverseChecks : ℕ → ℕ → List ℕ → List ℕ → Checks
-inverseChecks r m word bits = bitChecks r m word (2 ^ m) (length bits) (dimension r m) (frozenCheck r m word)
+inverseChecks r m word bits = bitChecks r m word (2 ^ m) (length bits) (dimension r m) (frozenCheck m (kinds r m) word)
 
 abbrev pub EncodeDemand1 : ℕ → ℕ → List ℕ → List ℕ → Type 0
 EncodeDemand1 r m bits word = Demand1 (encodeChecks r m bits word) (word ∷ []) (view (encoding r m bits word))

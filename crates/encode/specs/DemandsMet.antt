@@ -45,6 +45,19 @@ module _ (r m : ℕ) (input : List ℕ) (due : ℕ) (output : List ℕ) (room : 
         else = λ s i o h. rw (← tested-all r m input due output room rest (good s) refl i refl o refl h) (then i (good-bits input h));
       })
 
+-- the frozen indices, of any row of kinds
+pub decides-frozen : (m : ℕ) (ks : List ℕ) → length ks ≡ 2 ^ m → Bits ks → (word bits : List ℕ) → length word ≡ 2 ^ m → Bits word
+    → Decides (bits ∷ []) (view (takingBack (takenBack m ks word) bits)) (frozenCheck m ks word)
+unfolding takenBack
+decides-frozen m ks long-kinds kinds-are word bits long are =
+    let i = firstFrozenOne ks (transform m word) in
+    ⊎-elim
+    (λ h.
+    let is : takenBack m ks word ≡ frozenOne i = rw (lt-ltb i (length ks) h) in
+    inl (lowest-refused m ks word long-kinds kinds-are long are i is, rw (lt-ltb i (length ks) h)))
+    (λ h. inr (λ f. omega (arith, f .below), rw (le-ltb i (length ks) h) (refl, refl)))
+    (lt-or-le i (length ks))
+
 module _ (r m : ℕ) where
   pub encode-demand-1 : (bits word : List ℕ) → EncodeDemand1 r m bits word
   unfolding encoding
@@ -53,22 +66,9 @@ module _ (r m : ℕ) where
       demand-1 (word ∷ []) (view (encoding r m bits word)) (encodeChecks r m bits word)
       (decides-tested r m bits (dimension r m) word (2 ^ m) rest passed (λ long are. (refl, refl)))
 
-  decides-frozen : (word bits : List ℕ) → length word ≡ 2 ^ m → Bits word
-      → Decides (bits ∷ []) (view (takingBack (takenBack m (kinds r m) word) bits)) (frozenCheck r m word)
-  unfolding takenBack
-  decides-frozen word bits long are =
-      let ks = kinds r m in
-      let i = firstFrozenOne ks (transform m word) in
-      ⊎-elim
-      (λ h.
-      let is : takenBack m ks word ≡ frozenOne i = rw (lt-ltb i (length ks) h) in
-      inl (lowest-refused m ks word (length-kinds r m) (bits-kinds r m) long are i is, rw (lt-ltb i (length ks) h)))
-      (λ h. inr (λ f. omega (arith, f .below), rw (le-ltb i (length ks) h) (refl, refl)))
-      (lt-or-le i (length ks))
-
   pub inverse-demand-1 : (word bits : List ℕ) → InverseDemand1 r m word bits
   unfolding inverting
   inverse-demand-1 word bits =
       let rest = takingBack (takenBack m (kinds r m) word) bits in
       demand-1 (bits ∷ []) (view (inverting r m word bits)) (inverseChecks r m word bits)
-      (decides-tested r m word (2 ^ m) bits (dimension r m) rest (frozenCheck r m word) (decides-frozen word bits))
+      (decides-tested r m word (2 ^ m) bits (dimension r m) rest (frozenCheck m (kinds r m) word) (decides-frozen m (kinds r m) (length-kinds r m) (bits-kinds r m) word bits))

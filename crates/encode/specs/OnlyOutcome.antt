@@ -12,27 +12,35 @@ use Rattle.encode.specs.declared.Encoded.the-variants.{Done, Refused}
 use Rattle.encode.specs.Outcome.{Outcome, told, done, encoding, inverting, takingBack}
 use Rattle.encode.specs.OutcomeLaws.{tested-small}
 
--- two answers that tell the same, below number 6
-same-answer : (a b : Encoded) (x y : List ℕ) → told a x ≡ told b y → told a x .number < 6 → a ≡ b
-same-answer Done Done x y e h = refl
-same-answer Done (Refused why) x y e h = absurd (omega (arith, number-above why, ap (λ (o : Outcome). o .number) e))
-same-answer (Refused why) Done x y e h = absurd (omega (arith, number-above why, ap (λ (o : Outcome). o .number) e))
-same-answer (Refused why) (Refused why′) x y e h =
+-- two answers that tell the same, with a number that carries nothing but a place
+same-answer : (a b : Encoded) (x y : List ℕ) → told a x ≡ told b y → (told a x .number ≡ 6 → ⊥) → (told a x .number ≡ 7 → ⊥) → a ≡ b
+same-answer Done Done x y e f g = refl
+same-answer Done (Refused why) x y e f g = absurd (omega (arith, number-above why, ap (λ (o : Outcome). o .number) e))
+same-answer (Refused why) Done x y e f g = absurd (omega (arith, number-above why, ap (λ (o : Outcome). o .number) e))
+same-answer (Refused why) (Refused why′) x y e f g =
     let number = ap (λ (o : Outcome). o .number) e in
     let carry = ap (λ (o : Outcome). carrying (o .number) (o .place) 0 0) e in
-    ap Refused (refusal-only why why′ (carries-none why (λ k. omega arith) (λ k. omega arith) ∙ carry ∙ sym (carries-none why′ (λ k. omega arith) (λ k. omega arith))))
+    ap Refused (refusal-only why why′ (carries-none why f g ∙ carry ∙ sym (carries-none why′ (λ k. f (number ∙ k)) (λ k. g (number ∙ k)))))
 
 buffer-told : (a : Encoded) (x : List ℕ) → told a x .buffer ≡ x
 buffer-told Done x = refl
 buffer-told (Refused why) x = refl
 
-only : (o : Outcome) → o .number < 6 → (a b : Encoded) (x y : List ℕ) → told a x ≡ o → told b y ≡ o → (a ≡ b) × (x ≡ y)
-only o small a b x y e f =
+-- of any outcome that is none of the search's
+pub outcome-only : (o : Outcome) → (o .number ≡ 6 → ⊥) → (o .number ≡ 7 → ⊥)
+    → (a b : Encoded) (x y : List ℕ) → told a x ≡ o → told b y ≡ o → (a ≡ b) × (x ≡ y)
+outcome-only o six seven a b x y e f =
     let same = e ∙ sym f in
-    (same-answer a b x y same (rw e small), sym (buffer-told a x) ∙ ap (λ (p : Outcome). p .buffer) same ∙ buffer-told b y)
+    let is = ap (λ (p : Outcome). p .number) (sym e) in (
+      same-answer a b x y same (λ k. six (is ∙ k)) (λ k. seven (is ∙ k)),
+      sym (buffer-told a x) ∙ ap (λ (p : Outcome). p .buffer) same ∙ buffer-told b y,
+    )
+
+only : (o : Outcome) → o .number < 6 → (a b : Encoded) (x y : List ℕ) → told a x ≡ o → told b y ≡ o → (a ≡ b) × (x ≡ y)
+only o small = outcome-only o (λ k. omega arith) (λ k. omega arith)
 
 -- every outcome has such a number
-taking-small : (t : TakenBack) (bits : List ℕ) → takingBack t bits .number < 6
+pub taking-small : (t : TakenBack) (bits : List ℕ) → takingBack t bits .number < 6
 taking-small (taken b) bits = omega arith
 taking-small (frozenOne i) bits = omega arith
 

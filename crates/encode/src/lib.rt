@@ -100,7 +100,7 @@ fn take_back(code: Code, word: &[u8], bits: &mut [u8]) -> Encoded
 }
 
 // Nothing is written before every frozen index is seen to be 0.
-fn take_row(kinds: &[u8], row: &[u8], bits: &mut [u8]) -> Encoded
+pub fn take_row(kinds: &[u8], row: &[u8], bits: &mut [u8]) -> Encoded
     requires { ⌜ (length (now row) ≡ length (now kinds))
         × (length (now bits) ≡ sum (now kinds)) × Bits (now kinds) ⌝ }
     ensures { λ answer. ⌜ told answer (now (bits .exit))

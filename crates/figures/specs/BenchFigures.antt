@@ -17,7 +17,7 @@ use Rattle.decoding.specs.Answer.{answer}
 use Rattle.decoding.specs.Examples.{sample}
 use Rattle.code.specs.Sound.{made}
 use Rattle.code.specs.Entries.{firstAbove}
-use Rattle.code.specs.Admitted.{admitted}
+use Rattle.code.specs.Admitted.{admittedFor}
 use Rattle.encode.specs.Outcome.{tested, encoding, inverting}
 use Rattle.encode.specs.Outcome as Encode
 use Rattle.search.specs.Outcome.{searching}
@@ -68,7 +68,7 @@ pub record BenchFigures : Type 0 where
 
 pub bench-figures : BenchFigures
 unfolding kinds kind ones digit tabulate total sum dimension choose transform allBits penalty correlation penalties leastPenalty gap bestBits bestWord
-    least without next firstWith value walk walked tree answer firstFrozenOne takenBack made firstAbove admitted tested encoding inverting searching
+    least without next firstWith value walk walked tree answer firstFrozenOne takenBack made firstAbove admittedFor tested encoding inverting searching
 bench-figures =
     record {
       k-00 = refl;

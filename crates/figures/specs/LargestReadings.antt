@@ -14,7 +14,7 @@ use Rattle.decoding.specs.Walk.{value, walk, walked}
 use Rattle.decoding.specs.Answer.{answer}
 use Rattle.code.specs.Sound.{made}
 use Rattle.code.specs.Entries.{firstAbove}
-use Rattle.code.specs.Admitted.{admitted}
+use Rattle.code.specs.Admitted.{admittedFor}
 use Rattle.search.specs.Outcome.{searching}
 
 pub record LargestReadings : Type 0 where
@@ -25,5 +25,5 @@ pub record LargestReadings : Type 0 where
 
 pub largest-readings : LargestReadings
 unfolding kinds kind ones digit tabulate total sum dimension choose transform allBits penalty penalties leastPenalty gap bestBits bestWord
-    least without next firstWith value walk walked answer made firstAbove admitted searching
+    least without next firstWith value walk walked answer made firstAbove admittedFor searching
 largest-readings = record { most-taken = λ a b. refl; least-taken = λ a b. refl; below-refused = λ a b c. refl; below-place = λ a b c. refl }

@@ -16,7 +16,7 @@ use Rattle.decoding.specs.Answer.{answer}
 use Rattle.decoding.specs.Examples.{sample}
 use Rattle.code.specs.Sound.{made}
 use Rattle.code.specs.Entries.{firstAbove}
-use Rattle.code.specs.Admitted.{admitted}
+use Rattle.code.specs.Admitted.{admittedFor}
 use Rattle.search.specs.Outcome.{Outcome, searching}
 use Rattle.search.specs.RunnerUp.{WholeOutcome, runnerUp, searchingWhole}
 use Rattle.figures.specs.BenchFigures.{found, unfound}
@@ -41,7 +41,7 @@ pub record RunnerUpFigures : Type 0 where
 
 pub runner-up-figures : RunnerUpFigures
 unfolding kinds kind ones digit tabulate total sum dimension choose transform allBits penalty penalties leastPenalty gap bestBits bestWord
-    least without next firstWith value walk walked answer made firstAbove admitted searching runnerUp
+    least without next firstWith value walk walked answer made firstAbove admittedFor searching runnerUp
 runner-up-figures =
     record {
       doubtful-13 = λ a b c d e f g h i j k l. refl;

@@ -4,6 +4,7 @@ mod at_once;
 mod first;
 mod lengths;
 mod reordering;
+mod shortening;
 mod telegrams;
 mod unpacking;
 mod writing;

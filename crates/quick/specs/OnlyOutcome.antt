@@ -13,15 +13,15 @@ use Rattle.quick.specs.declared.Read.the-variants.{Done, Refused}
 use Rattle.quick.specs.Outcome.{Outcome, told, readingBy, quickReading}
 use Rattle.quick.specs.OutcomeLaws.{reading-refused, reading-done}
 
--- two answers that tell the same, below number 5
-same-answer : (a b : Read) (x y v w : List ℕ) → told a x y ≡ told b v w → told a x y .number < 5 → a ≡ b
-same-answer (Done p) (Done q) x y v w e h = ap (λ (o : Outcome). Done (o .penalty)) e
-same-answer (Done p) (Refused why) x y v w e h = absurd (omega (arith, number-above why, ap (λ (o : Outcome). o .number) e))
-same-answer (Refused why) (Done q) x y v w e h = absurd (omega (arith, number-above why, ap (λ (o : Outcome). o .number) e))
-same-answer (Refused why) (Refused why′) x y v w e h =
+-- two answers that tell the same, with a number that carries nothing but a place
+same-answer : (a b : Read) (x y v w : List ℕ) → told a x y ≡ told b v w → (told a x y .number ≡ 6 → ⊥) → (told a x y .number ≡ 7 → ⊥) → a ≡ b
+same-answer (Done p) (Done q) x y v w e f g = ap (λ (o : Outcome). Done (o .penalty)) e
+same-answer (Done p) (Refused why) x y v w e f g = absurd (omega (arith, number-above why, ap (λ (o : Outcome). o .number) e))
+same-answer (Refused why) (Done q) x y v w e f g = absurd (omega (arith, number-above why, ap (λ (o : Outcome). o .number) e))
+same-answer (Refused why) (Refused why′) x y v w e f g =
     let number = ap (λ (o : Outcome). o .number) e in
     let carry = ap (λ (o : Outcome). carrying (o .number) (o .place) 0 0) e in
-    ap Refused (refusal-only why why′ (carries-none why (λ k. omega arith) (λ k. omega arith) ∙ carry ∙ sym (carries-none why′ (λ k. omega arith) (λ k. omega arith))))
+    ap Refused (refusal-only why why′ (carries-none why f g ∙ carry ∙ sym (carries-none why′ (λ k. f (number ∙ k)) (λ k. g (number ∙ k)))))
 
 bits-told : (a : Read) (x y : List ℕ) → told a x y .bits ≡ x
 bits-told (Done penalty) x y = refl
@@ -30,6 +30,17 @@ bits-told (Refused why) x y = refl
 word-told : (a : Read) (x y : List ℕ) → told a x y .word ≡ y
 word-told (Done penalty) x y = refl
 word-told (Refused why) x y = refl
+
+-- of any outcome that is none of the search's
+pub outcome-only : (o : Outcome) → (o .number ≡ 6 → ⊥) → (o .number ≡ 7 → ⊥)
+    → (a b : Read) (x y v w : List ℕ) → told a x y ≡ o → told b v w ≡ o → (a ≡ b) × (x ≡ v) × (y ≡ w)
+outcome-only o six seven a b x y v w e f =
+    let same = e ∙ sym f in
+    let is = ap (λ (p : Outcome). p .number) (sym e) in (
+      same-answer a b x y v w same (λ k. six (is ∙ k)) (λ k. seven (is ∙ k)),
+      sym (bits-told a x y) ∙ ap (λ (p : Outcome). p .bits) same ∙ bits-told b v w,
+      sym (word-told a x y) ∙ ap (λ (p : Outcome). p .word) same ∙ word-told b v w,
+    )
 
 module _ (r m : ℕ) (l : List ℤ) (bits word : List ℕ) where
   number-small : quickReading r m l bits word .number < 5
@@ -41,9 +52,4 @@ module _ (r m : ℕ) (l : List ℤ) (bits word : List ℕ) where
 
   pub quick-only : (a b : Read) (x y v w : List ℕ) → told a x y ≡ quickReading r m l bits word → told b v w ≡ quickReading r m l bits word
       → (a ≡ b) × (x ≡ v) × (y ≡ w)
-  quick-only a b x y v w e f =
-      let same = e ∙ sym f in (
-        same-answer a b x y v w same (rw e number-small),
-        sym (bits-told a x y) ∙ ap (λ (o : Outcome). o .bits) same ∙ bits-told b v w,
-        sym (word-told a x y) ∙ ap (λ (o : Outcome). o .word) same ∙ word-told b v w,
-      )
+  quick-only = outcome-only (quickReading r m l bits word) (λ k. omega (arith, number-small)) (λ k. omega (arith, number-small))

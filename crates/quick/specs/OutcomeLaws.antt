@@ -18,7 +18,7 @@ use Rattle.code.specs.declared.Refusal.{Refusal}
 use Rattle.code.specs.declared.Admitted.the-variants.{Allowed, Refused}
 use Rattle.code.specs.SoundLaws.{length-most}
 use Rattle.code.specs.Admitted.{admitted}
-use Rattle.code.specs.SoundInput.{SoundReadings}
+use Rattle.code.specs.SoundInput.{GoodReadings, SoundFor, SoundReadings}
 use Rattle.half.specs.Takeable.{Takeable}
 use Rattle.quick.specs.RunningSums.{sums-most}
 use Rattle.quick.specs.Outcome.{Outcome, done, refused, readingBy, quickReading}
@@ -34,7 +34,7 @@ module _ (r m : ℕ) (l : List ℤ) (bits word : List ℕ) where
   reading-done c o e f = rw (← e) f
 
 -- the running sums of sound readings are small
-pub sums-small : {c : Code} {l : List ℤ} {k n : ℕ} → SoundReadings c l k n → sizes l < sumLimit
+pub sums-small : {c : Code} {l : List ℤ} {due k n : ℕ} → SoundFor c due k n (GoodReadings c l) → sizes l < sumLimit
 sums-small {l = l} a =
     omega (arith, sums-most l (omega (arith, a .entries .long, length-most (a .sound))) (a .entries .within))
 

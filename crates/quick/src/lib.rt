@@ -50,7 +50,7 @@ pub fn take_reading(code: Code, readings: &[i16], bits: &mut [u8], word: &mut [u
     penalty(readings, word)
 }
 
-fn penalty(readings: &[i16], word: &[u8]) -> u32
+pub fn penalty(readings: &[i16], word: &[u8]) -> u32
     requires { ⌜ (length (now word) ≡ length (now readings))
         × (sizes (now readings) < sumLimit) ⌝ }
     ensures { λ p. ⌜ p ≡ penalty (now (readings .entry)) (now (word .entry)) ⌝ }
@@ -146,7 +146,7 @@ fn second_half(rows: &mut [i32], kinds: &[u8], word: &mut [u8], m: usize)
 }
 
 // The word of 2^m readings. The running sums of all rows stand in one array.
-fn quick_word(readings: &[i16], kinds: &[u8], word: &mut [u8], m: usize)
+pub fn quick_word(readings: &[i16], kinds: &[u8], word: &mut [u8], m: usize)
     requires { ⌜ (m ≤ largestM) × Sized m (now kinds) (now word) (now readings) ⌝ }
     ensures { λ _. ⌜ now (word .exit)
         ≡ quickWord m (now (kinds .entry)) (now (readings .entry)) ⌝ }

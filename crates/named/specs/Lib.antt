@@ -1,0 +1,4 @@
+-- Definitions: a row that names information indices, the kinds that it leaves, and the tests 1 and 12
+pub mod Named
+-- Their laws
+pub mod NamedLaws

@@ -1,0 +1,58 @@
+-- The demands on calls over a shortened set. That they are met is proved in DemandsMet.
+use mathlib.Core.Path.{_≡_}
+use mathlib.Core.List.{List, [], _∷_}
+use Prim.Native.Nat.{ℕ, _^_, _≤_}
+use lib.IntN.{ℤ}
+use lib.ListN.{length}
+use Rattle.numbers.specs.Sums.{sum}
+use Rattle.words.specs.Kinds.{kinds, encoded, Word}
+use Rattle.decoding.specs.Readings.{penalty}
+use Rattle.decoding.specs.Best.{leastPenalty}
+use Rattle.code.specs.declared.Refusal.{Refusal}
+use Rattle.code.specs.declared.Refusal.the-variants.{Named}
+use Rattle.code.specs.Sound.{rm}
+use Rattle.code.specs.Demand1.{Checks, passed, check, bitChecks, readingChecksFor, Demand1}
+use Rattle.named.specs.Named.{GoodRow}
+use Rattle.encode.specs.Demands as encoder
+use Rattle.quick.specs.Outcome as reader
+use Rattle.quick.specs.Demands as quick
+use Rattle.shortened.specs.Outcome.{leftOf, encodingShortened, invertingShortened, quickShortened}
+
+-- ---- Demand 1: the plain calls' checks, with the numbers of information bits that are left, and 12 right after 1
+abbrev pub afterFirst : Refusal → Type 0 → Checks → Checks
+afterFirst why applies passed = check why applies passed
+afterFirst why applies (check first when rest) = check first when (check why applies rest)
+
+-- the row is no good one
+abbrev pub withRow : ℕ → ℕ → List ℕ → Checks → Checks
+withRow r m named = afterFirst Named (GoodRow named (kinds r m) → ⊥)
+
+abbrev pub encodeChecks : ℕ → ℕ → List ℕ → List ℕ → List ℕ → Checks
+encodeChecks r m named bits word = withRow r m named (bitChecks r m bits (sum (leftOf named (rm r m))) (length word) (2 ^ m) passed)
+
+abbrev pub inverseChecks : ℕ → ℕ → List ℕ → List ℕ → List ℕ → Checks
+inverseChecks r m named word bits =
+    let ks = leftOf named (rm r m) in
+    withRow r m named (bitChecks r m word (2 ^ m) (length bits) (sum ks) (encoder.frozenCheck m ks word))
+
+abbrev pub quickChecks : ℕ → ℕ → List ℕ → List ℤ → List ℕ → List ℕ → Checks
+quickChecks r m named l bits word = withRow r m named (readingChecksFor (sum (leftOf named (rm r m))) r m l (length bits) (length word) passed)
+
+abbrev pub EncodeDemand1 : ℕ → ℕ → List ℕ → List ℕ → List ℕ → Type 0
+EncodeDemand1 r m named bits word =
+    Demand1 (encodeChecks r m named bits word) (word ∷ []) (encoder.view (encodingShortened r m named bits word))
+
+abbrev pub InverseDemand1 : ℕ → ℕ → List ℕ → List ℕ → List ℕ → Type 0
+InverseDemand1 r m named word bits =
+    Demand1 (inverseChecks r m named word bits) (bits ∷ []) (encoder.view (invertingShortened r m named word bits))
+
+abbrev pub QuickDemand1 : ℕ → ℕ → List ℕ → List ℤ → List ℕ → List ℕ → Type 0
+QuickDemand1 r m named l bits word =
+    Demand1 (quickChecks r m named l bits word) (bits ∷ word ∷ []) (quick.view (quickShortened r m named l bits word))
+
+-- ---- what a quick reading that is done says: a word of the smaller set, with its bits and its own penalty
+pub record QuickDone (m : ℕ) (ks : List ℕ) (l : List ℤ) (o : reader.Outcome) : Type 0 where
+  pub encodes : encoded m ks (o .bits) ≡ o .word
+  pub is-word : Word m ks (o .word)
+  pub own-penalty : o .penalty ≡ penalty l (o .word)
+  pub not-below : leastPenalty m ks l ≤ o .penalty

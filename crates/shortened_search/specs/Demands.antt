@@ -1,0 +1,38 @@
+-- The demands on the search over a shortened set: 1 with its checks, 2 and 3 over the smaller set of words. That they are met is proved in DemandsMet.
+use mathlib.Core.Path.{_≡_}
+use mathlib.Core.List.{List, [], _∷_}
+use Prim.Native.Nat.{ℕ}
+use lib.IntN.{ℤ}
+use lib.ListN.{length, replicate}
+use Rattle.numbers.specs.Sums.{sum}
+use Rattle.code.specs.Sound.{rm}
+use Rattle.code.specs.Demand1.{Checks, readingChecksFor, Demand1}
+use Rattle.search.specs.Demands.{view, walkChecksOver, Searching, DemandsOf, RunnerUpShown}
+use Rattle.shortened.specs.Outcome.{leftOf}
+use Rattle.shortened.specs.Demands.{withRow}
+use Rattle.shortened_search.specs.Outcome.{searchingShortened}
+
+abbrev pub searchChecks : ℕ → ℕ → ℕ → List ℕ → List ℤ → List ℕ → List ℕ → Checks
+searchChecks r m allowed named l bits word =
+    let ks = leftOf named (rm r m) in
+    withRow r m named (readingChecksFor (sum ks) r m l (length bits) (length word) (walkChecksOver m ks allowed l))
+
+abbrev pub ShortenedDemand1 : ℕ → ℕ → ℕ → List ℕ → List ℤ → List ℕ → List ℕ → Type 0
+ShortenedDemand1 r m allowed named l bits word =
+    Demand1 (searchChecks r m allowed named l bits word) (bits ∷ word ∷ []) (view (searchingShortened r m allowed named l bits word .outcome))
+
+-- the search over the smaller set: the word c of demand 3 is one of its words
+abbrev pub smallerSet : ℕ → ℕ → List ℕ → Searching
+smallerSet r m named =
+    let ks = leftOf named (rm r m) in
+    record { code = rm r m; kinds = ks; due = sum ks; by = λ allowed l bits word. searchingShortened r m allowed named l bits word .outcome }
+
+abbrev pub ShortenedDemands : ℕ → ℕ → List ℕ → List ℤ → List ℕ → List ℕ → Type 0
+ShortenedDemands r m named = DemandsOf (smallerSet r m named)
+
+-- on success the runner-up is one of the smaller set, under every refusal there are zeros
+pub record RunnerUpLeft (r m allowed : ℕ) (named : List ℕ) (l : List ℤ) (bits word : List ℕ) : Type 0 where
+  pub found : searchingShortened r m allowed named l bits word .outcome .number ≡ 0
+      → RunnerUpShown m (leftOf named (rm r m)) l (searchingShortened r m allowed named l bits word)
+  pub refused : (searchingShortened r m allowed named l bits word .outcome .number ≡ 0 → ⊥)
+      → searchingShortened r m allowed named l bits word .runnerUp ≡ replicate 256 0

@@ -1,0 +1,117 @@
+-- The outcomes of the search on a shortened set meet the demands.
+use mathlib.Core.Path.{_≡_, refl, ap, sym, _∙_}
+use mathlib.Core.List.{List, [], _∷_}
+use Prim.Native.Nat.{ℕ, _^_}
+use native.Mathlib.Omega.{arith}
+use lib.IntN.{ℤ}
+use lib.ListN.{length, replicate}
+use borrow.Author.Tests.{ne-eqb}
+use Rattle.numbers.specs.Sums.{sum}
+use Rattle.words.specs.Kinds.{kinds}
+use Rattle.decoding.specs.Answer.{answer}
+use Rattle.decoding.specs.DemandsMet.{demands}
+use Rattle.code.specs.declared.Code.{Code}
+use Rattle.code.specs.declared.Refusal.{Refusal}
+use Rattle.code.specs.declared.Refusal.the-variants.{Parameters, Named}
+use Rattle.code.specs.Sound.{Sound, rm}
+use Rattle.code.specs.SoundLaws.{made-good}
+use Rattle.code.specs.SoundInput.{GoodReadings, SoundFor}
+use Rattle.code.specs.Admitted.{admittedBy, admittedFor}
+use Rattle.code.specs.AdmittedLaws.{allows, refuses, decided-for, tested-made, sound-allowed-for}
+use Rattle.code.specs.RefusalLaws.{number-above}
+use Rattle.code.specs.Demand1.{View, readingChecksFor}
+use Rattle.code.specs.Demand1Laws.{demand-1, decides-readings-for}
+use Rattle.named.specs.Named.{GoodRow}
+use Rattle.named.specs.NamedLaws.{bad-parameters, bad-row, sound-row, row-decided}
+use Rattle.search.specs.Outcome.{byAnswer}
+use Rattle.search.specs.RunnerUp.{WholeOutcome, wholeBy}
+use Rattle.search.specs.Demands.{view, walkChecksOver, Passes}
+use Rattle.search.specs.DemandsMet.{demands-of}
+use Rattle.search.specs.RunnerUpMet.{runner-up-shown}
+use Rattle.search.specs.Demand1Met.{answer-decides}
+use Rattle.shortened.specs.Outcome.{leftOf}
+use Rattle.shortened.specs.WorkLaws.{long-left, are-left}
+use Rattle.shortened.specs.DemandsMet.{decides-row, afterOne}
+use Rattle.shortened_search.specs.Outcome.{refusedWhole, searchingOver, searchingShortened}
+use Rattle.shortened_search.specs.OutcomeLaws.{searching-refused, searching-left, over-refused, over-answered, good-allowed}
+use Rattle.shortened_search.specs.Demands.{searchChecks, ShortenedDemand1, smallerSet, ShortenedDemands, RunnerUpLeft}
+
+module _ (r m allowed : ℕ) (named : List ℕ) (l : List ℤ) (bits word : List ℕ) where
+  abbrev ks : List ℕ
+  ks = leftOf named (rm r m)
+
+  abbrev over : WholeOutcome
+  over = searchingOver ks (rm r m) allowed l bits word
+
+  same-tests : Sound (rm r m) → admittedBy (rm r m) (sum ks) l (length bits) (length word) ≡ admittedFor (λ c. sum ks) r m l (length bits) (length word)
+  same-tests s = tested-made (λ c. sum ks) r m l (length bits) (length word) (rm r m) (made-good r m (s .m-small) (s .r-small))
+
+  -- where tests 2 to 4 find nothing, by the answer
+  over-sound : SoundFor (rm r m) (sum ks) (length bits) (length word) (GoodReadings (rm r m) l) → wholeBy m ks l allowed bits word ≡ over
+  over-sound a =
+      over-answered ks (rm r m) allowed l bits word (rm r m)
+      (sound-allowed-for (λ c. sum ks) r m l (length bits) (length word) a ∙ sym (same-tests (a .sound)))
+
+  -- ---- Demand 1
+  pub search-demand-1 : ShortenedDemand1 r m allowed named l bits word
+  search-demand-1 =
+      let before = bits ∷ word ∷ [] in
+      let o = view (searchingShortened r m allowed named l bits word .outcome) in
+      let shown : WholeOutcome → View = λ w. view (w .outcome) in
+      demand-1 before o (searchChecks r m allowed named l bits word)
+      (decides-row r m named before o (afterOne (readingChecksFor (sum ks) r m l (length bits) (length word) (walkChecksOver m ks allowed l)))
+      (λ e. ap shown (sym (searching-refused r m allowed named l bits word Parameters e)))
+      (λ e. ap shown (sym (searching-refused r m allowed named l bits word Named e)))
+      (λ s e. rw (← searching-left r m allowed named l bits word (rm r m) e)
+      (decides-readings-for (λ c. sum ks) r m l (length bits) (length word) before (view (over .outcome)) (walkChecksOver m ks allowed l)
+      (λ why f. ap shown (sym (over-refused ks (rm r m) allowed l bits word why (f ∙ sym (same-tests s)))))
+      (λ a. rw (← over-sound a) (answer-decides m ks allowed l bits word)))))
+
+-- ---- Demands 2 and 3
+module _ (r m : ℕ) (named : List ℕ) (g : GoodRow named (kinds r m)) where
+  answered : (l : List ℤ) (bits word : List ℕ) → Passes (smallerSet r m named) l bits word → (allowed : ℕ)
+      → searchingShortened r m allowed named l bits word .outcome ≡ byAnswer allowed bits word (answer m (leftOf named (rm r m)) l allowed)
+  answered l bits word a allowed =
+      ap (λ (w : WholeOutcome). w .outcome)
+      (sym (searching-left r m allowed named l bits word (rm r m) (good-allowed r m named (a .sound) g)) ∙ sym (over-sound r m allowed named l bits word a))
+
+  pub shortened-demands : (l : List ℤ) (bits word : List ℕ) → Passes (smallerSet r m named) l bits word → ShortenedDemands r m named l bits word
+  shortened-demands l bits word a =
+      demands-of (smallerSet r m named) answered l bits word a
+      (demands m (leftOf named (rm r m)) l (a .entries .long) (long-left named (rm r m)) (are-left named (rm r m)) (g .leaves))
+
+-- ---- the runner-up
+module _ (r m allowed : ℕ) (named : List ℕ) (l : List ℤ) (bits word : List ℕ) where
+  refused-zeros : (why : Refusal) (w : WholeOutcome) → refusedWhole why bits word ≡ w → (w .outcome .number ≡ 0 → ⊥) × (w .runnerUp ≡ replicate 256 0)
+  refused-zeros why w e = rw (← e) (λ z. omega (arith, number-above why), refl)
+
+  runner-refused : (why : Refusal) → refusedWhole why bits word ≡ searchingShortened r m allowed named l bits word → RunnerUpLeft r m allowed named l bits word
+  runner-refused why e =
+      let z = refused-zeros why (searchingShortened r m allowed named l bits word) e in
+      record { found = λ n. absurd (z .0 n); refused = λ n. z .1 }
+
+  pub runner-up-left : RunnerUpLeft r m allowed named l bits word
+  runner-up-left =
+      let ks = leftOf named (rm r m) in
+      elim (row-decided r m named) [
+        | bad-parameters b e ↦ runner-refused Parameters (searching-refused r m allowed named l bits word Parameters e)
+        | bad-row s bad e ↦ runner-refused Named (searching-refused r m allowed named l bits word Named e)
+        | sound-row s g e ↦
+            let left = searching-left r m allowed named l bits word (rm r m) e in
+            let same = same-tests r m allowed named l bits word s in
+            elim (decided-for (λ c. sum ks) r m l (length bits) (length word)) [
+              | refuses why f h ↦ runner-refused why (over-refused ks (rm r m) allowed l bits word why (f ∙ sym same) ∙ left)
+              | allows c f is a ↦
+                  let is-left : wholeBy m ks l allowed bits word ≡ searchingShortened r m allowed named l bits word =
+                  ap (λ (d : Code). wholeBy (d .m) ks l allowed bits word) (sym is) ∙ over-answered ks (rm r m) allowed l bits word c (f ∙ sym same) ∙ left in
+                  let long = a .entries .long ∙ ap (λ (d : Code). 2 ^ d .m) is in
+                  record {
+                    found = λ n. rw (← is-left)
+                        (runner-up-shown m ks l long (long-left named (rm r m)) (are-left named (rm r m)) (g .leaves) allowed bits word
+                        (ap (λ (w : WholeOutcome). w .outcome .number) is-left ∙ n));
+                    refused = λ n. ap (λ (w : WholeOutcome). w .runnerUp) (sym is-left)
+                        ∙ rw (ne-eqb (byAnswer allowed bits word (answer m ks l allowed) .number) 0
+                        (λ z. n (ap (λ (w : WholeOutcome). w .outcome .number) (sym is-left) ∙ z)));
+                  }
+            ]
+      ]

@@ -1,0 +1,7 @@
+-- What the search on a shortened set tells and leaves, and the demands over it
+pub mod Outcome
+pub mod Demands
+-- Laws: each return; an empty choice gives what the plain search gives; the demands are met
+pub mod OutcomeLaws
+pub mod EmptyChoice
+pub mod DemandsMet

@@ -1,0 +1,69 @@
+-- The outcome at each place where the search on a shortened set returns, and what its work asks.
+use mathlib.Core.Path.{_≡_, ap, _∙_}
+use mathlib.Core.List.{List, _++_}
+use Prim.Native.Nat.{ℕ}
+use native.Mathlib.Omega.{arith}
+use lib.IntN.{ℤ}
+use lib.ListN.{length, take}
+use lib.Seq.{take-at}
+use Rattle.numbers.specs.Sums.{sum}
+use Rattle.words.specs.Kinds.{kinds}
+use Rattle.words.specs.KindLaws.{bits-kinds}
+use Rattle.decoding.specs.StepLaws.{sizes-within}
+use Rattle.code.specs.declared.Code.{Code}
+use Rattle.code.specs.declared.Refusal.{Refusal}
+use Rattle.code.specs.declared.Admitted.the-variants.{Allowed, Refused}
+use Rattle.code.specs.Sound.{Sound, largestReading, rm}
+use Rattle.code.specs.SoundLaws.{made-good, length-most}
+use Rattle.code.specs.SoundInput.{GoodReadings, SoundFor}
+use Rattle.code.specs.Admitted.{admittedBy}
+use Rattle.named.specs.Named.{GoodRow, rowAdmitted}
+use Rattle.named.specs.NamedLaws.{good-row, row-allowed}
+use Rattle.search.specs.RunnerUp.{wholeBy}
+use Rattle.search.specs.Work.{Searchable}
+use Rattle.shortened.specs.Outcome.{leftOf}
+use Rattle.shortened.specs.WorkLaws.{long-left, are-left}
+use Rattle.shortened_search.specs.Outcome.{refusedWhole, searchingOver, searchingShortened}
+
+module _ (r m allowed : ℕ) (named : List ℕ) (l : List ℤ) (bits word : List ℕ) where
+  pub searching-refused : (why : Refusal) → Refused why ≡ rowAdmitted r m named → refusedWhole why bits word ≡ searchingShortened r m allowed named l bits word
+  unfolding searchingShortened
+  searching-refused why e = rw (← e)
+
+  pub searching-left : (c : Code) → Allowed c ≡ rowAdmitted r m named
+      → searchingOver (leftOf named c) c allowed l bits word ≡ searchingShortened r m allowed named l bits word
+  unfolding searchingShortened
+  searching-left c e = rw (← e)
+
+module _ (ks : List ℕ) (c : Code) (allowed : ℕ) (l : List ℤ) (bits word : List ℕ) where
+  pub over-refused : (why : Refusal) → Refused why ≡ admittedBy c (sum ks) l (length bits) (length word)
+      → refusedWhole why bits word ≡ searchingOver ks c allowed l bits word
+  over-refused why e = rw (← e)
+
+  pub over-answered : (d : Code) → Allowed d ≡ admittedBy c (sum ks) l (length bits) (length word)
+      → wholeBy (d .m) ks l allowed bits word ≡ searchingOver ks c allowed l bits word
+  over-answered d e = rw (← e)
+
+-- a good row of a sound code is allowed
+pub good-allowed : (r m : ℕ) (named : List ℕ) → Sound (rm r m) → GoodRow named (kinds r m) → Allowed (rm r m) ≡ rowAdmitted r m named
+good-allowed r m named s g = row-allowed r m named (rm r m) (made-good r m (s .m-small) (s .r-small)) (good-row named (kinds r m) (bits-kinds r m) g)
+
+-- the front of an array, once it came back as x
+pub front-is : {A : Type 0} (a rest x : List A) (n : ℕ) → a ≡ x → length x ≡ n → take n (a ++ rest) ≡ x
+front-is a rest x n e f = take-at a rest n (ap length e ∙ f) ∙ e
+
+-- the kinds that are left, and readings x that are l, can be searched
+pub left-searchable : (c : Code) (named ks : List ℕ) (l x : List ℤ) (bits word : List ℕ) → ks ≡ leftOf named c → x ≡ l → GoodRow named (kinds (c .r) (c .m))
+    → SoundFor c (sum (leftOf named c)) (length bits) (length word) (GoodReadings c l) → Searchable (c .m) x ks bits word
+left-searchable c named ks l x bits word is same g a =
+    rw (is, same)
+    (record {
+      most = a .sound .m-small;
+      long = a .entries .long;
+      small = omega (arith, sizes-within largestReading l (a .entries .within), length-most (a .sound), a .entries .long);
+      long-kinds = long-left named c;
+      are-kinds = are-left named c;
+      information = g .leaves;
+      long-bits = a .long-bits;
+      long-word = a .long-word;
+    })
