@@ -38,6 +38,8 @@ pub enum Refusal {
     Tied { penalty: u32, visits: u32 },
     Torn,
     Pad,
+    // no entry of an index, or no record behind the last
+    NoEntry,
     // a map of positions that is not of bits, or that nothing undoes
     Map,
     // a row that does not name some of the information indices, but not all
@@ -270,6 +272,7 @@ impl Refusal {
             } => 7,
             Refusal::Torn => 8,
             Refusal::Pad => 9,
+            Refusal::NoEntry => 10,
             Refusal::Map => 11,
             Refusal::Named => 12,
         }
@@ -292,6 +295,7 @@ impl Refusal {
             } => 0,
             Refusal::Torn => 0,
             Refusal::Pad => 0,
+            Refusal::NoEntry => 0,
             Refusal::Map => 0,
             Refusal::Named => 0,
         }
@@ -311,6 +315,7 @@ impl Refusal {
             Refusal::OutOfVisits(_) => 0,
             Refusal::Torn => 0,
             Refusal::Pad => 0,
+            Refusal::NoEntry => 0,
             Refusal::Map => 0,
             Refusal::Named => 0,
         }
@@ -330,6 +335,7 @@ impl Refusal {
             Refusal::NotAWord(_) => 0,
             Refusal::Torn => 0,
             Refusal::Pad => 0,
+            Refusal::NoEntry => 0,
             Refusal::Map => 0,
             Refusal::Named => 0,
         }
