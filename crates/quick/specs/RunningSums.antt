@@ -1,4 +1,5 @@
--- The running sums of 256 readings of at most 2,047: none is above 524,032, since no combining step raises the sum of sizes; one reaches it.
+-- The running sums of at most 256 readings, by the bound for any largest reading: none is above 8,388,352, since no combining step raises the sum of sizes;
+-- one reaches it. With the readings that a record can hold: 524,032.
 use mathlib.Core.Path.{_≡_}
 use mathlib.Core.List.{List}
 use Prim.Native.Nat.{ℕ, _≤_}
@@ -9,15 +10,21 @@ use Rattle.decoding.specs.Readings.{sizes, Within}
 use Rattle.decoding.specs.Walk.{value}
 use Rattle.decoding.specs.StepLaws.{sizes-within}
 use Rattle.decoding.specs.BoundLaws.{Step, sumsAfter, running-sum-most, value-attained}
-use Rattle.code.specs.Sound.{largestReading}
+use Rattle.code.specs.Sound.{largestReading, largestRecordReading}
 
-module _ (l : List ℤ) (short : length l ≤ 256) (within : Within largestReading l) where
-  pub sums-most : sizes l ≤ 524032
-  sums-most = omega (arith, sizes-within largestReading l within)
+module _ (l : List ℤ) (short : length l ≤ 256) where
+  pub sums-most : Within largestReading l → sizes l ≤ 8388352
+  sums-most within = omega (arith, sizes-within largestReading l within)
 
-  pub running-sum-524032 : (s : List Step) (i : ℕ) → natAbs (getD (sumsAfter l s) i (pos 0)) ≤ 524032
-  running-sum-524032 s i = omega (arith, running-sum-most largestReading l within s i)
+  pub running-sum : Within largestReading l → (s : List Step) (i : ℕ) → natAbs (getD (sumsAfter l s) i (pos 0)) ≤ 8388352
+  running-sum within s i = omega (arith, running-sum-most largestReading l within s i)
 
--- all readings 2,047 and all bits 0: the value at the last index
-pub sums-reached : value 8 (replicate 256 (pos largestReading)) (replicate 255 0) ≡ pos 524032
-sums-reached = value-attained 8 largestReading
+  pub running-sum-record : Within largestRecordReading l → (s : List Step) (i : ℕ) → natAbs (getD (sumsAfter l s) i (pos 0)) ≤ 524032
+  running-sum-record within s i = omega (arith, running-sum-most largestRecordReading l within s i)
+
+-- all readings the largest and all bits 0: the value at the last index
+pub sum-reached : value 8 (replicate 256 (pos largestReading)) (replicate 255 0) ≡ pos 8388352
+sum-reached = value-attained 8 largestReading
+
+pub sum-reached-record : value 8 (replicate 256 (pos largestRecordReading)) (replicate 255 0) ≡ pos 524032
+sum-reached-record = value-attained 8 largestRecordReading
