@@ -7,6 +7,7 @@ use Rattle.quick.specs.Outcome as Quick
 use Rattle.record.specs.declared.Header.{Header}
 use Rattle.record.specs.Reader as Reader
 use Rattle.search.specs.Outcome as Search
+use Rattle.search.specs.RunnerUp.{WholeOutcome}
 
 -- penalty, gap, visits, place: the header's struct
 abbrev pub numbers : ℕ → ℕ → ℕ → ℕ → List ℕ
@@ -32,6 +33,12 @@ shownQuick o = told (o .number) (numbers (o .penalty) 0 0 (o .place)) (o .bits �
 -- an outcome of a search
 abbrev pub shownSearch : Search.Outcome → Told
 shownSearch o = told (o .number) (numbers (o .penalty) (o .gap) (o .visits) (o .place)) (o .bits ∷ o .word ∷ [])
+
+-- with the runner-up in lent bytes of its own
+abbrev pub shownWhole : WholeOutcome → Told
+shownWhole w =
+    let o = w .outcome in
+    told (o .number) (numbers (o .penalty) (o .gap) (o .visits) (o .place)) (o .bits ∷ o .word ∷ w .runnerUp ∷ [])
 
 -- what a record's bytes say, and its packed part: r, m, the part's length, place
 abbrev pub shownPart : Header → List ℕ → Told

@@ -13,10 +13,15 @@ use Rattle.record.specs.declared.Header.{Header}
 use Rattle.record.specs.Reader as Reader
 use Rattle.search.specs.declared.Searched.{Searched}
 use Rattle.search.specs.declared.Searched.the-variants.{Found, Refused}
+use Rattle.search.specs.declared.WithRunnerUp.{WithRunnerUp}
 use Rattle.search.specs.Outcome as Search
-use Rattle.pumpbox.specs.Told.{numbers, told, shown, shownQuick, shownSearch, shownPart}
+use Rattle.search.specs.RunnerUp.{WholeOutcome, toldWhole}
+use Rattle.pumpbox.specs.Told.{numbers, told, shown, shownQuick, shownSearch, shownWhole, shownPart}
 use Rattle.pumpbox.specs.Answers.{encodedNumber, encodedPlace, headerNumber, headerR, headerM, headerPlace}
 use Rattle.pumpbox.specs.Answers.{readNumber, readPenalty, readPlace, searchedNumber, searchedNumbers}
+
+abbrev beside : Search.Outcome → List ℕ → WholeOutcome
+beside o x = record { outcome = o; runnerUp = x }
 
 by-encoded : (answer : Encoded) (buffer : List ℕ)
     → told (encodedNumber answer) (numbers 0 0 0 (encodedPlace answer)) (buffer ∷ []) ≡ shown (Encode.told answer buffer)
@@ -50,6 +55,19 @@ pub told-searched : (answer : Searched) (bits word : List ℕ) (o : Search.Outco
     shownSearch o
 told-searched answer bits word o returned out e f g =
     ap₂ (λ (n : ℕ) (l : List ℕ). told n l (bits ∷ word ∷ [])) f g ∙ by-answer answer bits word ∙ ap shownSearch e
+
+-- and with the runner-up
+by-whole : (answer : Searched) (bits word shown : List ℕ)
+    → told (searchedNumber answer) (searchedNumbers answer) (bits ∷ word ∷ shown ∷ []) ≡ shownWhole (beside (Search.told answer bits word) shown)
+by-whole (Found penalty gap visits) bits word shown = refl
+by-whole (Refused why) bits word shown = refl
+
+pub told-whole : (answer : WithRunnerUp) (bits word shown : List ℕ) (o : WholeOutcome) (returned : ℕ) (out : List ℕ)
+    → toldWhole answer bits word ≡ o → returned ≡ searchedNumber (answer .result) → out ≡ searchedNumbers (answer .result) → shown ≡ answer .«runner_up»
+    → told returned out (bits ∷ word ∷ shown ∷ []) ≡ shownWhole o
+told-whole answer bits word shown o returned out e f g h =
+    ap₂ (λ (n : ℕ) (l : List ℕ). told n l (bits ∷ word ∷ shown ∷ [])) f g ∙ by-whole (answer .result) bits word shown
+    ∙ ap shownWhole (ap (beside (Search.told (answer .result) bits word)) h ∙ e)
 
 -- a header that tells what the bytes' header does, and their packed part
 pub told-part : (answer header : Header) (given part out : List ℕ) (returned r m place : ℕ)

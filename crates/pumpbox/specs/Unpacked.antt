@@ -2,7 +2,7 @@
 use mathlib.Core.List.{List}
 use Prim.Native.Nat.{ℕ}
 use lib.IntN.{ℤ}
-use Rattle.record.specs.Unpacking.{UnpackedOutcome}
+use Rattle.packing.specs.Unpacking.{UnpackedOutcome}
 use Rattle.pumpbox.specs.Told.{numbers}
 
 pub record UnpackTold : Type 0 where

@@ -12,15 +12,16 @@ use encode::Encoded;
 use quick::Read;
 use record::Header;
 use search::Searched;
+use search::WithRunnerUp;
 ghost use mathlib.Core.Path.{_≡_};
 ghost use mathlib.Core.List.{[], _∷_};
 ghost use Rattle.encode.specs.Outcome.{encoding, inverting};
 ghost use Rattle.quick.specs.Outcome.{quickReading};
 ghost use Rattle.record.specs.Reader.{headerOf, partBy};
-ghost use Rattle.record.specs.Searching.{searchingRecord};
-ghost use Rattle.search.specs.Outcome.{searching};
+ghost use Rattle.record.specs.Searching.{searchingRecordWhole};
+ghost use Rattle.search.specs.RunnerUp.{searchingWhole};
 ghost use Rattle.code.specs.Sound.{defaultAllowance};
-ghost use Rattle.pumpbox.specs.Told.{numbers, told, shown, shownQuick, shownSearch, shownPart};
+ghost use Rattle.pumpbox.specs.Told.{numbers, told, shown, shownQuick, shownWhole, shownPart};
 ghost use Rattle.pumpbox.specs.Answers.{headerNumber, headerR, headerM, headerPlace};
 ghost use Rattle.pumpbox.specs.Answers.{encodedNumber, encodedPlace, readNumber, readPenalty, readPlace};
 ghost use Rattle.pumpbox.specs.Answers.{searchedNumber, searchedPenalty, searchedGap, searchedVisits, searchedPlace, searchedNumbers};
@@ -208,6 +209,17 @@ fn put_searched(answer: Searched, out: &mut [u64; 4]) -> u32
     searched_number(answer)
 }
 
+// The same of an answer with a runner-up, which goes into the lent bytes, zeros as they are.
+fn put_whole(answer: WithRunnerUp, runner_up: &mut [u8; 256], out: &mut [u64; 4]) -> u32
+    ensures { λ number. ⌜ (number ≡ searchedNumber (answer .result)) × (now (out .exit) ≡ searchedNumbers (answer .result))
+        × (now («runner_up» .exit) ≡ answer .«runner_up») ⌝ }
+{
+    let shown = answer.runner_up;
+    *runner_up = shown;
+    let result = answer.result;
+    put_searched(result, out)
+}
+
 #[no_mangle]
 pub extern "C" fn cinorbis_search_within(
     r: u32,
@@ -216,13 +228,14 @@ pub extern "C" fn cinorbis_search_within(
     readings: &[i16],
     bits: &mut [u8],
     word: &mut [u8],
+    runner_up: &mut [u8; 256],
     out: &mut [u64; 4],
 ) -> u32
-    ensures { λ number. ⌜ told number (now (out .exit)) (now (bits .exit) ∷ now (word .exit) ∷ [])
-        ≡ shownSearch (searching r m allowed (now (readings .entry)) (now (bits .entry)) (now (word .entry))) ⌝ }
+    ensures { λ number. ⌜ told number (now (out .exit)) (now (bits .exit) ∷ now (word .exit) ∷ now («runner_up» .exit) ∷ [])
+        ≡ shownWhole (searchingWhole r m allowed (now (readings .entry)) (now (bits .entry)) (now (word .entry))) ⌝ }
 {
     let answer = search::search_within(r, m, allowed, readings, bits, word);
-    put_searched(answer, out)
+    put_whole(answer, runner_up, out)
 }
 
 #[no_mangle]
@@ -232,13 +245,14 @@ pub extern "C" fn cinorbis_search(
     readings: &[i16],
     bits: &mut [u8],
     word: &mut [u8],
+    runner_up: &mut [u8; 256],
     out: &mut [u64; 4],
 ) -> u32
-    ensures { λ number. ⌜ told number (now (out .exit)) (now (bits .exit) ∷ now (word .exit) ∷ [])
-        ≡ shownSearch (searching r m defaultAllowance (now (readings .entry)) (now (bits .entry)) (now (word .entry))) ⌝ }
+    ensures { λ number. ⌜ told number (now (out .exit)) (now (bits .exit) ∷ now (word .exit) ∷ now («runner_up» .exit) ∷ [])
+        ≡ shownWhole (searchingWhole r m defaultAllowance (now (readings .entry)) (now (bits .entry)) (now (word .entry))) ⌝ }
 {
     let answer = search::search(r, m, readings, bits, word);
-    put_searched(answer, out)
+    put_whole(answer, runner_up, out)
 }
 
 #[no_mangle]
@@ -247,13 +261,14 @@ pub extern "C" fn cinorbis_search_record(
     bytes: &[u8],
     bits: &mut [u8],
     word: &mut [u8],
+    runner_up: &mut [u8; 256],
     out: &mut [u64; 4],
 ) -> u32
-    ensures { λ number. ⌜ told number (now (out .exit)) (now (bits .exit) ∷ now (word .exit) ∷ [])
-        ≡ shownSearch (searchingRecord allowed (now (bytes .entry)) (now (bits .entry)) (now (word .entry))) ⌝ }
+    ensures { λ number. ⌜ told number (now (out .exit)) (now (bits .exit) ∷ now (word .exit) ∷ now («runner_up» .exit) ∷ [])
+        ≡ shownWhole (searchingRecordWhole allowed (now (bytes .entry)) (now (bits .entry)) (now (word .entry))) ⌝ }
 {
     let answer = record::search_record(bytes, allowed, bits, word);
-    put_searched(answer, out)
+    put_whole(answer, runner_up, out)
 }
 
 // The parts of a record's header.

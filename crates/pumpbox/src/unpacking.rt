@@ -1,8 +1,8 @@
 // The readings of a packed part.
 use crate::put_numbers;
-use record::Unpacked;
+use packing::Unpacked;
 ghost use mathlib.Core.Path.{_≡_};
-ghost use Rattle.record.specs.Unpacking.{carriedIn, unpacking};
+ghost use Rattle.packing.specs.Unpacking.{carriedIn, unpacking};
 ghost use Rattle.pumpbox.specs.Unpacked.{unpackTold, shownUnpacked};
 
 fn number_of(answer: Unpacked) -> u32
@@ -28,7 +28,7 @@ pub extern "C" fn cinorbis_unpack(part: &[u8], readings: &mut [i16], out: &mut [
     ensures { λ number. ⌜ unpackTold number (now (out .exit)) (now (readings .exit))
         ≡ shownUnpacked (unpacking (now (part .entry)) (now (readings .entry))) ⌝ }
 {
-    let answer = record::unpack(part, readings);
+    let answer = packing::unpack(part, readings);
     put_numbers(out, 0, 0, 0, place_of(answer));
     number_of(answer)
 }

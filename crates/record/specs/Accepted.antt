@@ -4,7 +4,7 @@ use mathlib.Core.Path.{_≡_, refl, ap, _∙_}
 use mathlib.Core.List.{List, [], _∷_, _++_}
 use Prim.Native.Nat.{ℕ, zero, suc, _+_, _*_, _/_, _%_, _^_, _≤_}
 use native.Mathlib.Omega.{arith}
-use lib.IntN.{ℤ, pos}
+use lib.IntN.{ℤ}
 use lib.ListN.{length, getD, take, drop, length-append, take-append-drop}
 use lib.Seq.{take-at}
 use Rattle.decoding.specs.Readings.{Within}
@@ -14,8 +14,8 @@ use Rattle.code.specs.declared.Code.{Code}
 use Rattle.code.specs.declared.Made.the-variants.{Good}
 use Rattle.record.specs.declared.Header.{Header}
 use Rattle.record.specs.declared.Header.the-variants.{Record}
-use Rattle.record.specs.Layout.{bytes, nibbles, spread, NoRail, recordOf, packed, unpacked, partLength, padOf}
-use Rattle.record.specs.LayoutLaws.{Below, unpacked-packed, packed-unpacked, unpacked-within, length-packed}
+use Rattle.packing.specs.Layout.{bytes, nibbles, spread, NoRail, recordOf, packed, unpacked, partLength, padOf}
+use Rattle.packing.specs.LayoutLaws.{Below, unpacked-packed, packed-unpacked, unpacked-within, length-packed}
 use Rattle.record.specs.Reader.{codeOf, partOf, readingsOf, headerOf, partBy}
 use Rattle.record.specs.ReaderLaws.{Framed, framed-record, frame-by, frame-whole, length-readings-of, length-part}
 

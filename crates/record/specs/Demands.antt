@@ -12,7 +12,7 @@ use Rattle.code.specs.Sound.{largestM, largestRecordReading, rm}
 use Rattle.code.specs.Entries.{firstBadReading}
 use Rattle.code.specs.Demand1.{View, Checks, passed, check, LowestBad, Demand1}
 use Rattle.search.specs.Demands.{view, walkChecks}
-use Rattle.record.specs.Layout.{recordOf, partLength, padOf}
+use Rattle.packing.specs.Layout.{recordOf, partLength, padOf}
 use Rattle.record.specs.Reader.{partOf, readingsOf, headerOf, told}
 use Rattle.record.specs.Searching.{searchingRecord}
 use Rattle.record.specs.Writing.{WrittenOutcome, writing}

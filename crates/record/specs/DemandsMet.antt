@@ -19,7 +19,7 @@ use Rattle.code.specs.Demand1Laws.{Decides, demand-1}
 use Rattle.search.specs.Outcome.{searching}
 use Rattle.search.specs.Demands.{view, walkChecks}
 use Rattle.search.specs.Demand1Met.{search-decides}
-use Rattle.record.specs.Layout.{partLength, padOf}
+use Rattle.packing.specs.Layout.{partLength, padOf}
 use Rattle.record.specs.Reader.{codeOf, partOf, readingsOf, headedBy, headerOf, told}
 use Rattle.record.specs.ReaderLaws.{frame-torn, frame-pad, frame-whole, length-readings-of}
 use Rattle.record.specs.Searching.{searchingRecord}

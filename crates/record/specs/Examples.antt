@@ -10,7 +10,7 @@ use Rattle.code.specs.declared.Refusal.the-variants.{Parameters, OutputLength, 
 use Rattle.record.specs.declared.Header.the-variants.{Record, Refused}
 use Rattle.record.specs.declared.Written.the-variants as writer
 use Rattle.record.specs.declared.Written.the-variants.{Next}
-use Rattle.record.specs.Layout.{recordOf, packed, unpacked, partLength, padOf}
+use Rattle.packing.specs.Layout.{recordOf, packed, unpacked, partLength, padOf}
 use Rattle.record.specs.Reader.{readingsOf, headerOf}
 use Rattle.record.specs.Writing.{told, writable, writing}
 

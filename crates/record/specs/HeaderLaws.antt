@@ -16,7 +16,7 @@ use Rattle.code.specs.declared.Made.{Made}
 use Rattle.code.specs.declared.Made.the-variants.{Good, Bad}
 use Rattle.code.specs.declared.Refusal.the-variants.{Parameters, Torn}
 use Rattle.record.specs.declared.Header.the-variants.{Record, Refused}
-use Rattle.record.specs.Layout.{unpacked, partLength}
+use Rattle.packing.specs.Layout.{unpacked, partLength}
 use Rattle.record.specs.Reader.{codeOf, lengthBy, partOf, readingsOf, headedBy, headerOf}
 use Rattle.record.specs.ReaderLaws.{part-small, frame-torn, framed-record}
 

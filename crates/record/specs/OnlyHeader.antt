@@ -1,6 +1,5 @@
 -- No second answer meets the promise of `header_of`: the rules' numbers tell every header apart.
 use mathlib.Core.Path.{_≡_, ap}
-use Prim.Native.Nat.{ℕ}
 use native.Mathlib.Omega.{arith}
 use Rattle.code.specs.RefusalLaws.{refusal-only, number-above}
 use Rattle.record.specs.declared.Header.{Header}

@@ -12,7 +12,7 @@ use Rattle.code.specs.declared.Made.the-variants.{Good, Bad}
 use Rattle.code.specs.declared.Refusal.the-variants.{Parameters, Torn, Pad}
 use Rattle.record.specs.declared.Header.{Header}
 use Rattle.record.specs.declared.Header.the-variants.{Record, Refused}
-use Rattle.record.specs.Layout.{unpacked, partLength, padOf}
+use Rattle.packing.specs.Layout.{unpacked, partLength, padOf}
 
 -- what a first byte says: 4 bits m, 4 bits r
 abbrev pub codeOf : ℕ → Made

@@ -15,8 +15,8 @@ use Rattle.code.specs.declared.Made.{Made}
 use Rattle.code.specs.declared.Made.the-variants.{Good, Bad}
 use Rattle.code.specs.declared.Refusal.the-variants.{Torn, Pad}
 use Rattle.record.specs.declared.Header.the-variants.{Record, Refused}
-use Rattle.record.specs.Layout.{partLength, padOf}
-use Rattle.record.specs.LayoutLaws.{length-readings}
+use Rattle.packing.specs.Layout.{partLength, padOf}
+use Rattle.packing.specs.LayoutLaws.{length-readings}
 use Rattle.record.specs.Reader.{codeOf, partOf, readingsOf, headedBy, headerOf}
 
 -- the packed part has at most 384 bytes

@@ -14,7 +14,7 @@ use Rattle.code.specs.declared.Admitted.{Admitted}
 use Rattle.code.specs.declared.Admitted.the-variants as admission
 use Rattle.record.specs.declared.Written.{Written}
 use Rattle.record.specs.declared.Written.the-variants.{Next, Refused}
-use Rattle.record.specs.Layout.{recordOf, partLength}
+use Rattle.packing.specs.Layout.{recordOf, partLength}
 
 pub record WrittenOutcome : Type 0 where
   -- all 0 where the record is written, else what the refusal carries

@@ -16,8 +16,8 @@ use Rattle.code.specs.Demand1Laws.{Decides, demand-1, first-lowest}
 use Rattle.code.specs.declared.Refusal.{Refusal}
 use Rattle.code.specs.declared.Admitted.{Admitted}
 use Rattle.code.specs.declared.Admitted.the-variants as admission
-use Rattle.record.specs.Layout.{partLength}
-use Rattle.record.specs.LayoutLaws.{length-record}
+use Rattle.packing.specs.Layout.{partLength}
+use Rattle.packing.specs.LayoutLaws.{length-record}
 use Rattle.record.specs.Writing.{writable, writtenBy, writing}
 use Rattle.record.specs.WritingLaws.{not-made, not-long, not-good, no-room, may-write}
 use Rattle.record.specs.Demands.{writtenView, writeChecks, WriteDemand1}

@@ -12,7 +12,7 @@ use borrow.Rule.Slice.PartMut.{putMid}
 use borrow.Author.Tests.{eq-eqb, ne-eqb, lt-ltb, le-ltb}
 use Rattle.numbers.specs.Choice.{lt-or-le}
 use Rattle.decoding.specs.Readings.{Within}
-use Rattle.code.specs.Sound.{Carried, Sound, largestRecordReading, made, rm, numberOf}
+use Rattle.code.specs.Sound.{Sound, largestRecordReading, made, rm}
 use Rattle.code.specs.SoundLaws.{made-of, made-good}
 use Rattle.code.specs.Entries.{firstBadReading}
 use Rattle.code.specs.EntriesLaws.{first-none, good-readings}
@@ -25,7 +25,7 @@ use Rattle.code.specs.declared.Refusal.the-variants.{Parameters, InputLength, O
 use Rattle.code.specs.declared.Admitted.the-variants as admission
 use Rattle.record.specs.declared.Written.{Written}
 use Rattle.record.specs.declared.Written.the-variants.{Next, Refused}
-use Rattle.record.specs.Layout.{recordOf, partLength}
+use Rattle.packing.specs.Layout.{recordOf, partLength}
 use Rattle.record.specs.Writing.{WrittenOutcome, told, writable, laidAt, writtenBy}
 
 -- the answers of the tests

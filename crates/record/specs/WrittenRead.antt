@@ -2,24 +2,22 @@
 -- bottom rail.
 use mathlib.Core.Path.{_≡_, refl, ap, sym, _∙_}
 use mathlib.Core.List.{List, _++_}
-use Prim.Native.Nat.{ℕ, suc, _+_, _-_, _^_, _≤_}
+use Prim.Native.Nat.{ℕ, _+_, _^_, _≤_}
 use native.Mathlib.Omega.{arith}
 use lib.IntN.{ℤ}
 use lib.ListN.{length, getD, take, drop, length-append, length-drop, take-append-drop}
 use lib.Seq.{take-at, drop-at, drop-drop, length-take-le, getD-drop}
 use Rattle.decoding.specs.Readings.{Within}
 use Rattle.code.specs.Sound.{Sound, largestRecordReading, rm}
-use Rattle.code.specs.EntriesLaws.{first-none}
 use Rattle.code.specs.RefusalLaws.{number-above}
-use Rattle.code.specs.SoundLaws.{made-good}
 use Rattle.code.specs.declared.Code.{Code}
 use Rattle.code.specs.declared.Made.the-variants.{Good}
 use Rattle.code.specs.declared.Admitted.{Admitted}
 use Rattle.code.specs.declared.Admitted.the-variants as admission
 use Rattle.record.specs.declared.Header.the-variants.{Record}
 use Rattle.record.specs.declared.Written.the-variants.{Next}
-use Rattle.record.specs.Layout.{nibbles, NoRail, recordOf, packed}
-use Rattle.record.specs.LayoutLaws.{Below, length-record}
+use Rattle.packing.specs.Layout.{nibbles, NoRail, recordOf, packed}
+use Rattle.packing.specs.LayoutLaws.{Below, length-record}
 use Rattle.record.specs.Reader.{codeOf, lengthBy, partOf, readingsOf, headerOf, partBy}
 use Rattle.record.specs.Accepted.{Begins, begins-accepted, begins-readings, begins-handed-back, begins-said, accepted-begins, readings-within}
 use Rattle.record.specs.ReaderLaws.{framed-record, length-readings-of}

@@ -1,24 +1,20 @@
-// Packed records: the reader, the unpacker, the writer, and the search of a record.
-mod packing;
-
+// Packed records: the reader, the writer, and the search of a record.
 ghost use mathlib.Core.Path.{_≡_};
 ghost use Prim.Native.Nat.{suc, _<_, _≤_};
 ghost use lib.ListN.{length};
 ghost use Rattle.decoding.specs.Readings.{Within};
-ghost use Rattle.code.specs.Sound.{Sound, largestM, largestRecordReading};
-ghost use Rattle.record.specs.Layout.{recordOf, unpacked, partLength, readingsIn};
+ghost use Rattle.code.specs.Sound.{Sound, largestRecordReading};
+ghost use Rattle.packing.specs.Layout.{recordOf, partLength};
 ghost use Rattle.record.specs.Reader.{codeOf, lengthBy, headedBy, headerOf, told, partBy};
-ghost use Rattle.record.specs.Unpacking as Unpacking;
-ghost use Rattle.record.specs.Unpacking.{unpacking};
 ghost use Rattle.record.specs.Writing as Writing;
 ghost use Rattle.record.specs.Writing.{writable, writing};
-ghost use Rattle.search.specs.Outcome as Search;
-ghost use Rattle.record.specs.Searching.{searchingBy, searchingRecord};
+ghost use Rattle.search.specs.RunnerUp.{toldWhole};
+ghost use Rattle.record.specs.Searching.{searchingWholeBy, searchingRecordWhole};
 use code::Admitted;
 use code::Code;
 use code::Made;
 use code::Refusal;
-use search::Searched;
+use search::WithRunnerUp;
 
 // What bytes begin with: a record of a code, or why not.
 pub enum Header {
@@ -30,19 +26,6 @@ pub enum Header {
 pub enum Written {
     Next(usize),
     Refused(Refusal),
-}
-
-pub enum Unpacked {
-    Done,
-    Refused(Refusal),
-}
-
-// How many bytes follow a record's first.
-fn part_length(code: Code) -> usize
-    requires { ⌜ Sound code ⌝ }
-    ensures { λ k. ⌜ k ≡ partLength (code .m) ⌝ }
-{
-    (3 * code.length() + 1) / 2
 }
 
 fn code_of(first: u8) -> Made
@@ -57,7 +40,7 @@ pub fn record_length(first: u8) -> usize
     ensures { λ k. ⌜ k ≡ lengthBy (codeOf first) ⌝ }
 {
     match code_of(first) {
-        Made::Good(code) => 1 + part_length(code),
+        Made::Good(code) => 1 + packing::part_length(code),
         Made::Bad => 0,
     }
 }
@@ -67,7 +50,7 @@ fn framed(s: &[u8], code: Code) -> Header
     requires { ⌜ Sound code × (0 < length (now s)) ⌝ }
     ensures { λ answer. ⌜ answer ≡ headedBy (Made.Good code) (now (s .entry)) ⌝ }
 {
-    if s.len() - 1 < part_length(code) {
+    if s.len() - 1 < packing::part_length(code) {
         return Header::Refused(Refusal::Torn);
     }
     if code.m == 0 {
@@ -91,37 +74,6 @@ fn frame(s: &[u8]) -> Header
     }
 }
 
-// How many readings a packed part of so many bytes holds; 0 where no record has such a part.
-fn readings_in(bytes: usize) -> usize
-    ensures { λ n. ⌜ n ≡ readingsIn (suc largestM) bytes ⌝ }
-{
-    let mut m = Code::LARGEST_M + 1;
-    while 0 < m {
-        m -= 1;
-        let code = Code { r: 0, m };
-        if bytes == part_length(code) {
-            return code.length();
-        }
-    }
-    0
-}
-
-// Writes the readings of a packed part into the lent buffer.
-pub fn unpack(part: &[u8], readings: &mut [i16]) -> Unpacked
-    ensures { λ answer. ⌜ Unpacking.told answer (now (readings .exit))
-        ≡ unpacking (now (part .entry)) (now (readings .entry)) ⌝ }
-{
-    let n = readings_in(part.len());
-    if n == 0 {
-        return Unpacked::Refused(Refusal::InputLength);
-    }
-    if readings.len() != n {
-        return Unpacked::Refused(Refusal::OutputLength);
-    }
-    packing::put_readings(part, readings);
-    Unpacked::Done
-}
-
 // The code of the record that the bytes begin with, or the refusal.
 pub fn header_of(s: &[u8]) -> Header
     ensures { λ answer. ⌜ told answer ≡ told (headerOf (now (s .entry))) ⌝ }
@@ -136,7 +88,7 @@ pub fn packed(s: &[u8]) -> &[u8]
 {
     match frame(s) {
         Header::Record(code) => {
-            let end = 1 + part_length(code);
+            let end = 1 + packing::part_length(code);
             &s[1..end]
         }
         Header::Refused(_) => &s[..0],
@@ -144,31 +96,37 @@ pub fn packed(s: &[u8]) -> &[u8]
 }
 
 // Searches the record that the bytes begin with. The refusals are 1, 8, 9, 3, 6, 7, in this order.
-pub fn search_record(s: &[u8], allowed: u32, bits: &mut [u8], word: &mut [u8]) -> Searched
-    ensures { λ answer. ⌜ Search.told answer (now (bits .exit)) (now (word .exit))
-        ≡ searchingRecord allowed (now (s .entry)) (now (bits .entry)) (now (word .entry)) ⌝ }
+pub fn search_record(s: &[u8], allowed: u32, bits: &mut [u8], word: &mut [u8]) -> WithRunnerUp
+    ensures { λ answer. ⌜ toldWhole answer (now (bits .exit)) (now (word .exit))
+        ≡ searchingRecordWhole allowed (now (s .entry)) (now (bits .entry)) (now (word .entry)) ⌝ }
 {
     match frame(s) {
         Header::Record(code) => search_framed(s, code, allowed, bits, word),
-        Header::Refused(why) => Searched::Refused(why),
+        Header::Refused(why) => WithRunnerUp::refused(why),
     }
 }
 
-fn search_framed(s: &[u8], code: Code, allowed: u32, bits: &mut [u8], word: &mut [u8]) -> Searched
+fn search_framed(
+    s: &[u8],
+    code: Code,
+    allowed: u32,
+    bits: &mut [u8],
+    word: &mut [u8],
+) -> WithRunnerUp
     requires { ⌜ Sound code × (suc (partLength (code .m)) ≤ length (now s)) ⌝ }
-    ensures { λ answer. ⌜ Search.told answer (now (bits .exit)) (now (word .exit))
-        ≡ searchingBy (Header.Record code) allowed (now (s .entry))
+    ensures { λ answer. ⌜ toldWhole answer (now (bits .exit)) (now (word .exit))
+        ≡ searchingWholeBy (Header.Record code) allowed (now (s .entry))
         (now (bits .entry)) (now (word .entry)) ⌝ }
 {
     let mut readings = [0i16; 256];
     let n = code.length();
-    let end = 1 + part_length(code);
+    let end = 1 + packing::part_length(code);
     packing::put_readings(&s[1..end], &mut readings[0..n]);
     search::search_within(code.r, code.m, allowed, &readings[0..n], bits, word)
 }
 
 // The tests of the writer: 1, 2, 4, then 3, for a buffer of so many bytes. No sum here could wrap.
-fn writable(r: u32, m: u32, readings: &[i16], bytes: usize, place: usize) -> Admitted
+pub fn writable(r: u32, m: u32, readings: &[i16], bytes: usize, place: usize) -> Admitted
     ensures { λ answer. ⌜ answer ≡ writable r m (now (readings .entry)) bytes place ⌝ }
 {
     let Made::Good(code) = Code::new(r, m) else {
@@ -185,7 +143,7 @@ fn writable(r: u32, m: u32, readings: &[i16], bytes: usize, place: usize) -> Adm
     if bytes < place {
         return Admitted::Refused(Refusal::OutputLength);
     }
-    if bytes - place < 1 + part_length(code) {
+    if bytes - place < 1 + packing::part_length(code) {
         return Admitted::Refused(Refusal::OutputLength);
     }
     Admitted::Allowed(code)
@@ -209,7 +167,7 @@ pub fn write(r: u32, m: u32, readings: &[i16], buffer: &mut [u8], place: usize) 
 {
     match writable(r, m, readings, buffer.len(), place) {
         Admitted::Allowed(code) => {
-            let end = place + (1 + part_length(code));
+            let end = place + (1 + packing::part_length(code));
             put_record(code, readings, &mut buffer[place..end]);
             Written::Next(end)
         }

@@ -42,9 +42,6 @@ module _ (m : ℕ) (ks : List ℕ) (l : List ℤ) (allowed : ℕ) (bits word : L
   whole-found e f = rw (e, f)
 
 -- ---- an array of zeros, whose first k places are lent to the bits
-pub zeros-lent : (k : ℕ) → k ≤ 256 → length (take (k - 0) (replicate {A = ℕ} 256 0)) ≡ k
-zeros-lent k h = rw sub-zero (length-take-le k (replicate {A = ℕ} 256 0) h)
-
 zeros-left : (k : ℕ) → k ≤ 256 → drop k (replicate {A = ℕ} 256 0) ≡ replicate (256 - k) 0
 zeros-left k h =
     let parts : 256 ≡ k + (256 - k) = omega arith in

@@ -1,19 +1,16 @@
 -- `record::put_record` meets its contract: the first byte, and behind it the packed part.
 use mathlib.Core.Path.{_≡_, ap, _∙_, sym}
 use mathlib.Core.List.{List, _∷_}
-use Prim.Native.Nat.{ℕ, suc, _+_, _-_, _*_}
+use Prim.Native.Nat.{ℕ, _+_, _-_, _*_}
 use native.Mathlib.Omega.{arith}
 use lib.ListN.{length, length-set, set}
 use borrow.Rule.Slice.PartMut.{mid-len, same-len-mid}
-use Rattle.record.specs.Layout.{packed}
-use Rattle.record.specs.LayoutLaws.{record-parts}
-use Rattle.record.specs.PairLaws.{first-and-rest}
+use Rattle.packing.specs.Layout.{packed}
+use Rattle.packing.specs.LayoutLaws.{record-parts}
+use Rattle.packing.specs.PairLaws.{first-and-rest}
 use borrow.Author.Needs.{needs}
 use Rattle.record.proofs.put_record.Statement.{statement}
 use Rattle.record.proofs.put_record.Tie as tie
-use Rattle.record.proofs.put_record.Reads as reads
-use Rattle.record.proofs.put_record.Lts as lts
-use Rattle.record.proofs.packing.put_packed.Reads as put-packed-reads
 
 mul-bytes : tie.Need-mul-bytes
 mul-bytes c = search needs

@@ -9,19 +9,13 @@ use native.Mathlib.Nat.{sub-zero}
 use borrow.Rule.Slice.PartMut.{midOf, mid-len, same-len-mid}
 use Rattle.numbers.specs.Lent.{lent-again}
 use Rattle.code.specs.SoundLaws.{length-most}
-use Rattle.search.specs.Outcome.{searching}
-use Rattle.record.specs.Layout.{unpacked}
-use Rattle.record.specs.Reader.{partOf, readingsOf}
+use Rattle.search.specs.RunnerUp.{searchingWhole}
+use Rattle.packing.specs.Layout.{unpacked}
+use Rattle.record.specs.Reader.{partOf}
 use Rattle.record.specs.ReaderLaws.{part-taken, length-readings-of}
 use borrow.Author.Needs.{needs}
 use Rattle.record.proofs.search_framed.Statement.{statement}
 use Rattle.record.proofs.search_framed.Tie as tie
-use Rattle.record.proofs.search_framed.Reads as reads
-use Rattle.record.proofs.search_framed.Lts as lts
-use Rattle.code.proofs.Code.length.Reads as length-reads
-use Rattle.record.proofs.packing.put_readings.Reads as put-readings-reads
-use Rattle.record.proofs.part_length.Reads as part-length-reads
-use Rattle.search.proofs.search_within.Reads as search-within-reads
 
 length-requires : tie.Need-length-requires
 length-requires c κs = search needs
@@ -108,7 +102,7 @@ returns c =
     let put = c .before .before .before .before .before .before .before .before .before .before .put-readings in
     let read = lent-again (n lending) zeros (put .last .1 .0) (ap length (put .ensures) ∙ count lending) ∙ put .ensures ∙ ap unpacked (taken lending) in
     c .before .before .before .before .search-within .ensures
-    ∙ ap (λ (l : List ℤ). searching (g .code .r) (g .code .m) (g .allowed) l (g .bits .now) (g .word .now)) read
+    ∙ ap (λ (l : List ℤ). searchingWhole (g .code .r) (g .code .m) (g .allowed) l (g .bits .now) (g .word .now)) read
 
 pub search-framed-spec : {M : Type 1} → statement M
 search-framed-spec =

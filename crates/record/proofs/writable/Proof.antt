@@ -12,12 +12,6 @@ use Rattle.record.specs.WritingLaws.{not-made, not-long, not-good, no-ro
 use borrow.Author.Needs.{needs}
 use Rattle.record.proofs.writable.Statement.{statement}
 use Rattle.record.proofs.writable.Tie as tie
-use Rattle.record.proofs.writable.Reads as reads
-use Rattle.record.proofs.writable.Lts as lts
-use Rattle.code.proofs.Code.length.Reads as length-reads
-use Rattle.code.proofs.Code.new.Reads as new-reads
-use Rattle.code.proofs.first_bad_record_reading.Reads as first-bad-record-reading-reads
-use Rattle.record.proofs.part_length.Reads as part-length-reads
 
 new-requires : tie.Need-new-requires
 new-requires c κs = search needs
@@ -47,7 +41,8 @@ length-requires c κs = sound c
 returns-2 : tie.Need-returns-2
 returns-2 c =
     let s = c .before .before .before .before .before .before .args in
-    not-long (s .r) (s .m) (s .readings .now) (s .bytes) (s .place) _ (is-made (c .before .before)) (λ e. c .if1 .taken (e ∙ sym (c .before .length .ensures)))
+    not-long (s .r) (s .m) (s .readings .now) (s .bytes) (s .place) _
+    (is-made (c .before .before)) (λ e. c .if1 .taken (e ∙ sym (c .before .length .ensures)))
 
 first-bad-record-reading-requires : tie.Need-first-bad-record-reading-requires
 first-bad-record-reading-requires c κs = search needs
@@ -57,12 +52,15 @@ returns-3 c =
     let s = c .before .before .before .before .before .before .before .before .args in
     let fb = c .before .first-bad-record-reading .ensures in
     ap (λ (place : ℕ). Refused (Entry place)) fb
-    ∙ not-good (s .r) (s .m) (s .readings .now) (s .bytes) (s .place) _ (is-made (c .before .before .before .before)) (c .before .before .if1 .left ∙ c .before .before .before .length .ensures) (omega (arith, fb, c .before .before .if1 .left))
+    ∙ not-good (s .r) (s .m) (s .readings .now) (s .bytes) (s .place) _
+    (is-made (c .before .before .before .before)) (c .before .before .if1 .left ∙ c .before .before .before .length .ensures)
+    (omega (arith, fb, c .before .before .if1 .left))
 
 returns-4 : tie.Need-returns-4
 returns-4 c =
     let s = c .before .before .before .before .before .before .before .before .before .args in
-    no-room (s .r) (s .m) (s .readings .now) (s .bytes) (s .place) _ (is-made (c .before .before .before .before .before)) (c .before .before .before .if1 .left ∙ c .before .before .before .before .length .ensures)
+    no-room (s .r) (s .m) (s .readings .now) (s .bytes) (s .place) _
+    (is-made (c .before .before .before .before .before)) (c .before .before .before .if1 .left ∙ c .before .before .before .before .length .ensures)
     (omega (arith, c .before .before .first-bad-record-reading .ensures, c .before .before .before .if1 .left)) (omega arith)
 
 part-length-requires : tie.Need-part-length-requires
@@ -74,14 +72,20 @@ add-if4 c = omega (arith, part-small _ (sound (c .before .before .before .before
 returns-5 : tie.Need-returns-5
 returns-5 c =
     let s = c .before .before .before .before .before .before .before .before .before .before .before .args in
-    no-room (s .r) (s .m) (s .readings .now) (s .bytes) (s .place) _ (is-made (c .before .before .before .before .before .before .before)) (c .before .before .before .before .before .if1 .left ∙ c .before .before .before .before .before .before .length .ensures)
-    (omega (arith, c .before .before .before .before .first-bad-record-reading .ensures, c .before .before .before .before .before .if1 .left)) (omega (arith, c .before .part-length .ensures))
+    no-room (s .r) (s .m) (s .readings .now) (s .bytes) (s .place) _
+    (is-made (c .before .before .before .before .before .before .before))
+    (c .before .before .before .before .before .if1 .left ∙ c .before .before .before .before .before .before .length .ensures)
+    (omega (arith, c .before .before .before .before .first-bad-record-reading .ensures, c .before .before .before .before .before .if1 .left))
+    (omega (arith, c .before .part-length .ensures))
 
 returns-6 : tie.Need-returns-6
 returns-6 c =
     let s = c .before .before .before .before .before .before .before .before .before .before .before .args in
-    may-write (s .r) (s .m) (s .readings .now) (s .bytes) (s .place) _ (is-made (c .before .before .before .before .before .before .before)) (c .before .before .before .before .before .if1 .left ∙ c .before .before .before .before .before .before .length .ensures)
-    (omega (arith, c .before .before .before .before .first-bad-record-reading .ensures, c .before .before .before .before .before .if1 .left)) (omega (arith, c .before .part-length .ensures))
+    may-write (s .r) (s .m) (s .readings .now) (s .bytes) (s .place) _
+    (is-made (c .before .before .before .before .before .before .before))
+    (c .before .before .before .before .before .if1 .left ∙ c .before .before .before .before .before .before .length .ensures)
+    (omega (arith, c .before .before .before .before .first-bad-record-reading .ensures, c .before .before .before .before .before .if1 .left))
+    (omega (arith, c .before .part-length .ensures))
 
 pub writable-spec : {M : Type 1} → statement M
 writable-spec =

@@ -1,24 +1,18 @@
 -- `record::write` meets its contract: the tests, and then the record in the part of the buffer that is lent for it.
 use mathlib.Core.Path.{_≡_, ap, _∙_, sym}
-use mathlib.Core.List.{List}
-use Prim.Native.Nat.{ℕ, _+_, _-_, _≤_}
+use Prim.Native.Nat.{_+_, _-_, _≤_}
 use native.Mathlib.Omega.{arith}
 use lib.ListN.{length}
 use borrow.Rule.Slice.PartMut.{mid-len}
 use Rattle.code.specs.declared.Admitted.{Admitted}
-use Rattle.record.specs.Layout.{recordOf}
-use Rattle.record.specs.LayoutLaws.{length-record}
+use Rattle.packing.specs.Layout.{recordOf}
+use Rattle.packing.specs.LayoutLaws.{length-record}
 use Rattle.record.specs.ReaderLaws.{part-small}
 use Rattle.record.specs.Writing.{writtenBy, writing}
 use Rattle.record.specs.WritingLaws.{Writable, allowed-writable, wrote}
 use borrow.Author.Needs.{needs}
 use Rattle.record.proofs.write.Statement.{statement}
 use Rattle.record.proofs.write.Tie as tie
-use Rattle.record.proofs.write.Reads as reads
-use Rattle.record.proofs.write.Lts as lts
-use Rattle.record.proofs.part_length.Reads as part-length-reads
-use Rattle.record.proofs.put_record.Reads as put-record-reads
-use Rattle.record.proofs.writable.Reads as writable-reads
 
 writable-requires : tie.Need-writable-requires
 writable-requires c κs = search needs
@@ -27,18 +21,21 @@ enum-known-code : tie.Need-enum-known-code
 enum-known-code c = search needs
 
 -- none of the tests applies
-fine : (c : tie.After-known-told)
-    → Writable (c .before .before .before .before .before .args .r) (c .before .before .before .before .before .args .m) (c .before .before .before .before .before .args .readings .now) (length (c .before .before .before .before .before .args .buffer .now)) (c .before .before .before .before .before .args .place) (c .before .code .given .0 .0)
+fine : (c : tie.After-known-told) → let g = c .before .before .before .before .before .args in
+    Writable (g .r) (g .m) (g .readings .now) (length (g .buffer .now)) (g .place) (c .before .code .given .0 .0)
 fine c = allowed-writable _ _ _ _ _ _ (sym (c .before .code .given .1) ∙ c .before .before .before .writable .ensures)
 
 -- the record's bytes: as many as it has, and within the buffer
 module _ (c : tie.After-part-length) where
-  size : length (recordOf (c .before .before .code .given .0 .0 .r) (c .before .before .code .given .0 .0 .m) (c .before .before .before .before .before .before .args .readings .now)) ≡ 1 + c .part-length .result
+  size : let code = c .before .before .code .given .0 .0 in
+      length (recordOf (code .r) (code .m) (c .before .before .before .before .before .before .args .readings .now)) ≡ 1 + c .part-length .result
   size =
       let code = c .before .before .code .given .0 .0 in
-      omega (arith, length-record (code .r) (code .m) (c .before .before .before .before .before .before .args .readings .now) (fine (c .before) .long), c .part-length .ensures)
+      let l = c .before .before .before .before .before .before .args .readings .now in
+      omega (arith, length-record (code .r) (code .m) l (fine (c .before) .long), c .part-length .ensures)
 
-  within : c .before .before .before .before .before .before .args .place + (1 + c .part-length .result) ≤ length (c .before .before .before .before .before .before .args .buffer .now)
+  within : let g = c .before .before .before .before .before .before .args in
+      g .place + (1 + c .part-length .result) ≤ length (g .buffer .now)
   within = omega (arith, fine (c .before) .room, c .part-length .ensures)
 
 part-length-requires : tie.Need-part-length-requires
@@ -78,15 +75,18 @@ unfolding writing
 returns c =
     let g = c .before .before .before .before .before .before .before .before .before .before .args in
     let put = c .before .before .put-record in
-    wrote (c .before .before .before .before .before .before .code .given .0 .0) (g .readings .now) (g .buffer .now) (put .last .1 .1 .0) (g .place) (1 + c .before .before .before .before .part-length .result) (put .ensures)
+    wrote (c .before .before .before .before .before .before .code .given .0 .0) (g .readings .now) (g .buffer .now) (put .last .1 .1 .0) (g .place)
+    (1 + c .before .before .before .before .part-length .result) (put .ensures)
     (ap length (put .ensures) ∙ size (c .before .before .before .before))
-    ∙ ap (λ (a : Admitted). writtenBy a (g .readings .now) (g .buffer .now) (g .place)) (sym (c .before .before .before .before .before .before .code .given .1) ∙ c .before .before .before .before .before .before .before .before .writable .ensures)
+    ∙ ap (λ (a : Admitted). writtenBy a (g .readings .now) (g .buffer .now) (g .place))
+    (sym (c .before .before .before .before .before .before .code .given .1) ∙ c .before .before .before .before .before .before .before .before .writable .ensures)
 
 returns-2 : tie.Need-returns-2
 unfolding writing
 returns-2 c =
     let g = c .before .before .before .before .before .args in
-    ap (λ (a : Admitted). writtenBy a (g .readings .now) (g .buffer .now) (g .place)) (sym (c .before .why .given .1) ∙ c .before .before .before .writable .ensures)
+    ap (λ (a : Admitted). writtenBy a (g .readings .now) (g .buffer .now) (g .place))
+    (sym (c .before .why .given .1) ∙ c .before .before .before .writable .ensures)
 
 pub write-spec : {M : Type 1} → statement M
 write-spec =
