@@ -32,7 +32,8 @@ top-pair l h j long more =
 -- ---- what is stored, whichever row l of 2h whole numbers is read
 module _ (d s : List Float) (l : List ℤ) (h j : ℕ) (x y : ℤ) (v : Float) (room : h + h ≤ length d) (long : length l ≡ h + h) (more : j < h)
     (pair : Pair h j l x y) where
-  pub lower-stored : wholes s ≡ paste (wholes d) h (lowerRow h l) j → wholeOf v ≡ lower x y → wholes (set s (h + j) v) ≡ paste (wholes d) h (lowerRow h l) (j + 1)
+  pub lower-stored : wholes s ≡ paste (wholes d) h (lowerRow h l) j → wholeOf v ≡ lower x y
+      → wholes (set s (h + j) v) ≡ paste (wholes d) h (lowerRow h l) (j + 1)
   lower-stored is e =
       wholes-set s (h + j) v ∙ lower-turn (wholes d) (wholes s) l h j x y (wholeOf v) (rw (length-wholes d) room) long more pair is e
 

@@ -43,8 +43,9 @@ loop-less c = omega arith
 
 loop-again : tie.Need-loop-again Inv-loop μ-loop
 loop-again c =
-    let g = c .before .before .before .before .before .before .before .before .before .before .before .before .before .before .before .before .before .before .before .before in
-    let o = c .before .before .before .before .before .before .before .before .loop in
+    let turn = c .before .before .before .before .before .before .before .before in
+    let g = turn .before .before .before .before .before .before .before .before .before .before .before .before in
+    let o = turn .loop in
     let a = c .before .before .before .before .row in
     let r = turn-ready (g .pre .3) (o .inv .0) (omega arith) (o .inv .3) in
     let more : suc (o .t - 1) < g .args .m = omega (arith, g .pre .3 .some, o .inv .0) in (
@@ -61,7 +62,9 @@ same-length c =
     omega (arith, o .inv .1 .long-rows, g .pre .1 .long-rows, length-wholes (o .rows), length-wholes (g .args .rows .now))
 
 same-length-2 : tie.Need-same-length-2 Inv-loop μ-loop
-same-length-2 c = c .before .loop .inv .2 ∙ sym (c .before .before .before .before .before .before .before .before .before .before .before .before .before .pre .2)
+same-length-2 c =
+    let g = c .before .before .before .before .before .before .before .before .before .before .before .before .before in
+    c .before .loop .inv .2 ∙ sym (g .pre .2)
 
 returns : tie.Need-returns Inv-loop μ-loop
 returns c =

@@ -20,7 +20,8 @@ make-rows-requires : tie.Need-make-rows-requires
 make-rows-requires c κs =
     let t = c .before .before .before .before .top in
     let start = c .before .before .before .before .before .before in
-    (omega arith, value-arrays (start .pre) (omega (arith, length-wholes (start .args .rows .now))) (omega arith), omega arith, first-ready (start .pre) (t .ensures))
+    let arrays = value-arrays (start .pre) (omega (arith, length-wholes (start .args .rows .now))) (omega arith) in
+    (omega arith, arrays, omega arith, first-ready (start .pre) (t .ensures))
 
 element-copy-out-result-2 : tie.Need-element-copy-out-result-2
 element-copy-out-result-2 c = search needs

@@ -60,7 +60,8 @@ pair : (c : tie.After-slice-known3 Inv-loop μ-loop)
     → let o = c .before .before .before .loop in
     let g = c .before .before .before .before .before in
     let h = g .args .h in
-    Pair h (o .j) (rowOf (h + h) (wholes (g .args .rows .now))) (wholeOf (getD (o .rows) (h + h + o .j) nan)) (wholeOf (getD (o .rows) (h + h + (h + o .j)) nan))
+    Pair h (o .j) (rowOf (h + h) (wholes (g .args .rows .now)))
+    (wholeOf (getD (o .rows) (h + h + o .j) nan)) (wholeOf (getD (o .rows) (h + h + (h + o .j)) nan))
 pair c =
     let o = c .before .before .before .loop in
     let g = c .before .before .before .before .before in

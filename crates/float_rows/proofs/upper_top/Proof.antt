@@ -89,7 +89,8 @@ loop-again c =
     let d = g .args .rows .now in (
       omega arith,
       upper-stored d (o .rows) _ h (o .j) _ _ (c .upper .result)
-          (omega arith) (length-wholes (g .args .readings .now) ∙ g .pre .0) (omega arith) (pair (c .before)) (g .args .word .now) (g .pre .2) (o .inv .1) (c .upper .ensures),
+          (omega arith) (length-wholes (g .args .readings .now) ∙ g .pre .0) (omega arith) (pair (c .before))
+          (g .args .word .now) (g .pre .2) (o .inv .1) (c .upper .ensures),
       length-set (o .rows) _ _ ∙ o .inv .2,
     )
 
