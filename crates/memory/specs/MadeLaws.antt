@@ -90,15 +90,19 @@ made-remade (suc t) {y = y} {l = l} {s = s} h long path room f =
 pub made-all : {m i : ℕ} {y : List ℕ} {l s : List ℤ} → Made m l y i 0 s → Stands m l y i i s
 made-all f = record { stands = λ t h k. f .made t (omega arith) h }
 
--- the value as the machine reads it
-pub last-row : {m i : ℕ} {y : List ℕ} {l s : List ℤ} → 0 < m → i < 2 ^ m → i ≤ length y → sizes l < sumLimit → Made m l y i 0 s
-    → toZ w32 (ofZ w32 (getD s 1 (pos 0))) ≡ value m l (take i y)
-last-row {m} {i} {y} {l} {s} more h path small f =
+-- the value stands in the last row
+pub last-entry : {m i : ℕ} {y : List ℕ} {l s : List ℤ} → 0 < m → i < 2 ^ m → i ≤ length y → Made m l y i 0 s → getD s 1 (pos 0) ≡ value m l (take i y)
+last-entry {m} {i} {y} {l} {s} more h path f =
     let none : m - 0 ≡ m = omega arith in
     let row : rowOf 1 s ≡ rowAt m i y l m = f .made 0 (omega arith) (omega arith) ∙ ap (rowAt m i y l) none in
-    let e : value m l (take i y) ≡ getD s 1 (pos 0) =
-    value-row m i y l h path ∙ ap (λ (k : List ℤ). getD k 0 (pos 0)) (sym row) ∙ getD-take 1 (drop 1 s) 0 (pos 0) (omega arith) ∙ getD-drop 1 s 0 (pos 0) in
-    ap (λ (z : ℤ). toZ w32 (ofZ w32 z)) (sym e) ∙ toZ-ofZ {w = w32} (fits-size (value m l (take i y)) (omega (arith, value-sizes m l (take i y))))
+    sym (value-row m i y l h path ∙ ap (λ (k : List ℤ). getD k 0 (pos 0)) (sym row) ∙ getD-take 1 (drop 1 s) 0 (pos 0) (omega arith) ∙ getD-drop 1 s 0 (pos 0))
+
+-- as the machine reads it
+pub last-row : {m i : ℕ} {y : List ℕ} {l s : List ℤ} → 0 < m → i < 2 ^ m → i ≤ length y → sizes l < sumLimit → Made m l y i 0 s
+    → toZ w32 (ofZ w32 (getD s 1 (pos 0))) ≡ value m l (take i y)
+last-row {m} {i} {y} {l} more h path small f =
+    ap (λ (z : ℤ). toZ w32 (ofZ w32 z)) (last-entry more h path f)
+    ∙ toZ-ofZ {w = w32} (fits-size (value m l (take i y)) (omega (arith, value-sizes m l (take i y))))
 
 -- ---- rows that stand for another index
 pub still-made : {m j i t : ℕ} {y : List ℕ} {l s : List ℤ} → Top m j i t → Stands m l y j (i - 1) s → Made m l y i (suc t) s

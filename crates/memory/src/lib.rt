@@ -14,7 +14,7 @@ ghost use Rattle.memory.specs.Memory.{below, newRow, remade, Arrays, Mad
 ghost use Rattle.memory.specs.Memory.{Highest, LowReady, RowsReady, Top, ValueReady};
 
 // 2^m, the length of a row.
-fn power(m: usize) -> usize
+pub fn power(m: usize) -> usize
     requires { ⌜ 2 ^ m ≤ 256 ⌝ }
     ensures { λ n. ⌜ n ≡ 2 ^ m ⌝ }
 {
@@ -44,7 +44,7 @@ fn greater(a: usize, b: usize) -> usize
 
 // Of the rows that stand for index was, the highest that has to be made again for index i: of a
 // block that does not hold both, or that starts at i, where a bit may have changed before it.
-fn top(m: usize, was: usize, i: usize) -> usize
+pub fn top(m: usize, was: usize, i: usize) -> usize
     requires { ⌜ (0 < m) × (2 ^ m ≤ 256) × (was < 2 ^ m) × (i < 2 ^ m) ⌝ }
     ensures { λ t. ⌜ Top m was i t ⌝ }
 {
@@ -52,7 +52,7 @@ fn top(m: usize, was: usize, i: usize) -> usize
 }
 
 // The word of the h bits that end before e.
-fn left_word(path: &[u8], word: &mut [u8], e: usize, h: usize, t: usize)
+pub fn left_word(path: &[u8], word: &mut [u8], e: usize, h: usize, t: usize)
     requires { ⌜ (h ≤ e) × (e ≤ length (now path)) × (h ≤ length (now word)) × (h ≡ 2 ^ t)
         × Bits (now path) ⌝ }
     ensures { λ _. ⌜ take h (now (word .exit))

@@ -36,6 +36,12 @@ greater-first (negsuc x) (pos y) e = absurd (true≢false e)
 greater-first (negsuc x) (negsuc y) e = ap negsuc (omega (arith, ltb-false y x e))
 
 -- ---- sizes
+pub size-lesser : (x y : ℤ) (n : ℕ) → natAbs x < n → natAbs y < n → natAbs (lesser x y) < n
+size-lesser (pos x) (pos y) n h k = omega arith
+size-lesser (pos x) (negsuc y) n h k = k
+size-lesser (negsuc x) (pos y) n h k = h
+size-lesser (negsuc x) (negsuc y) n h k = omega arith
+
 pub size-greater : (x y : ℤ) (n : ℕ) → natAbs x < n → natAbs y < n → natAbs (greater x y) < n
 size-greater (pos x) (pos y) n h k = omega arith
 size-greater (pos x) (negsuc y) n h k = h

@@ -1,16 +1,17 @@
--- Laws of the loops that fill a row: what a turn reads and what it stores, whichever list l of 2h entries it reads.
-use mathlib.Core.Path.{_≡_, ap, ap₂, sym, _∙_}
+-- Laws of the steps on a pair, and of the loops that fill a row: what a turn reads and what it stores, whichever list l of 2h entries it reads.
+use mathlib.Core.Path.{_≡_, refl, ap, ap₂, sym, _∙_}
 use mathlib.Core.List.{List}
-use Prim.Native.Nat.{ℕ, _+_, _-_, _^_, _≤_, _<_}
+use Prim.Native.Nat.{ℕ, zero, suc, _+_, _-_, _^_, _≤_, _<_}
 use native.Mathlib.Omega.{arith}
 use native.Mathlib.Numerals.{add-one}
-use lib.IntN.{ℤ, pos, negsuc, natAbs}
+use lib.IntN.{ℤ, pos, negsuc, natAbs, _-ℤ_}
 use lib.ListN.{length, getD, set, take, drop, take-append-drop, length-drop}
 use lib.Seq.{paste, paste-suc, drop-paste, getD-take, getD-drop, length-take-le}
 use mir.Syntax.{w16, w32}
 use mir.Val.{SFits, toZ, ofZ}
 use mir.Facts.{toZ-ofZ, sfits-widen}
-use Rattle.decoding.specs.Readings.{sizes}
+use Rattle.numbers.specs.Parts.{up}
+use Rattle.decoding.specs.Readings.{loss, sizes}
 use Rattle.decoding.specs.Quick.{lower, upper, lowerRow, upperRow}
 use Rattle.decoding.specs.StepLaws.{entry-sizes, sizes-append, length-lowerRow, length-upperRow, getD-lowerRow, getD-upperRow}
 use Rattle.rows.specs.Rows.{rowOf}
@@ -19,6 +20,15 @@ use Rattle.rows.specs.Rows.{rowOf}
 pub record Pair (h j : ℕ) (l : List ℤ) (x y : ℤ) : Type 0 where
   pub first : x ≡ getD l j (pos 0)
   pub second : y ≡ getD l (h + j) (pos 0)
+
+-- ---- the steps by a bit that is not 0
+pub upper-one : (x y : ℤ) (a : ℕ) → (a ≡ 0 → ⊥) → y -ℤ x ≡ upper x y a
+upper-one x y zero h = absurd (h refl)
+upper-one x y (suc a) h = refl
+
+pub loss-of-one : (v : ℤ) (b : ℕ) → (b ≡ 0 → ⊥) → loss v b ≡ up v
+loss-of-one v zero h = absurd (h refl)
+loss-of-one v (suc b) h = refl
 
 -- ---- sizes
 pub pair-sizes : (h j : ℕ) (l : List ℤ) (x y : ℤ) → Pair h j l x y → j < h → natAbs x + natAbs y ≤ sizes l
@@ -32,17 +42,21 @@ pub length-rowOf : (n : ℕ) (s : List ℤ) → n + n ≤ length s → length (r
 length-rowOf n s room = length-take-le n (drop n s) (simp length-drop (omega arith))
 
 -- of the array d, whose row of h sums becomes x and has j of them: the row above is as it was
-pub row-read : (d x s : List ℤ) (h j i : ℕ) → h + h + (h + h) ≤ length d → length x ≡ h → s ≡ paste d h x j → j < h → i < h + h
-    → SFits w32 (getD s (h + h + i) (pos 0)) → toZ w32 (ofZ w32 (getD s (h + h + i) (pos 0))) ≡ getD (rowOf (h + h) d) i (pos 0)
-row-read d x s h j i room long is more below fits =
+pub row-entry : (d x s : List ℤ) (h j i : ℕ) → h + h + (h + h) ≤ length d → length x ≡ h → s ≡ paste d h x j → j < h → i < h + h
+    → getD s (h + h + i) (pos 0) ≡ getD (rowOf (h + h) d) i (pos 0)
+row-entry d x s h j i room long is more below =
     let e : h + h + i ≡ h + j + (h - j + i) = omega arith in
-    toZ-ofZ fits
-    ∙ ap₂ (λ (l : List ℤ) (k : ℕ). getD l k (pos 0)) is e
+    ap₂ (λ (l : List ℤ) (k : ℕ). getD l k (pos 0)) is e
     ∙ sym (getD-drop (h + j) (paste d h x j) (h - j + i) (pos 0))
     ∙ ap (λ (l : List ℤ). getD l (h - j + i) (pos 0)) (drop-paste d h x j (omega arith) (omega arith))
     ∙ getD-drop (h + j) d (h - j + i) (pos 0)
     ∙ ap (λ (k : ℕ). getD d k (pos 0)) (sym e)
     ∙ sym (getD-take (h + h) (drop (h + h) d) i (pos 0) below ∙ getD-drop (h + h) d i (pos 0))
+
+-- as the machine reads it
+pub row-read : (d x s : List ℤ) (h j i : ℕ) → h + h + (h + h) ≤ length d → length x ≡ h → s ≡ paste d h x j → j < h → i < h + h
+    → SFits w32 (getD s (h + h + i) (pos 0)) → toZ w32 (ofZ w32 (getD s (h + h + i) (pos 0))) ≡ getD (rowOf (h + h) d) i (pos 0)
+row-read d x s h j i room long is more below fits = toZ-ofZ fits ∙ row-entry d x s h j i room long is more below
 
 -- a reading of 16 bits, as a number of 32
 pub reading-fits : {z : ℤ} → SFits w16 z → SFits w32 (toZ w16 (ofZ w16 z))

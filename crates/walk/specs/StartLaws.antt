@@ -1,8 +1,9 @@
 -- Where the walk starts, and what its first step gives.
 use mathlib.Core.Path.{_≡_, refl, sym, subst}
 use mathlib.Core.List.{List}
-use Prim.Native.Nat.{ℕ, _-_, _^_, zero-le}
+use Prim.Native.Nat.{ℕ, _-_, _*_, _%_, _^_, _≤_, zero-le}
 use native.Mathlib.Omega.{arith}
+use native.Mathlib.Nat.{one-mul, mod-eq-of-lt}
 use lib.IntN.{ℤ}
 use lib.ListN.{length, set, take, replicate}
 use lib.Pow.{pow-pos}
@@ -11,6 +12,10 @@ use Rattle.decoding.specs.Walk.{addedBy}
 use Rattle.memory.specs.Memory.{Stands}
 use Rattle.memory.specs.StandsLaws.{stands-none}
 use Rattle.walk.specs.Progress.{seen, none-yet, AreBits, StepAsked, StepGiven, Walkable, Walked}
+
+-- 2^m as the machine shifts it
+pub power-is : (m : ℕ) → 2 ^ m ≤ 256 → (1 * 2 ^ m) % 4294967296 ≡ 2 ^ m
+power-is m h = rw one-mul (mod-eq-of-lt (omega (arith, h)))
 
 -- the eight numbers at the start, n is 2^m
 abbrev pub begun : ℕ → ℕ → ℕ → List ℕ → List ℕ

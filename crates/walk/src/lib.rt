@@ -17,7 +17,7 @@ ghost use Rattle.walk.specs.Progress.{drops, seen, standing};
 ghost use Rattle.walk.specs.Progress.{Finished, Shows, StepAsked, StepGiven, Visited};
 ghost use Rattle.walk.specs.Progress.{ValueAsked, ValueGiven, Walkable, Walked};
 
-fn wide(x: u32) -> usize
+pub fn wide(x: u32) -> usize
     ensures { λ r. ⌜ r ≡ x ⌝ }
 {
     x as usize
@@ -31,7 +31,7 @@ fn next(visits: u32, allowed: u32) -> u32
 }
 
 // One visit more, or out: tested before it is counted, so that no allowance wraps.
-fn visit(state: &mut [u32; 8]) -> bool
+pub fn visit(state: &mut [u32; 8]) -> bool
     requires { ⌜ length (now state) ≡ 8 ⌝ }
     ensures { λ r. ⌜ Visited (now (state .entry)) r (now (state .exit)) ⌝ }
 {
@@ -53,7 +53,7 @@ fn dropped(state: &[u32; 8], penalty: u32) -> bool
 }
 
 // The rows are made for index i now.
-fn stands(state: &mut [u32; 8], i: usize) -> usize
+pub fn stands(state: &mut [u32; 8], i: usize) -> usize
     requires { ⌜ (length (now state) ≡ 8) × (i < 256) ⌝ }
     ensures { λ r. ⌜ (r ≡ getD (now (state .entry)) 5 0)
         × Shows (now (state .exit)) (standing i (seen (now (state .entry)))) ⌝ }
@@ -64,7 +64,7 @@ fn stands(state: &mut [u32; 8], i: usize) -> usize
 }
 
 // The path has all its bits.
-fn full(state: &[u32; 8], i: usize) -> bool
+pub fn full(state: &[u32; 8], i: usize) -> bool
     requires { ⌜ 2 ^ getD (now state) 6 0 ≤ 256 ⌝ }
     ensures { λ r. ⌜ r ≡ eqb i (2 ^ getD (now (state .entry)) 6 0) ⌝ }
 {
@@ -72,7 +72,7 @@ fn full(state: &[u32; 8], i: usize) -> bool
     i == 1usize << m
 }
 
-fn put(path: &mut [u8; 256], i: usize, bit: u8)
+pub fn put(path: &mut [u8; 256], i: usize, bit: u8)
     requires { ⌜ i < 256 ⌝ }
     ensures { λ _. ⌜ now (path .exit) ≡ set (now (path .entry)) i bit ⌝ }
 {
@@ -94,7 +94,7 @@ fn copy_front(from: &[u8], to: &mut [u8], n: usize)
 }
 
 // The first n bytes.
-fn copy(from: &[u8; 256], to: &mut [u8; 256], n: usize)
+pub fn copy(from: &[u8; 256], to: &mut [u8; 256], n: usize)
     requires { ⌜ n ≤ 256 ⌝ }
     ensures { λ _. ⌜ take n (now (to .exit)) ≡ take n (now (from .entry)) ⌝ }
 {

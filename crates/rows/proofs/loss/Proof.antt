@@ -1,20 +1,15 @@
 -- `rows::loss` meets its contract.
-use mathlib.Core.Path.{_≡_, refl}
-use Prim.Native.Nat.{ℕ, zero, suc}
+use mathlib.Core.Path.{_≡_}
 use native.Mathlib.Omega.{arith}
 use lib.Dec.{T}
 use lib.Signed.{nonNeg}
 use lib.IntN.{ℤ, pos, negsuc, _-ℤ_, negℤ}
 use mir.Facts.{toZ-ofZ}
-use Rattle.numbers.specs.Parts.{up, down}
+use Rattle.numbers.specs.Parts.{down}
 use Rattle.numbers.specs.PartsLaws.{parts, sum-parts, negated, less-parts, not-less-parts, fits-size}
-use Rattle.decoding.specs.Readings.{loss}
+use Rattle.rows.specs.RowLaws.{loss-of-one}
 use Rattle.rows.proofs.loss.Statement.{statement}
 use Rattle.rows.proofs.loss.Tie as tie
-
-loss-of-one : (v : ℤ) (b : ℕ) → (b ≡ 0 → ⊥) → loss v b ≡ up v
-loss-of-one v zero h = absurd (h refl)
-loss-of-one v (suc b) h = refl
 
 non-negative : (v : ℤ) → down v ≡ 0 → T (nonNeg v)
 non-negative (pos n) h = tt

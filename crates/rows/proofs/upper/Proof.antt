@@ -1,11 +1,9 @@
 -- `rows::upper` meets its contract.
-use mathlib.Core.Path.{_≡_, refl}
-use Prim.Native.Nat.{ℕ, zero, suc}
 use native.Mathlib.Omega.{arith}
-use lib.IntN.{ℤ, _+ℤ_, _-ℤ_, negℤ}
+use lib.IntN.{_+ℤ_, _-ℤ_, negℤ}
 use mir.Facts.{toZ-ofZ}
 use Rattle.numbers.specs.PartsLaws.{parts, sum-parts, negated, fits-size}
-use Rattle.decoding.specs.Quick.{upper}
+use Rattle.rows.specs.RowLaws.{upper-one}
 use Rattle.rows.proofs.upper.Statement.{statement}
 use Rattle.rows.proofs.upper.Tie as tie
 
@@ -22,10 +20,6 @@ sub-result c =
     let x = s .args .x in
     let y = s .args .y in
     rw (toZ-ofZ (s .fits .x), toZ-ofZ (s .fits .y)) (fits-size _ (omega (arith, parts x, parts y, parts (y -ℤ x), negated x, sum-parts y (negℤ x))))
-
-upper-one : (x y : ℤ) (a : ℕ) → (a ≡ 0 → ⊥) → y -ℤ x ≡ upper x y a
-upper-one x y zero h = absurd (h refl)
-upper-one x y (suc a) h = refl
 
 returns : tie.Need-returns
 returns c =

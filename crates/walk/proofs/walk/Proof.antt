@@ -1,20 +1,15 @@
 -- `walk`: the first step is asked and gives what the whole walk does; no row stands yet.
-use mathlib.Core.Path.{_≡_}
-use Prim.Native.Nat.{ℕ, _*_, _%_, _^_, _≤_}
+use Prim.Native.Nat.{ℕ, _*_, _%_, _^_}
 use native.Mathlib.Omega.{arith}
-use native.Mathlib.Nat.{one-mul, mod-eq-of-lt}
 use lib.IntN.{pos}
 use lib.ListN.{replicate, length-replicate}
 use lib.Pow.{pow-pos}
 use Rattle.memory.specs.TopLaws.{exponent-small}
 use Rattle.words.specs.TransformLaws.{bits-zeros}
-use Rattle.walk.specs.StartLaws.{start-asked, start-given}
+use Rattle.walk.specs.StartLaws.{power-is, start-asked, start-given}
 use borrow.Author.Needs.{needs}
 use Rattle.walk.proofs.walk.Statement.{statement}
 use Rattle.walk.proofs.walk.Tie as tie
-
-power-is : (m : ℕ) → 2 ^ m ≤ 256 → (1 * 2 ^ m) % 4294967296 ≡ 2 ^ m
-power-is m h = rw one-mul (mod-eq-of-lt (omega (arith, h)))
 
 element-write-state : tie.Need-element-write-state
 element-write-state c = search needs
