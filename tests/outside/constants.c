@@ -42,13 +42,14 @@ static void readings_of_every_call(void) {
     for (size_t v = 0; v < sizeof values / sizeof values[0]; v++)
         for (size_t at = 0; at < 32; at++) {
             int16_t l[32], out[32];
+            uint8_t second[256];
             int size = values[v] < 0 ? -values[v] : values[v];
             for (int j = 0; j < 32; j++) l[j] = (int16_t)random_between(-CINORBIS_LARGEST_RECORD_READING, CINORBIS_LARGEST_RECORD_READING);
             l[at] = (int16_t)values[v];
             uint32_t given[6] = {
-                cinorbis_search(1, 5, l, 32, bits, 6, word, 32, &n[0]),        cinorbis_quick(1, 5, l, 32, bits, 6, word, 32, &n[1]),
-                cinorbis_early(1, 5, l, 32, bits, 6, word, 32, &n[2]),         cinorbis_first_order(1, 5, l, 32, bits, 6, word, 32, &n[3]),
-                cinorbis_reorder(5, table, 25, row, 5, l, 32, out, 32, &n[4]), cinorbis_telegram_read(l, 32, &telegram, &n[5]),
+                cinorbis_search(1, 5, l, 32, bits, 6, word, 32, second, &n[0]), cinorbis_quick(1, 5, l, 32, bits, 6, word, 32, &n[1]),
+                cinorbis_early(1, 5, l, 32, bits, 6, word, 32, &n[2]),          cinorbis_first_order(1, 5, l, 32, bits, 6, word, 32, &n[3]),
+                cinorbis_reorder(5, table, 25, row, 5, l, 32, out, 32, &n[4]),  cinorbis_telegram_read(l, 32, &telegram, &n[5]),
             };
             for (int c = 0; c < 6; c++)
                 CHECK(size > CINORBIS_LARGEST_READING ? given[c] == CINORBIS_ENTRY && n[c].place == at : given[c] != CINORBIS_ENTRY,
