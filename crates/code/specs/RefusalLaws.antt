@@ -5,7 +5,7 @@ use Prim.Native.Nat.{ℕ, _<_}
 use native.Mathlib.Omega.{arith}
 use lib.Dec.{eqb}
 use Rattle.code.specs.declared.Refusal.{Refusal}
-use Rattle.code.specs.declared.Refusal.the-variants.{Parameters, InputLength, OutputLength, Entry, NotAWord, OutOfVisits, Tied, Torn, Pad, Map}
+use Rattle.code.specs.declared.Refusal.the-variants.{Parameters, InputLength, OutputLength, Entry, NotAWord, OutOfVisits, Tied, Torn, Pad, NoEntry, Map}
 use Rattle.code.specs.Sound.{Carried, carrying, carried, numberOf}
 
 -- the refusal of a number that carries these values
@@ -19,7 +19,8 @@ refusalOf c =
     (cond (eqb (c .number) 6) (OutOfVisits (c .visits))
     (cond (eqb (c .number) 7) (Tied (c .penalty) (c .visits))
     (cond (eqb (c .number) 8) Torn
-    (cond (eqb (c .number) 9) Pad Map))))))))
+    (cond (eqb (c .number) 9) Pad
+    (cond (eqb (c .number) 10) NoEntry Map)))))))))
 
 refusal-is : (why : Refusal) → refusalOf (carried why) ≡ why
 refusal-is Parameters = refl
@@ -31,6 +32,7 @@ refusal-is (OutOfVisits allowed) = refl
 refusal-is (Tied penalty visits) = refl
 refusal-is Torn = refl
 refusal-is Pad = refl
+refusal-is NoEntry = refl
 refusal-is Map = refl
 
 pub refusal-only : (why why′ : Refusal) → carried why ≡ carried why′ → why ≡ why′
@@ -47,6 +49,7 @@ number-above (OutOfVisits allowed) = omega arith
 number-above (Tied penalty visits) = omega arith
 number-above Torn = omega arith
 number-above Pad = omega arith
+number-above NoEntry = omega arith
 number-above Map = omega arith
 
 -- no penalty and no visits but under 6 and 7
@@ -60,4 +63,5 @@ carries-none (OutOfVisits allowed) f g = absurd (f refl)
 carries-none (Tied penalty visits) f g = absurd (g refl)
 carries-none Torn f g = refl
 carries-none Pad f g = refl
+carries-none NoEntry f g = refl
 carries-none Map f g = refl

@@ -6,7 +6,7 @@ use Rattle.code.specs.declared.Code.{Code}
 use Rattle.code.specs.declared.Made.{Made}
 use Rattle.code.specs.declared.Made.the-variants.{Good, Bad}
 use Rattle.code.specs.declared.Refusal.{Refusal}
-use Rattle.code.specs.declared.Refusal.the-variants.{Parameters, InputLength, OutputLength, Entry, NotAWord, OutOfVisits, Tied, Torn, Pad, Map}
+use Rattle.code.specs.declared.Refusal.the-variants.{Parameters, InputLength, OutputLength, Entry, NotAWord, OutOfVisits, Tied, Torn, Pad, NoEntry, Map}
 
 -- the limits; nothing else repeats them
 abbrev pub largestM : ℕ
@@ -55,6 +55,7 @@ carried (OutOfVisits allowed) = carrying 6 0 0 allowed
 carried (Tied penalty visits) = carrying 7 0 penalty visits
 carried Torn = carrying 8 0 0 0
 carried Pad = carrying 9 0 0 0
+carried NoEntry = carrying 10 0 0 0
 carried Map = carrying 11 0 0 0
 
 abbrev pub numberOf : Refusal → ℕ

@@ -38,6 +38,8 @@ pub enum Refusal {
     Tied { penalty: u32, visits: u32 },
     Torn,
     Pad,
+    // no entry of an index, or no record behind the last
+    NoEntry,
     // a map of positions that is not of bits, or that nothing undoes
     Map,
 }
@@ -260,6 +262,7 @@ impl Refusal {
             } => 7,
             Refusal::Torn => 8,
             Refusal::Pad => 9,
+            Refusal::NoEntry => 10,
             Refusal::Map => 11,
         }
     }
@@ -281,6 +284,7 @@ impl Refusal {
             } => 0,
             Refusal::Torn => 0,
             Refusal::Pad => 0,
+            Refusal::NoEntry => 0,
             Refusal::Map => 0,
         }
     }
@@ -299,6 +303,7 @@ impl Refusal {
             Refusal::OutOfVisits(_) => 0,
             Refusal::Torn => 0,
             Refusal::Pad => 0,
+            Refusal::NoEntry => 0,
             Refusal::Map => 0,
         }
     }
@@ -317,6 +322,7 @@ impl Refusal {
             Refusal::NotAWord(_) => 0,
             Refusal::Torn => 0,
             Refusal::Pad => 0,
+            Refusal::NoEntry => 0,
             Refusal::Map => 0,
         }
     }

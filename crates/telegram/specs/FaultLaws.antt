@@ -10,7 +10,7 @@ use borrow.Author.Tests.{lt-ltb, le-ltb, eq-eqb, ne-eqb}
 use Rattle.numbers.specs.Choice.{lt-or-le, cond-by}
 use Rattle.code.specs.Sound.{Carried, carried}
 use Rattle.code.specs.declared.Refusal.{Refusal}
-use Rattle.code.specs.declared.Refusal.the-variants.{Parameters, InputLength, OutputLength, Entry, NotAWord, OutOfVisits, Tied, Torn, Pad, Map}
+use Rattle.code.specs.declared.Refusal.the-variants.{Parameters, InputLength, OutputLength, Entry, NotAWord, OutOfVisits, Tied, Torn, Pad, NoEntry, Map}
 use Rattle.code.specs.RefusalLaws.{refusal-only, number-above}
 use Rattle.telegram.specs.declared.Telegram.{Telegram}
 use Rattle.telegram.specs.declared.Fault.{Fault}
@@ -33,6 +33,7 @@ number-below (OutOfVisits allowed) = omega arith
 number-below (Tied penalty visits) = omega arith
 number-below Torn = omega arith
 number-below Pad = omega arith
+number-below NoEntry = omega arith
 number-below Map = omega arith
 
 abbrev faultNumber : Fault → ℕ
