@@ -35,7 +35,7 @@ static int plain_bits_ok(const uint8_t *bits, size_t n) {
 
 static int plain_readings_ok(const int16_t *l, size_t n) {
     for (size_t i = 0; i < n; i++)
-        if (l[i] < -2047 || l[i] > 2047) return 0;
+        if (l[i] < -32767) return 0; /* 16 bits hold nothing above 32,767 */
     return 1;
 }
 

@@ -66,7 +66,7 @@ static int vector_bits_ok(const uint8_t *bits, size_t n) {
 
 static int vector_readings_ok(const int16_t *l, size_t n) {
     int bad = 0;
-    for (size_t i = 0; i < n; i++) bad |= (l[i] < -2047) | (l[i] > 2047);
+    for (size_t i = 0; i < n; i++) bad |= l[i] < -32767; /* 16 bits hold nothing above 32,767 */
     return !bad;
 }
 

@@ -29,11 +29,12 @@ extern "C" {
 #endif
 
 /* Raised when a call is added or changed. */
-#define CINORBIS_VERSION 10
+#define CINORBIS_VERSION 11
 
 #define CINORBIS_LARGEST_M 8u
-#define CINORBIS_LARGEST_READING 2047
-/* The largest reading of a packed record, whose fields have 12 bits. */
+/* A reading is from -32767 to 32767: of the 16-bit numbers only -32768 is none, and is refused as 4. */
+#define CINORBIS_LARGEST_READING 32767
+/* The largest reading of a packed record, whose fields have 12 bits: the writer refuses what is beyond it as 4. */
 #define CINORBIS_LARGEST_RECORD_READING 2047
 /* What the calls without an allowance of their own allow. A larger one never changes an answer or a tie (7) that was given. */
 #define CINORBIS_DEFAULT_ALLOWANCE 200000u

@@ -9,7 +9,7 @@ import re
 TOP = os.path.join(os.path.dirname(os.path.abspath(__file__)), "..")
 
 # A program has no public function: these say how it runs and what it has told.
-ALSO = [("spec", "crates/cinorbis/specs/Turns.antt", name) for name in ("Ran", "Tells")]
+ALSO = [("spec", "crates/cinorbis/specs/Runs.antt", name) for name in ("Ran", "Tells")]
 
 
 def read(path):

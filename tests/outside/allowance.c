@@ -100,7 +100,7 @@ static void larger_allowances(call *within, const char *name) {
     unsigned long met[2] = {0, 0};
     begin("a larger allowance, %s", name);
     for (int t = 0; t < 2000; t++) {
-        int m = random_below(6), r = random_below(m + 1), loud = t % 3 == 0 ? 1 : 2047;
+        int m = random_below(6), r = random_below(m + 1), loud = t % 3 == 0 ? 1 : LARGEST;
         int16_t l[256];
         for (int j = 0; j < 1 << m; j++) l[j] = (int16_t)random_between(-loud, loud);
         uint32_t allowed = (uint32_t)random_between(0, 400);

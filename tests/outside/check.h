@@ -61,6 +61,10 @@ static inline int random_below(int n) { return (int)(random64() % (uint64_t)n); 
 
 static inline int random_between(int a, int b) { return a + random_below(b - a + 1); }
 
+/* a reading of the rules' whole range (docs/RULES.md, §9), whatever the header says */
+#define LARGEST 32767
+static inline int16_t random_reading(void) { return (int16_t)random_between(-LARGEST, LARGEST); }
+
 /* a buffer with 32 guard bytes on each side, and a copy of what it held */
 #define GUARD 32
 typedef struct {

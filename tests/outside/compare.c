@@ -34,11 +34,11 @@ static void make_readings(int r, int m, int kind, int16_t *l) {
     ref_encode(r, m, bits, x);
     for (int j = 0; j < n; j++) {
         switch (kind) {
-        case 0: l[j] = (int16_t)random_between(-2047, 2047); break;
+        case 0: l[j] = random_reading(); break;
         case 1: l[j] = (int16_t)random_between(-2, 2); break;
         case 2: l[j] = (int16_t)(random_below(3) ? 0 : random_between(-3, 3)); break;
         case 3: l[j] = (int16_t)((x[j] ? -60 : 60) + random_between(-75, 75)); break;
-        case 4: l[j] = (int16_t)(random_below(2) ? 2047 : -2047); break;
+        case 4: l[j] = random_below(2) ? LARGEST : -LARGEST; break;
         default: l[j] = (int16_t)((x[j] ? -1 : 1) * (random_below(12) ? 1 : -1)); break;
         }
     }
@@ -157,6 +157,32 @@ static void exhaustive(int r, int m, int size) {
     end();
 }
 
+/* 256 readings of the largest size: the sums reach 256 * 32,767 = 8,388,352, and a sum or a size of fewer bits would show */
+static void largest_sums(void) {
+    int16_t l[256];
+    answered s;
+    begin("RM(8,8), 256 readings of the largest size, any signs");
+    for (int t = 0; t < 40; t++) {
+        for (int j = 0; j < 256; j++) l[j] = t == 0 ? LARGEST : t == 1 ? -LARGEST : random_below(2) ? LARGEST : -LARGEST;
+        s = run(8, 8, UINT32_MAX, l);
+        CHECK(s.a.refusal == 0 && s.a.penalty == 0 && s.a.gap == LARGEST, "%u, penalty %u, gap %u", s.a.refusal, s.a.penalty, s.a.gap);
+        for (int j = 0; j < 256; j++) CHECK(s.word[j] == (l[j] < 0), "bit %d", j);
+        if (t < 4) against_walk(8, 8, l, 5000);
+        quick_and_encode(8, 8, l);
+    }
+    end();
+    begin("RM(0,8), 256 readings of the largest size: every number of plus signs");
+    for (int plus = 0; plus <= 256; plus++) {
+        int less = plus < 128 ? plus : 256 - plus;
+        for (int j = 0; j < 256; j++) l[j] = j < plus ? LARGEST : -LARGEST;
+        s = run(0, 8, UINT32_MAX, l);
+        CHECK(s.a.refusal == (plus == 128 ? 7u : 0u) && s.a.penalty == (uint32_t)less * LARGEST && s.a.gap == (uint32_t)(256 - 2 * less) * LARGEST,
+              "%d: %u, penalty %u, gap %u", plus, s.a.refusal, s.a.penalty, s.a.gap);
+        quick_and_encode(0, 8, l);
+    }
+    end();
+}
+
 /* an allowance as large as the whole tree is never too small */
 static void whole_tree(int r, int m, const int16_t *l) {
     if (ref_tree(r, m) <= UINT32_MAX && ref_k(r, m) <= 16)
@@ -168,6 +194,7 @@ int main(void) {
     for (int m = 0; m <= 2; m++)
         for (int r = 0; r <= m; r++) exhaustive(r, m, 3);
     for (int r = 0; r <= 3; r++) exhaustive(r, 3, 1);
+    largest_sums();
     for (int m = 0; m <= 8; m++)
         for (int r = 0; r <= m; r++) {
             int k = ref_k(r, m);

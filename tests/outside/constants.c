@@ -15,16 +15,48 @@ static void limits_of_the_code(void) {
     end();
 }
 
+/* all that 16 bits can hold: the header's largest is the largest of them, and only what is below its negative is refused */
 static void largest_reading(void) {
-    static const int sign[2] = {1, -1};
-    begin("largest reading");
-    for (int s = 0; s < 2; s++) {
-        int16_t at = (int16_t)(sign[s] * CINORBIS_LARGEST_READING), past = (int16_t)(at + sign[s]);
-        answer a = search(0, 0, &at, 1, bits, 1, word, 1);
-        CHECK(a.refusal == CINORBIS_DONE && a.gap == CINORBIS_LARGEST_READING, "%d: %u, gap %u", at, a.refusal, a.gap);
-        a = search(0, 0, &past, 1, bits, 1, word, 1);
-        CHECK(a.refusal == CINORBIS_ENTRY, "%d: %u", past, a.refusal);
+    begin("largest reading: every 16-bit number");
+    for (int x = INT16_MIN; x <= INT16_MAX; x++) {
+        int16_t l = (int16_t)x;
+        int size = x < 0 ? -x : x;
+        answer s = search(0, 0, &l, 1, bits, 1, word, 1), q = quick(0, 0, &l, 1, bits, 1, word, 1);
+        if (size > CINORBIS_LARGEST_READING)
+            CHECK(s.refusal == CINORBIS_ENTRY && q.refusal == CINORBIS_ENTRY, "%d: %u, %u", x, s.refusal, q.refusal);
+        else
+            CHECK(s.refusal == (x ? CINORBIS_DONE : CINORBIS_TIED) && s.gap == (uint32_t)size && q.refusal == CINORBIS_DONE && q.penalty == 0,
+                  "%d: %u, %u", x, s.refusal, q.refusal);
     }
+    end();
+}
+
+/* every call on plain readings refuses the same ones, at their place; the writer of records those that 12 bits do not hold */
+static void readings_of_every_call(void) {
+    static const int values[] = {INT16_MIN, -32767, -32766, -2049, -2048, -2047, -1, 1, 2047, 2048, 2049, 32766, 32767};
+    static const uint8_t row[5] = {0}, table[25] = {[0] = 1, [6] = 1, [12] = 1, [18] = 1, [24] = 1};
+    cinorbis_numbers n[6];
+    cinorbis_telegram telegram;
+    cinorbis_written written;
+    begin("the same readings in every call");
+    for (size_t v = 0; v < sizeof values / sizeof values[0]; v++)
+        for (size_t at = 0; at < 32; at++) {
+            int16_t l[32], out[32];
+            int size = values[v] < 0 ? -values[v] : values[v];
+            for (int j = 0; j < 32; j++) l[j] = (int16_t)random_between(-CINORBIS_LARGEST_RECORD_READING, CINORBIS_LARGEST_RECORD_READING);
+            l[at] = (int16_t)values[v];
+            uint32_t given[6] = {
+                cinorbis_search(1, 5, l, 32, bits, 6, word, 32, &n[0]),        cinorbis_quick(1, 5, l, 32, bits, 6, word, 32, &n[1]),
+                cinorbis_early(1, 5, l, 32, bits, 6, word, 32, &n[2]),         cinorbis_first_order(1, 5, l, 32, bits, 6, word, 32, &n[3]),
+                cinorbis_reorder(5, table, 25, row, 5, l, 32, out, 32, &n[4]), cinorbis_telegram_read(l, 32, &telegram, &n[5]),
+            };
+            for (int c = 0; c < 6; c++)
+                CHECK(size > CINORBIS_LARGEST_READING ? given[c] == CINORBIS_ENTRY && n[c].place == at : given[c] != CINORBIS_ENTRY,
+                      "call %d, %d at %zu: %u", c, values[v], at, given[c]);
+            if (given[4] == CINORBIS_DONE) CHECK(memcmp(l, out, sizeof l) == 0, "%d is reordered to another number", values[v]);
+            uint32_t w = cinorbis_write_record(1, 5, 0, l, 32, bytes, sizeof bytes, &written);
+            CHECK(size > CINORBIS_LARGEST_RECORD_READING ? w == CINORBIS_ENTRY && written.place == at : w == CINORBIS_DONE, "written, %d: %u", values[v], w);
+        }
     end();
 }
 
@@ -104,6 +136,7 @@ int main(void) {
     texts();
     limits_of_the_code();
     largest_reading();
+    readings_of_every_call();
     default_allowance();
     largest_record();
     refusals_by_name();

@@ -77,7 +77,7 @@ static void against_brute_force(int r, int m, const int16_t *l) {
 
 /* a word's signs: of one size with some bits wrong; with noise, clipped at the word's size; with noise, not clipped; small; all rims; zeros */
 static void make_readings(int r, int m, int kind, int16_t *l) {
-    int n = 1 << m, size = random_between(1, 300);
+    int n = 1 << m, size = random_between(1, random_below(2) ? 300 : LARGEST / 3 * 2);
     uint8_t bits[256], x[256];
     for (int i = 0; i < 256; i++) bits[i] = (uint8_t)random_below(2);
     ref_encode(r, m, bits, x);
@@ -89,7 +89,7 @@ static void make_readings(int r, int m, int kind, int16_t *l) {
         case 1: l[j] = (int16_t)(sign * (noisy > size ? size : noisy)); break;
         case 2: l[j] = (int16_t)(sign * noisy); break;
         case 3: l[j] = (int16_t)random_between(-2, 2); break;
-        case 4: l[j] = (int16_t)(sign * (random_below(8) ? 2047 : -2047)); break;
+        case 4: l[j] = (int16_t)(sign * (random_below(8) ? LARGEST : -LARGEST)); break;
         default: l[j] = 0; break;
         }
     }
@@ -164,9 +164,8 @@ static void faults(void) {
                 int code = mixture & 1, entry = mixture >> 7, in = off[mixture >> 1 & 3], ob = off[mixture >> 3 & 3], ow = off[mixture >> 5 & 3];
                 int n = 1 << m, k = ref_k(r, m), at = random_below(n);
                 int16_t l[32];
-                for (int j = 0; j < 32; j++) l[j] = (int16_t)random_between(-2047, 2047);
-                if (entry) l[at] = (int16_t)(random_below(2) ? CINORBIS_LARGEST_READING + 1 : INT16_MIN);
-                if (entry) l[31] = INT16_MIN;
+                for (int j = 0; j < 32; j++) l[j] = random_reading();
+                if (entry) l[at] = l[31] = INT16_MIN;
                 uint32_t expected = code ? 1 : in ? 2 : ob || ow ? 3 : entry ? 4 : 0;
                 if (expected == 0) continue;
                 uint32_t R = code ? (uint32_t)m + 1 + (uint32_t)random_below(9) : (uint32_t)r, place = expected == 4 ? (uint32_t)at : 0;

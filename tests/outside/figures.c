@@ -117,15 +117,18 @@ int main(void) {
     end();
 
     begin("rims of readings, r and m");
-    for (int edge = 2046; edge <= 2049; edge++)
+    static const int edges[] = {2047, 2048, 4096, 32766, 32767};
+    for (int e = 0; e < 5; e++)
         for (int sign = -1; sign <= 1; sign += 2) {
-            int16_t l[4] = {1, 1, (int16_t)(sign * edge), 1};
-            a = run(1, 2, 1000, l);
-            CHECK(edge <= 2047 ? a.refusal != 4 : a.refusal == 4 && a.place == 2, "%d", sign * edge);
+            int16_t l[4] = {1, 1, (int16_t)(sign * edges[e]), 1};
+            CHECK(run(1, 2, 1000, l).refusal != 4, "%d", sign * edges[e]);
         }
+    int16_t beyond[4] = {1, 32767, -32768, -32768};
+    a = run(1, 2, 1000, beyond);
+    CHECK(a.refusal == 4 && a.place == 2, "-32768: %u at %u", a.refusal, a.place);
     int16_t least[1] = {INT16_MIN}, largest[1] = {INT16_MAX};
     CHECK(run(0, 0, 10, least).refusal == 4, "-32768");
-    CHECK(run(0, 0, 10, largest).refusal == 4, "32767");
+    CHECK(run(0, 0, 10, largest).refusal == 0, "32767");
     int16_t many[512];
     for (int i = 0; i < 512; i++) many[i] = 1;
     CHECK(search(8, 8, many, 256, bits, 256, word, 256).refusal == 0, "m = 8, r = 8");

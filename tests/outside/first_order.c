@@ -73,7 +73,7 @@ static void refusals(void) {
     uint8_t *b = contents(&gb), *w = contents(&gw);
     arm(&gb);
     arm(&gw);
-    l[3] = l[6] = (int16_t)(CINORBIS_LARGEST_READING + 1);
+    l[3] = l[6] = INT16_MIN;
     refused("r is 0", first_order(0, 3, l, 8, b, 4, w, 8), 1, 0);
     refused("r is 2", first_order(2, 3, l, 8, b, 4, w, 8), 1, 0);
     refused("m is 0", first_order(1, 0, l, 1, b, 2, w, 1), 1, 0);

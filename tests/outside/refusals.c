@@ -42,12 +42,12 @@ static void codes_and_lengths(void) {
                                 size_t ni = n + (size_t)off[in], nb = k + (size_t)off[ob], nw = n + (size_t)off[ow];
                                 int16_t l[64];
                                 uint8_t x[64], given[64];
-                                for (int j = 0; j < 64; j++) l[j] = (int16_t)random_between(-2047, 2047);
+                                for (int j = 0; j < 64; j++) l[j] = random_reading();
                                 memset(x, 0, sizeof x);
                                 memset(given, 0, sizeof given);
                                 size_t at = (size_t)random_below((int)n), at_bits = (size_t)random_below((int)k);
                                 if (entry) {
-                                    l[at] = (int16_t)(random_below(2) ? 2048 : -2048);
+                                    l[at] = INT16_MIN;
                                     x[at] = (uint8_t)random_between(2, 255);
                                     given[at_bits] = (uint8_t)random_between(2, 255);
                                     /* a second bad entry behind the first changes nothing */
@@ -117,7 +117,7 @@ static void search_refusals(void) {
     int16_t l[256];
     int met = 0;
     for (int t = 0; t < 3; t++) {
-        for (int j = 0; j < 256; j++) l[j] = (int16_t)random_between(-2047, 2047);
+        for (int j = 0; j < 256; j++) l[j] = random_reading();
         arm_both();
         a = search(4, 8, l, 256, contents(&gb), 163, contents(&gw), 256);
         if (a.refusal == 6) {

@@ -136,7 +136,7 @@ static void reorders(const map *a) {
     uint8_t x[256];
     map u;
     int good = undone(a, &u);
-    for (size_t j = 0; j < n; j++) l[j] = (int16_t)random_between(-2047, 2047), x[j] = (uint8_t)random_below(2);
+    for (size_t j = 0; j < n; j++) l[j] = random_reading(), x[j] = (uint8_t)random_below(2);
     both_armed();
     answer r = reorder(m, a->table, square(a), a->row, m, l, n, to, n);
     if (!good) {
@@ -243,7 +243,7 @@ static void one_then_another(void) {
         size_t n = (size_t)1 << m;
         map a = good_map(m), b = good_map(m), c = {.m = m}, u = {.m = m};
         int16_t l[256], x[256], y[256], z[256];
-        for (size_t j = 0; j < n; j++) l[j] = (int16_t)random_between(-2047, 2047);
+        for (size_t j = 0; j < n; j++) l[j] = random_reading();
         done(reorder((uint32_t)m, a.table, square(&a), a.row, (size_t)m, l, n, x, n));
         done(reorder((uint32_t)m, b.table, square(&b), b.row, (size_t)m, x, n, y, n));
         done(product_map((uint32_t)m, &a, square(&a), (size_t)m, &b, square(&b), (size_t)m, c.table, square(&c), c.row, (size_t)m));
@@ -262,7 +262,7 @@ static void both_searches(void) {
     for (int t = 0; t < 600; t++) {
         int m = random_between(0, 5), r = random_between(0, m < 3 ? m : 2);
         size_t n = (size_t)1 << m, k = (size_t)ref_k(r, m);
-        int size = random_below(3) ? 2047 : 2;
+        int size = random_below(3) ? LARGEST : 2;
         map a = good_map(m);
         int16_t l[32], turned[32];
         uint8_t bits[32], word[32], moved[32], bits2[32], word2[32];
@@ -314,10 +314,10 @@ static void faults(void) {
             int16_t l[257] = {0};
             uint8_t x[257] = {0};
             if (entry) {
-                l[at] = (int16_t)(random_below(2) ? 2048 : -2048), l[n - 1] = INT16_MIN;
+                l[at] = l[n - 1] = INT16_MIN;
                 x[at] = (uint8_t)random_between(2, 255), x[n - 1] = 255;
                 if (dn < 0 && at == n - 1) at--;
-                l[at] = 2048, x[at] = 2;
+                l[at] = INT16_MIN, x[at] = 2;
             }
             uint32_t e = expected(code, dt || dr || dn, dout, bad, entry);
             both_armed();

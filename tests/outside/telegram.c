@@ -85,7 +85,7 @@ static void all_telegrams(void) {
             for (unsigned t = d; t <= 1500; t++) {
                 uint8_t x[32];
                 int16_t l[32];
-                int size = random_between(1, 2047);
+                int size = random_between(1, LARGEST);
                 arm(&g);
                 answer a = write_telegram(c, d, t, contents(&g), 32);
                 word_of(number_of(c, d, t, 0), x);
@@ -180,7 +180,7 @@ static void with_noise(void) {
     begin("readings of no telegram");
     for (int i = 0; i < 600; i++) {
         int16_t l[32];
-        int most = i % 3 == 0 ? 2047 : i % 3 == 1 ? 2 : 40;
+        int most = i % 3 == 0 ? LARGEST : i % 3 == 1 ? 2 : 40;
         for (int j = 0; j < 32; j++) l[j] = (int16_t)random_between(-most, most);
         both_ways(i % 4 == 0 ? (uint32_t)random_between(0, 2000) : CINORBIS_DEFAULT_ALLOWANCE, l);
         CHECK(read_default(l, 32).a.refusal != 6, "the standing allowance was too small");

@@ -26,7 +26,7 @@ static void *decode_all(void *first) {
 int main(void) {
     pthread_t threads[THREADS];
     for (int i = 0; i < WORDS; i++)
-        for (int j = 0; j < 32; j++) alone[i].readings[j] = (int16_t)random_between(-2047, 2047);
+        for (int j = 0; j < 32; j++) alone[i].readings[j] = random_reading();
     for (int t = 0; t < THREADS; t++) memcpy(together[t], alone, sizeof alone);
     decode_all(alone);
     begin("threads are made");

@@ -10,17 +10,17 @@ use lib.Dec.{ltb}
 use lib.ListN.{length, take, drop, length-append, length-drop, length-take}
 use borrow.Author.Tests.{ltb-true}
 use Rattle.numbers.specs.Choice.{cond-by}
-use Rattle.cinorbis.specs.declared.state.State.{State}
-use Rattle.cinorbis.specs.declared.state.Next.the-variants.{Write, Take, Total, Read}
-use Rattle.cinorbis.specs.Program.{Result, answered, refused, resultOf, stops, nextStart}
-use Rattle.cinorbis.specs.OutputLaws.{goes-on-there}
-use Rattle.cinorbis.specs.State.{room, longest, starting, Ready, unread, isThere, after, afterRead, afterWrite}
-use Rattle.cinorbis.specs.StateLaws.{next-shown, there-first, absent-short}
-use Rattle.cinorbis.specs.Turns.{Turned, writes, takes, totals, reads, Passed, nothing, withRead, passing, Chain, start, turn, Ran}
-use Rattle.cinorbis.specs.TurnsLaws.{Stands, chain-holds}
+use Rattle.turns.specs.declared.Situation.{Situation}
+use Rattle.turns.specs.declared.Next.the-variants.{Write, Take, Total, Read}
+use Rattle.program.specs.Program.{Result, answered, refused, resultOf, stops, nextStart}
+use Rattle.program.specs.OutputLaws.{goes-on-there}
+use Rattle.turns.specs.Situation.{room, longest, starting, Ready, unread, isThere, after, afterRead, afterWrite}
+use Rattle.turns.specs.SituationLaws.{next-shown, there-first, absent-short}
+use Rattle.cinorbis.specs.Runs.{Turned, writes, takes, totals, reads, Passed, nothing, withRead, passing, Chain, start, turn, Ran}
+use Rattle.cinorbis.specs.RunsLaws.{Stands, chain-holds}
 
 -- as many turns may still come if no other byte does
-abbrev pub due : State → ℕ
+abbrev pub due : Situation → ℕ
 due s = 2 * (s .«end» - s .at) + min 1 (s .text) + cond (s .closed) 0 2 + cond (s .ended) 0 1 + cond (s .going) 1 0
 
 at-most-one : (b : Bool) → cond b 1 0 ≤ 1
@@ -31,7 +31,7 @@ at-most-one false = omega arith
 grown : (n l k c t a b g : ℕ) → n + (2 * k + t + a + b + 1) ≤ 3 * l + 4 → 1 ≤ c → g ≤ 1 → suc n + (2 * (k + c - 0) + t + a + b + g) ≤ 3 * (l + c) + 4
 grown n l k c t a b g h one small = omega arith
 
-module _ (n most : ℕ) (s : State) (input output : List ℕ) (r : Ready s input output) (g : s .going ≡ true)
+module _ (n most : ℕ) (s : Situation) (input output : List ℕ) (r : Ready s input output) (g : s .going ≡ true)
     (space : longest ≤ length input) (line : room ≤ length output) (h : n + due s ≤ most) where
   before : n + (2 * (s .«end» - s .at) + min 1 (s .text) + cond (s .closed) 0 2 + cond (s .ended) 0 1 + 1) ≤ most
   before = rw g at h
@@ -57,7 +57,7 @@ module _ (n most : ℕ) (s : State) (input output : List ℕ) (r : Ready s input
   due-after (answered bits penalty gap visits) text t e =
       omega (arith, before, at-most-one (s .going), goes-on-there (unread s input) (rw e) .some, there-first s input t (r .order))
   due-after (refused why) text t e =
-      cond-by (λ (x : State). suc n + due x ≤ most) (stops (refused why)) _ _
+      cond-by (λ (x : Situation). suc n + due x ≤ most) (stops (refused why)) _ _
       (λ z. omega (arith, before, at-most-one (s .going), there-first s input t (r .order)))
       (λ z. omega (arith, before, at-most-one (s .going), goes-on-there (unread s input) (rw e z) .some, there-first s input t (r .order)))
 
@@ -79,25 +79,25 @@ module _ (n most : ℕ) (s : State) (input output : List ℕ) (r : Ready s input
       (grown n (length (p .came)) k c (min 1 (s .text)) (cond (s .closed) 0 2) (cond (s .ended) 0 1) (cond (s .going) 1 0)
       (rw b at before) one (at-most-one (s .going)))
 
-  due-turned : (p : Passed) → most ≡ 3 * length (p .came) + 4 → (t : State) (input′ output′ : List ℕ) → length input′ ≡ length input
+  due-turned : (p : Passed) → most ≡ 3 * length (p .came) + 4 → (t : Situation) (input′ output′ : List ℕ) → length input′ ≡ length input
       → (w : Turned s input output t input′ output′) → suc n + due t ≤ 3 * length (passing s input output t input′ output′ w p .came) + 4
   due-turned p b t input′ output′ same (writes next k i o) =
-      subst (λ (x : State). suc n + due x ≤ 3 * length (p .came) + 4) (sym (k .is))
+      subst (λ (x : Situation). suc n + due x ≤ 3 * length (p .came) + 4) (sym (k .is))
       (rw (← b) (due-written (k .done) (next-shown s input (length output) Write next)))
   due-turned p b t input′ output′ same (takes next k i) =
       let w = next-shown s input (length output) Take next in
-      subst (λ (x : State). suc n + due x ≤ 3 * length (p .came) + 4) (sym (k .counts))
+      subst (λ (x : Situation). suc n + due x ≤ 3 * length (p .came) + 4) (sym (k .counts))
       (rw (← b) (due-after (resultOf (unread s input)) (t .text) (w .2) refl))
   due-turned p b t input′ output′ same (totals next k i) =
       let c = rw (next-shown s input (length output) Total next .0) at before in
-      subst (λ (x : State). suc n + due x ≤ 3 * length (p .came) + 4) (sym (k .closes)) (omega (arith, c, at-most-one (s .going)))
+      subst (λ (x : Situation). suc n + due x ≤ 3 * length (p .came) + 4) (sym (k .closes)) (omega (arith, c, at-most-one (s .going)))
   due-turned p b t input′ output′ same (reads next k o) =
       let w = next-shown s input (length output) Read next in
-      subst (λ (x : State). suc n + due x ≤ 3 * length (withRead p (k .got) (drop (s .«end» - s .at) input′) .came) + 4) (sym (k .is))
+      subst (λ (x : Situation). suc n + due x ≤ 3 * length (withRead p (k .got) (drop (s .«end» - s .at) input′) .came) + 4) (sym (k .is))
       (due-read (k .got) input′ same (w .2) (w .3) p b)
 
 -- the turns of a chain, and those that are due
-pub chain-due : (n : ℕ) (s : State) (input output : List ℕ) (p : Passed) → Chain n s input output p → longest ≤ length input → room ≤ length output
+pub chain-due : (n : ℕ) (s : Situation) (input output : List ℕ) (p : Passed) → Chain n s input output p → longest ≤ length input → room ≤ length output
     → n + due s ≤ 3 * length (p .came) + 4
 chain-due n s input output p (start i o) space line = omega arith
 chain-due n s input output p (turn m s₀ input₀ output₀ p₀ t input′ output′ c g e f w) space line =
@@ -107,7 +107,7 @@ chain-due n s input output p (turn m s₀ input₀ output₀ p₀ t input′ out
     due-turned m (3 * length (p₀ .came) + 4) s₀ input₀ output₀ r g big wide (chain-due m s₀ input₀ output₀ p₀ c big wide) p₀ refl t input′ output′ e w
 
 -- ---- for the proof at the code: a chain of turns when so many are left of those that are counted
-pub record Along (left : ℕ) (s : State) (input output : List ℕ) : Type 0 where
+pub record Along (left : ℕ) (s : Situation) (input output : List ℕ) : Type 0 where
   pub turns : ℕ
   pub passed : Passed
   pub chain : Chain turns s input output passed
@@ -115,15 +115,15 @@ pub record Along (left : ℕ) (s : State) (input output : List ℕ) : Type 0 whe
   pub space : longest ≤ length input
   pub line : room ≤ length output
 
-pub along-start : (input output : List ℕ) (s : State) → s ≡ starting → longest ≤ length input → room ≤ length output → Along (2 ^ 64 - 1) s input output
+pub along-start : (input output : List ℕ) (s : Situation) → s ≡ starting → longest ≤ length input → room ≤ length output → Along (2 ^ 64 - 1) s input output
 along-start input output s e space line =
     rw e (record { turns = 0; passed = nothing; chain = start input output; count = refl; space = space; line = line })
 
-module _ (left : ℕ) (s : State) (input output : List ℕ) (a : Along left s input output) where
+module _ (left : ℕ) (s : Situation) (input output : List ℕ) (a : Along left s input output) where
   pub along-stands : Stands (a .turns) s input output (a .passed)
   along-stands = chain-holds (a .turns) s input output (a .passed) (a .chain) .stands
 
-  pub along-turn : (t : State) (input′ output′ : List ℕ) → 0 < left → s .going ≡ true → length input′ ≡ length input → length output′ ≡ length output
+  pub along-turn : (t : Situation) (input′ output′ : List ℕ) → 0 < left → s .going ≡ true → length input′ ≡ length input → length output′ ≡ length output
       → Turned s input output t input′ output′ → Along (left - 1) t input′ output′
   along-turn t input′ output′ h g e f w =
       record {
@@ -139,7 +139,7 @@ module _ (left : ℕ) (s : State) (input output : List ℕ) (a : Along left s in
   along-ran e =
       record {
         turns = a .turns;
-        state = s;
+        situation = s;
         input = input;
         output = output;
         passed = a .passed;

@@ -1,12 +1,3 @@
-pub mod Line
-pub mod LineLaws
-pub mod Program
-pub mod OutputLaws
-pub mod Example
-pub mod Step
-pub mod StepLaws
-pub mod State
-pub mod StateLaws
-pub mod Turns
-pub mod TurnsLaws
+pub mod Runs
+pub mod RunsLaws
 pub mod EndLaws

@@ -1,45 +1,25 @@
 // The program: records in, lines out. Here alone the operating system is called. What it is handed,
 // and what is done with what it gave, is told by functions on slices.
-mod line;
-mod state;
-mod step;
-
 use libc::STDERR_FILENO;
 use libc::STDIN_FILENO;
 use libc::STDOUT_FILENO;
-use state::Next;
-use state::State;
-ghost use mathlib.Core.Path.{_≡_};
-ghost use mathlib.Core.List.{_++_};
+use turns::Next;
+use turns::Situation;
 ghost use Prim.Native.Nat.{_+_, _-_, _^_, _≤_, _<_};
-ghost use lib.ListN.{length, take, drop};
-ghost use Rattle.cinorbis.specs.State.{room, longest, Ready, Flushed, Refilled};
-ghost use Rattle.cinorbis.specs.Turns.{Turned, Ran};
+ghost use lib.ListN.{length};
+ghost use Rattle.turns.specs.Situation.{room, longest, Ready, Flushed, Refilled};
+ghost use Rattle.cinorbis.specs.Runs.{Turned, Ran};
 
 // Hands the text that waits to the writer.
-fn flush(output: &[u8], s: State) -> State
+fn flush(output: &[u8], s: Situation) -> Situation
     requires { ⌜ s .text ≤ length (now output) ⌝ }
     ensures { λ t. ⌜ Flushed s t ⌝ }
 {
-    if io::write_all(STDOUT_FILENO, state::text_of(output, s)) {
-        return state::after_write(true, s);
+    if io::write_all(STDOUT_FILENO, turns::text_of(output, s)) {
+        return turns::after_write(true, s);
     }
     io::write_all(STDERR_FILENO, b"cinorbis: cannot write\n");
-    state::after_write(false, s)
-}
-
-// Moves the bytes from at to end to the front.
-fn move_to_front(buffer: &mut [u8], at: usize, end: usize)
-    requires { ⌜ (at ≤ «end») × («end» ≤ length (now buffer)) ⌝ }
-    ensures { λ _. ⌜ now (buffer .exit)
-        ≡ take («end» - at) (drop at (now (buffer .entry))) ++ drop («end» - at) (now (buffer .entry)) ⌝ }
-{
-    let n = end - at;
-    let mut i = 0;
-    while i < n {
-        buffer[i] = buffer[at + i];
-        i += 1;
-    }
+    turns::after_write(false, s)
 }
 
 fn report(got: isize) {
@@ -49,28 +29,28 @@ fn report(got: isize) {
 }
 
 // Reads behind the bytes that are not yet used.
-fn refill(input: &mut [u8], s: State) -> State
+fn refill(input: &mut [u8], s: Situation) -> Situation
     requires { ⌜ (s .at ≤ s .«end») × (s .«end» ≤ length (now input))
         × (s .«end» - s .at < length (now input)) ⌝ }
     ensures { λ t. ⌜ Refilled s (now (input .entry)) t (now (input .exit)) ⌝ }
 {
     let k = s.end - s.at;
-    move_to_front(input, s.at, s.end);
+    turns::move_to_front(input, s.at, s.end);
     let got = libc::read(STDIN_FILENO, &mut input[k..]);
     report(got);
-    state::after_read(got, &input[k..], s)
+    turns::after_read(got, &input[k..], s)
 }
 
-fn turn(input: &mut [u8], output: &mut [u8], s: State) -> State
+fn turn(input: &mut [u8], output: &mut [u8], s: Situation) -> Situation
     requires { ⌜ Ready s (now input) (now output)
         × (longest ≤ length (now input)) × (s .read + s .refused + 1 < 2 ^ 64) ⌝ }
     ensures { λ t. ⌜ Turned s (now (input .entry)) (now (output .entry)) t
         (now (input .exit)) (now (output .exit)) ⌝ }
 {
-    match state::next_turn(input, output.len(), s) {
+    match turns::next_turn(input, output.len(), s) {
         Next::Write => flush(output, s),
-        Next::Take => state::take_record(input, output, s),
-        Next::Total => state::finish(output, s),
+        Next::Take => turns::take_record(input, output, s),
+        Next::Total => turns::finish(output, s),
         Next::Read => refill(input, s),
     }
 }
@@ -81,7 +61,7 @@ fn run(input: &mut [u8], output: &mut [u8])
     requires { ⌜ (longest ≤ length (now input)) × (room ≤ length (now output)) ⌝ }
     ensures { λ _. ⌜ Ran ⌝ }
 {
-    let mut s = state::start();
+    let mut s = turns::start();
     let mut left = u64::MAX;
     while 0 < left && s.going {
         s = turn(input, output, s);

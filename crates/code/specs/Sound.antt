@@ -13,7 +13,7 @@ abbrev pub largestM : ℕ
 largestM = 8
 
 abbrev pub largestReading : ℕ
-largestReading = 2047
+largestReading = 32767
 
 -- of a record, whose fields have 12 bits
 abbrev pub largestRecordReading : ℕ

@@ -72,7 +72,7 @@ fn dimensions(m: u32) -> [u16; 9]
 impl Code {
     pub const LARGEST_M: u32 = 8;
 
-    pub const LARGEST_READING: i16 = 2047;
+    pub const LARGEST_READING: i16 = 32767;
 
     // of a record, whose fields have 12 bits
     pub const LARGEST_RECORD_READING: i16 = 2047;

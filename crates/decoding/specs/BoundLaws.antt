@@ -1,6 +1,7 @@
 -- How large a running sum can be (docs/RULES.md, §4): at most n times the largest reading, whatever that is; and one is as large.
-use mathlib.Core.Path.{_≡_, refl, ap, sym, _∙_}
-use mathlib.Core.List.{List, [], _∷_, _++_}
+-- Nor can a penalty be larger, and a penalty with the gap.
+use mathlib.Core.Path.{_≡_, refl, ap, sym, _∙_, subst}
+use mathlib.Core.List.{List, [], _∷_, _++_, Memᴰ·of-map, List·Memᴰ}
 use Prim.Native.Nat.{ℕ, zero, suc, _+_, _-_, _*_, _^_, _≤_}
 use native.Mathlib.Omega.{arith}
 use native.Mathlib.Nat.{le-refl, le-trans, two-pow-succ, mul-add, add-mul}
@@ -8,12 +9,18 @@ use lib.ListN.{length, getD, replicate, length-replicate, replicate-append-repli
 use lib.Seq.{take-at, drop-at}
 use lib.Pow.{pow-pos}
 use lib.IntN.{ℤ, pos, natAbs, _+ℤ_}
+use Rattle.numbers.specs.Sums.{sum}
+use Rattle.numbers.specs.LeastLaws.{atMost, upto, at-most, least-two, length-as-sum}
+use Rattle.numbers.specs.EntryLaws.{map-same}
 use Rattle.words.specs.Word.{transform}
+use Rattle.words.specs.Kinds.{allBits, encoded}
 use Rattle.words.specs.TransformLaws.{transform-zeros}
 use Rattle.decoding.specs.Readings.{sizes, Within}
+use Rattle.decoding.specs.Best.{penaltyOf, penalties, leastPenalty, gap}
+use Rattle.decoding.specs.BestLaws.{two-penalties, next-penalty}
 use Rattle.decoding.specs.Quick.{uppers, lowerRow, upperRow}
 use Rattle.decoding.specs.Walk.{value}
-use Rattle.decoding.specs.StepLaws.{entry-sizes, sizes-lowerRow, sizes-upperRow, sizes-within}
+use Rattle.decoding.specs.StepLaws.{entry-sizes, sizes-lowerRow, sizes-upperRow, sizes-within, penalty-sizes}
 use Rattle.decoding.specs.PathLaws.{value-sizes}
 use Rattle.decoding.specs.QuickLaws.{value-upper}
 
@@ -34,6 +41,24 @@ sizes-after l [] = le-refl (sizes l)
 sizes-after l (toLower h ∷ s) = le-trans (sizes-after (lowerRow h l) s) (sizes-lowerRow h l)
 sizes-after l (toUpper h a ∷ s) = le-trans (sizes-after (upperRow h l a) s) (sizes-upperRow h l a)
 
+-- every word's penalty is a sum of sizes of readings, so the next one is, which is the least one with the gap
+module _ (m : ℕ) (ks : List ℕ) (l : List ℤ) where
+  penalty-entry : (p : ℕ) → List·Memᴰ p (penalties m ks l) → p ≤ sizes l
+  unfolding penalties
+  penalty-entry p i =
+      let of = Memᴰ·of-map (penaltyOf m ks l) (allBits (sum ks)) i in
+      subst (λ (q : ℕ). q ≤ sizes l) (of .2) (penalty-sizes l (encoded m ks (of .0)))
+
+  next-sizes : 1 ≤ sum ks → leastPenalty m ks l + gap m ks l ≤ sizes l
+  unfolding upto
+  next-sizes information =
+      let p = penalties m ks l in
+      let t = sizes l in
+      let two = two-penalties m ks l information in
+      let counts : (x : ℕ) → List·Memᴰ x p → atMost t x ≡ 1 = λ x i. omega (arith, at-most t x .bit, at-most t x .on (penalty-entry x i)) in
+      let both : 2 ≤ upto t p = rw (map-same (atMost t) (λ x. 1) p counts, length-as-sum p) two in
+      rw (← (next-penalty m ks l information)) (least-two p two .second t .0 both)
+
 module _ (largest : ℕ) (l : List ℤ) (within : Within largest l) where
   pub running-sum-most : (s : List Step) (i : ℕ) → natAbs (getD (sumsAfter l s) i (pos 0)) ≤ length l * largest
   running-sum-most s i = omega (arith, entry-sizes (sumsAfter l s) i, sizes-after l s, sizes-within largest l within)
@@ -41,6 +66,10 @@ module _ (largest : ℕ) (l : List ℤ) (within : Within largest l) where
   -- the values of the walk among them
   pub value-most : (m : ℕ) (u : List ℕ) → natAbs (value m l u) ≤ length l * largest
   value-most m u = le-trans (value-sizes m l u) (sizes-within largest l within)
+
+  -- the least penalty with the gap
+  pub gap-most : (m : ℕ) (ks : List ℕ) → 1 ≤ sum ks → leastPenalty m ks l + gap m ks l ≤ length l * largest
+  gap-most m ks information = le-trans (next-sizes m ks l information) (sizes-within largest l within)
 
 -- ---- the bound is attained: with all readings b, the value at the last index of the zero path is n × b
 uppers-equal : (n : ℕ) (x : ℤ) → uppers (replicate n x) (replicate n x) (replicate n 0) ≡ replicate n (x +ℤ x)

@@ -1,7 +1,7 @@
 -- Readings against a word: penalty, correlation, sum of sizes (docs/RULES.md, §3).
 -- A positive reading speaks for bit 0, a negative one for bit 1.
 use mathlib.Core.List.{List, [], _∷_}
-use Prim.Native.Nat.{ℕ, zero, suc, _+_, _≤_}
+use Prim.Native.Nat.{ℕ, zero, suc, _+_, _^_, _≤_}
 use lib.IntN.{ℤ, pos, natAbs, _+ℤ_, negℤ}
 use lib.ListN.{getD}
 use Rattle.numbers.specs.Parts.{up, down}
@@ -30,6 +30,10 @@ correlation (r ∷ l) (b ∷ x) = turn b r +ℤ correlation l x
 unfoldable pub sizes : List ℤ → ℕ
 sizes [] = 0
 sizes (r ∷ l) = natAbs r + sizes l
+
+-- sums of whole readings stay below it, and every whole number below it is exact as a float of 32 bits: one bound serves both engines
+abbrev pub sumLimit : ℕ
+sumLimit = 2 ^ 24
 
 -- the row, negated where the word c has 1
 abbrev pub turns : List ℕ → List ℤ → List ℤ

@@ -189,7 +189,7 @@ sizes-lowerRow h l = omega (arith, sizes-lowers (take h l) (drop h l), sizes-par
 pub sizes-upperRow : (h : ℕ) (l : List ℤ) (a : List ℕ) → sizes (upperRow h l a) ≤ sizes l
 sizes-upperRow h l a = omega (arith, sizes-uppers (take h l) (drop h l) a, sizes-parts h l)
 
--- with readings of at most 2,047 and 256 of them: at most 524,032
+-- whatever the largest reading is; its two numbers are in quick/specs/RunningSums.antt and record/specs/RunningSums.antt
 pub sizes-within : (largest : ℕ) (l : List ℤ) → Within largest l → sizes l ≤ length l * largest
 unfolding sizes
 sizes-within largest [] h = zero-le

@@ -1,1 +1,2 @@
 pub mod BenchFigures
+pub mod LargestReadings

@@ -8,6 +8,7 @@ use lib.Dec.{ltb}
 use lib.Bits.{bitXor}
 use Rattle.numbers.specs.Sums.{tabulate}
 use Rattle.words.specs.Bits.{digit}
+use Rattle.code.specs.Sound.{largestM}
 use Rattle.code.specs.Entries.{firstBadBit}
 use Rattle.maps.specs.Maps.{number, image, whereIs, canUndo}
 
@@ -35,7 +36,7 @@ pub record Placed (n : ℕ) (images places : List ℕ) : Type 0 where
 
 -- the lengths are those of a map of at most 256 positions
 pub record Mapped (m : ℕ) (A b : List ℕ) : Type 0 where
-  pub small : m ≤ 8
+  pub small : m ≤ largestM
   pub table-long : length A ≡ m * m
   pub row-long : length b ≡ m
 

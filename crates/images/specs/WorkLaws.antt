@@ -15,6 +15,7 @@ use Rattle.numbers.specs.Choice.{lt-or-le}
 use Rattle.numbers.specs.Sums.{total, tabulate}
 use Rattle.numbers.specs.SumsLaws.{total-same, total-zero, tabulate-same, getD-tabulate}
 use Rattle.words.specs.Bits.{Bits, digit}
+use Rattle.code.specs.Sound.{largestM}
 use Rattle.code.specs.Entries.{firstBadBit}
 use Rattle.code.specs.EntriesLaws.{good-bits}
 use Rattle.maps.specs.Maps.{number, imageBit, image, reordered, productTable, productRow, Apart, whereIs, allApart, canUndo, undoTable, undoRow}
@@ -112,7 +113,7 @@ module _ {T : Type 0} (d : T) (m : ℕ) (A b : List ℕ) (bits : Bits b) (images
   moved-image : (j : ℕ) → j < 2 ^ m → bitXor (getD images j 0) x ≡ image m A b j
   moved-image j h = ap₂ bitXor (shown j h) is-row ∙ image-row m A b bits j
 
-  pub moves-map : (to : List T) → length to ≡ 2 ^ m → m ≤ 8 → length images ≡ 256 → Moves images x from to
+  pub moves-map : (to : List T) → length to ≡ 2 ^ m → m ≤ largestM → length images ≡ 256 → Moves images x from to
   moves-map to e h k = record {
     room = e ∙ sym long;
     each = omega (arith, pow-mono h);
@@ -134,7 +135,7 @@ no-row m U p h =
     ∙ ap (λ (s : ℕ). (s + 0) % 2)
     (total-same (λ q. getD U (p * m + q) 0 * 0) (λ q. 0) m (λ q l. mul-zero (getD U (p * m + q) 0)) ∙ total-zero m)
 
-module _ (m : ℕ) (A b : List ℕ) (small : m ≤ 8) (places : List ℕ) (shown : Shows (λ v. whereIs (image m A []) v (2 ^ m)) 256 places) where
+module _ (m : ℕ) (A b : List ℕ) (small : m ≤ largestM) (places : List ℕ) (shown : Shows (λ v. whereIs (image m A []) v (2 ^ m)) 256 places) where
   undone-table : tabulate (λ i. digit (i / m) (getD places (2 ^ (i % m)) 0)) (m * m) ≡ undoTable m A
   unfolding undoTable
   undone-table =

@@ -5,13 +5,14 @@ ghost use Prim.Native.Nat.{_+_, _*_, _^_, _%_, _/_, _≤_, _<_};
 ghost use lib.ListN.{length, getD};
 ghost use lib.IntN.{pos};
 ghost use Rattle.words.specs.Bits.{Bits};
+ghost use Rattle.code.specs.Sound.{largestM};
 ghost use Rattle.maps.specs.Maps.{number, image, allApart};
 ghost use Rattle.images.specs.Images.{Shows, Doubled, Placed, Mapped, Taken, MapTold};
 ghost use Rattle.images.specs.Images.{Moves, moved, spreadOf, UndoPut, ProductPut};
 
 // The number whose bit p is the entry at row p and column q of a table of m rows.
 pub fn column(table: &[u8], width: usize, q: usize, m: usize) -> u8
-    requires { ⌜ (m ≤ 8) × (q < width) × (length (now table) ≡ m * width) × Bits (now table) ⌝ }
+    requires { ⌜ (m ≤ largestM) × (q < width) × (length (now table) ≡ m * width) × Bits (now table) ⌝ }
     ensures { λ x. ⌜ x ≡ number m (λ p. getD (now (table .entry)) (p * width + q) 0) ⌝ }
 {
     let mut x = 0;
@@ -37,7 +38,7 @@ fn add_column(images: &mut [u8], h: usize, column: u8)
 
 // The images of all positions under the table alone.
 fn put_images(m: usize, table: &[u8], images: &mut [u8])
-    requires { ⌜ (m ≤ 8) × (length (now table) ≡ m * m) × Bits (now table)
+    requires { ⌜ (m ≤ largestM) × (length (now table) ≡ m * m) × Bits (now table)
         × (length (now images) ≡ 256) ⌝ }
     ensures { λ _. ⌜ Shows (image m (now (table .entry)) []) (2 ^ m) (now (images .exit)) ⌝ }
 {
@@ -136,7 +137,7 @@ pub fn move_bits(images: &[u8], x: u8, from: &[u8], to: &mut [u8])
 
 // Fills a table with its columns: bit p of column q goes to row p.
 fn spread(columns: &[u8], width: usize, table: &mut [u8])
-    requires { ⌜ (width ≤ length (now columns)) × (length (now table) ≤ 8 * width) ⌝ }
+    requires { ⌜ (width ≤ length (now columns)) × (length (now table) ≤ largestM * width) ⌝ }
     ensures { λ _. ⌜ now (table .exit)
         ≡ spreadOf (now (columns .entry)) width (length (now (table .entry))) ⌝ }
 {
@@ -150,7 +151,7 @@ fn spread(columns: &[u8], width: usize, table: &mut [u8])
 
 // The columns of the undo table: the positions whose images are the powers of 2.
 fn undo_columns(m: usize, places: &[u8], columns: &mut [u8])
-    requires { ⌜ (m ≤ 8) × (length (now places) ≡ 256) × (m ≤ length (now columns)) ⌝ }
+    requires { ⌜ (m ≤ largestM) × (length (now places) ≡ 256) × (m ≤ length (now columns)) ⌝ }
     ensures { λ _. ⌜ Shows (λ q. getD (now (places .entry)) (2 ^ q) 0) m (now (columns .exit)) ⌝ }
 {
     let mut q = 0;
@@ -176,7 +177,7 @@ pub fn put_undo(m: usize, places: &[u8], row: &[u8], out: &mut [u8], outrow: &mu
 
 // The columns of a product: the images of the second table's.
 fn product_columns(m: usize, images: &[u8], table: &[u8], columns: &mut [u8])
-    requires { ⌜ (m ≤ 8) × (length (now table) ≡ m * m) × Bits (now table)
+    requires { ⌜ (m ≤ largestM) × (length (now table) ≡ m * m) × Bits (now table)
         × (length (now images) ≡ 256) × (m ≤ length (now columns)) ⌝ }
     ensures { λ _. ⌜ Shows (λ q. getD (now (images .entry))
         (number m (λ p. getD (now (table .entry)) (p * m + q) 0)) 0) m (now (columns .exit)) ⌝ }

@@ -15,7 +15,7 @@ use mir.Val.{SFits, toZ, ofZ}
 use Rattle.words.specs.Bits.{Bits}
 use Rattle.words.specs.Word.{transform}
 use Rattle.words.specs.TransformLaws.{length-transform, bits-take, bits-drop}
-use Rattle.decoding.specs.Readings.{sizes}
+use Rattle.decoding.specs.Readings.{sizes, sumLimit}
 use Rattle.decoding.specs.Quick.{lowerRow, upperRow}
 use Rattle.decoding.specs.Walk.{value}
 use Rattle.rows.specs.Rows.{rowOf, withRow}
@@ -92,7 +92,7 @@ module _ {m i t : ℕ} {y : List ℕ} {l s : List ℤ} (r : RowsReady m l y i t 
   pub row-fits : suc t < m → 2 ^ t + 2 ^ t + (2 ^ t + 2 ^ t) ≤ 256
   row-fits h = omega (arith, two-pow-succ t, two-pow-succ (suc t), pow-mono {i = suc (suc t)} {j = m} h, r .room)
 
-  pub row-small : suc t < m → sizes (rowOf (2 ^ t + 2 ^ t) s) < 2 ^ 31
+  pub row-small : suc t < m → sizes (rowOf (2 ^ t + 2 ^ t) s) < sumLimit
   row-small h = above-small (r .some) (r .long) path room (r .rows) (r .small) h
 
   pub top-made : {s′ : List ℤ} → suc t ≡ m → s′ ≡ withRow (2 ^ t) s (below t i y l) → Made m l y i t s′

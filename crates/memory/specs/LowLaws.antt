@@ -11,7 +11,7 @@ use lib.Seq.{getD-drop}
 use lib.Pow.{pow-pos, pow-mono, mod-pow-add, mod-mod-pow, split}
 use Rattle.numbers.specs.Lowest.{LowestOne}
 use Rattle.words.specs.Word.{transform}
-use Rattle.decoding.specs.Readings.{sizes}
+use Rattle.decoding.specs.Readings.{sizes, sumLimit}
 use Rattle.rows.specs.Rows.{rowOf}
 use Rattle.rows.specs.RowLaws.{length-rowOf}
 use Rattle.rows.specs.PlaceLaws.{length-withRow, rowOf-withRow}
@@ -80,7 +80,7 @@ module _ {t i : ℕ} {y : List ℕ} {s : List ℤ} (r : LowReady (suc t) i y s) 
   pub low-room : 2 ^ t + 2 ^ t + (2 ^ t + 2 ^ t) ≤ length s
   low-room = omega (arith, two-pow-succ t, fits, r .arrays .long-rows)
 
-  pub low-small : sizes (rowOf (2 ^ t + 2 ^ t) s) < 2 ^ 31
+  pub low-small : sizes (rowOf (2 ^ t + 2 ^ t) s) < sumLimit
   low-small = rw (← (two-pow-succ t)) (r .small)
 
   long-new : length (below t i y (rowOf (2 ^ t + 2 ^ t) s)) ≡ 2 ^ t

@@ -14,7 +14,7 @@ use mir.Val.{toZ, ofZ}
 use mir.Facts.{toZ-ofZ}
 use Rattle.numbers.specs.Choice.{lt-or-le}
 use Rattle.numbers.specs.PartsLaws.{fits-size}
-use Rattle.decoding.specs.Readings.{sizes}
+use Rattle.decoding.specs.Readings.{sizes, sumLimit}
 use Rattle.decoding.specs.Walk.{value}
 use Rattle.decoding.specs.PathLaws.{value-sizes}
 use Rattle.rows.specs.Rows.{rowOf, withRow}
@@ -47,7 +47,7 @@ module _ {m i t : ℕ} {y : List ℕ} {l s : List ℤ} (within : t < m) (long : 
   above-row : suc t < m → rowOf (2 ^ t + 2 ^ t) s ≡ rowAt m i y l (m - suc t)
   above-row h = ap (λ (k : ℕ). rowOf k s) (sym (two-pow-succ t)) ∙ from .made (suc t) (omega arith) h
 
-  pub above-small : sizes l < 2 ^ 31 → suc t < m → sizes (rowOf (2 ^ t + 2 ^ t) s) < 2 ^ 31
+  pub above-small : sizes l < sumLimit → suc t < m → sizes (rowOf (2 ^ t + 2 ^ t) s) < sumLimit
   above-small small h = rw (above-row h) (omega (arith, row-sizes m l i y (m - suc t)))
 
   made-more : (r : List ℤ) → r ≡ rowAt m i y l (m - suc t) → Made m l y i t (withRow (2 ^ t) s (below t i y r))
@@ -91,7 +91,7 @@ pub made-all : {m i : ℕ} {y : List ℕ} {l s : List ℤ} → Made m l y i 0 s 
 made-all f = record { stands = λ t h k. f .made t (omega arith) h }
 
 -- the value as the machine reads it
-pub last-row : {m i : ℕ} {y : List ℕ} {l s : List ℤ} → 0 < m → i < 2 ^ m → i ≤ length y → sizes l < 2 ^ 31 → Made m l y i 0 s
+pub last-row : {m i : ℕ} {y : List ℕ} {l s : List ℤ} → 0 < m → i < 2 ^ m → i ≤ length y → sizes l < sumLimit → Made m l y i 0 s
     → toZ w32 (ofZ w32 (getD s 1 (pos 0))) ≡ value m l (take i y)
 last-row {m} {i} {y} {l} {s} more h path small f =
     let none : m - 0 ≡ m = omega arith in

@@ -9,7 +9,7 @@ use lib.Dec.{eqb}
 use Rattle.words.specs.Bits.{Bits}
 use Rattle.words.specs.Word.{transform}
 use Rattle.decoding.specs.Quick.{lowerRow, upperRow}
-use Rattle.decoding.specs.Readings.{sizes}
+use Rattle.decoding.specs.Readings.{sizes, sumLimit}
 use Rattle.rows.specs.Rows.{rowOf, withRow}
 
 -- where the block of 2^t indices that holds i starts
@@ -69,7 +69,7 @@ pub record ValueReady (m : ℕ) (l : List ℤ) (y : List ℕ) (j i : ℕ) (s : L
   pub inside : i < 2 ^ m
   pub was-inside : j < 2 ^ m
   pub long : length l ≡ 2 ^ m
-  pub small : sizes l < 2 ^ 31
+  pub small : sizes l < sumLimit
   pub bits : Bits y
   pub before : Stands m l y j (i - 1) s
 
@@ -79,7 +79,7 @@ pub record RowsReady (m : ℕ) (l : List ℤ) (y : List ℕ) (i k : ℕ) (s : Li
   pub inside : i < 2 ^ m
   pub some : k < m
   pub long : length l ≡ 2 ^ m
-  pub small : sizes l < 2 ^ 31
+  pub small : sizes l < sumLimit
   pub rows : Made m l y i (suc k) s
 
 -- what making the rows of less than 2^k sums by straight code asks
@@ -87,4 +87,4 @@ pub record LowReady (k i : ℕ) (y : List ℕ) (s : List ℤ) : Type 0 where
   pub few : k ≤ 3
   pub short : i < 256
   pub arrays : Arrays s y
-  pub small : sizes (rowOf (2 ^ k) s) < 2 ^ 31
+  pub small : sizes (rowOf (2 ^ k) s) < sumLimit

@@ -7,7 +7,7 @@ ghost use lib.ListN.{length, take, drop};
 ghost use Rattle.numbers.specs.Lowest.{LowestOne};
 ghost use Rattle.words.specs.Bits.{Bits};
 ghost use Rattle.words.specs.Word.{transform};
-ghost use Rattle.decoding.specs.Readings.{sizes};
+ghost use Rattle.decoding.specs.Readings.{sizes, sumLimit};
 ghost use Rattle.decoding.specs.Walk.{value};
 ghost use Rattle.rows.specs.Rows.{rowOf, withRow};
 ghost use Rattle.memory.specs.Memory.{below, newRow, remade, Arrays, Made, Stands};
@@ -96,7 +96,7 @@ fn word_of_4(path: &[u8], word: &mut [u8], e: usize)
 fn row(rows: &mut [i32], path: &[u8], word: &mut [u8], t: usize, i: usize)
     requires { ⌜ (2 ^ t + 2 ^ t + (2 ^ t + 2 ^ t) ≤ 256) × (i < 256)
         × Arrays (now rows) (now path) × (length (now word) ≡ 256)
-        × (sizes (rowOf (2 ^ t + 2 ^ t) (now rows)) < 2 ^ 31) ⌝ }
+        × (sizes (rowOf (2 ^ t + 2 ^ t) (now rows)) < sumLimit) ⌝ }
     ensures { λ _. ⌜ now (rows .exit) ≡ newRow t i (now (path .entry)) (now (rows .entry)) ⌝ }
 {
     let h = power(t);

@@ -4,7 +4,7 @@ use mathlib.Core.List.{List}
 use Prim.Native.Nat.{ℕ, _+_, _-_, _^_, _≤_, _<_}
 use lib.IntN.{ℤ}
 use lib.ListN.{length}
-use Rattle.decoding.specs.Readings.{sizes}
+use Rattle.decoding.specs.Readings.{sizes, sumLimit}
 use Rattle.rows.specs.Rows.{rowOf}
 
 -- a row l of 2^m, with as many kinds and room for as many bits
@@ -12,7 +12,7 @@ pub record Sized (m : ℕ) (kinds word : List ℕ) (l : List ℤ) : Type 0 where
   pub long-kinds : length kinds ≡ 2 ^ m
   pub long-word : length word ≡ 2 ^ m
   pub long-row : length l ≡ 2 ^ m
-  pub small : sizes l < 2 ^ 31
+  pub small : sizes l < sumLimit
 
 -- the row of 2^m sums, in a scratch array of twice as many
 pub record Ready (m : ℕ) (rows : List ℤ) (kinds word : List ℕ) : Type 0 where
@@ -25,4 +25,4 @@ pub record HalfReady (m : ℕ) (rows : List ℤ) (kinds word : List ℕ) : Type 
   pub room : 2 ^ m ≤ length rows
   pub long-kinds : length kinds ≡ 2 ^ m
   pub long-word : length word ≡ 2 ^ m
-  pub small : sizes (rowOf (2 ^ (m - 1)) rows) < 2 ^ 31
+  pub small : sizes (rowOf (2 ^ (m - 1)) rows) < sumLimit

@@ -16,7 +16,7 @@ use Rattle.numbers.specs.Lent.{lent-to, back-to, lent-from, back-from}
 use Rattle.numbers.specs.PartsLaws.{fits-size}
 use Rattle.words.specs.Bits.{Bits, xors}
 use Rattle.words.specs.TransformLaws.{bits-append}
-use Rattle.decoding.specs.Readings.{sizes}
+use Rattle.decoding.specs.Readings.{sizes, sumLimit}
 use Rattle.decoding.specs.Quick.{lowerRow, upperRow, decide, quickWord}
 use Rattle.decoding.specs.StepLaws.{entry-sizes, length-lowerRow, length-upperRow, sizes-lowerRow, sizes-upperRow}
 use Rattle.decoding.specs.QuickLaws.{length-quick, bits-quick}
@@ -140,7 +140,7 @@ module _ (m : ℕ) (kinds word : List ℕ) (l : List ℤ) (s : Sized m kinds wor
         long-kinds = s .long-kinds;
         long-word = f ∙ s .long-word;
         small =
-            subst (λ (k : ℕ). sizes (rowOf k (withRow (mid word) d x)) < 2 ^ 31) (halves .half)
+            subst (λ (k : ℕ). sizes (rowOf k (withRow (mid word) d x)) < sumLimit) (halves .half)
             (rw (rowOf-withRow (mid word) d x fits e) (omega (arith, s .small)));
       }
 
@@ -228,7 +228,7 @@ module _ (m : ℕ) (rows : List ℤ) (kinds word : List ℕ) (r : Ready m rows k
     same = ap (λ (k : ℕ). rowOf k rows) whole
 
     pub lower-asked : (mid word + mid word + (mid word + mid word) ≤ length rows)
-        × (sizes (rowOf (mid word + mid word) rows) < 2 ^ 31)
+        × (sizes (rowOf (mid word + mid word) rows) < sumLimit)
     lower-asked = (omega (arith, whole, r .long-rows), rw same (r .sized .small))
 
     room : length word ≤ length rows
@@ -260,7 +260,7 @@ module _ (m : ℕ) (rows : List ℤ) (kinds word : List ℕ) (r : Ready m rows k
 
     module _ (q : List ℤ) (w : List ℕ) (f : FirstRead m rows kinds word q w) where
       pub upper-row-asked : (mid word + mid word + (mid word + mid word) ≤ length q) × (mid word ≤ length w)
-          × (sizes (rowOf (mid word + mid word) q) < 2 ^ 31)
+          × (sizes (rowOf (mid word + mid word) q) < sumLimit)
       upper-row-asked = (omega (arith, lower-asked .0, f .long-rows), omega (arith, f .long), rw (f .row) (r .sized .small))
 
       module _ (s : List ℤ) (is : s ≡ withRow (mid word) q (upperRow (mid word) (rowOf (mid word + mid word) q) (take (mid word) w))) where

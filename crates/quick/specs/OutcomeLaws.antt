@@ -10,7 +10,7 @@ use Rattle.numbers.specs.Lent.{lent-again}
 use Rattle.words.specs.Word.{transform}
 use Rattle.words.specs.Kinds.{kinds, pick}
 use Rattle.words.specs.KindLaws.{length-kinds, sum-kinds, bits-kinds}
-use Rattle.decoding.specs.Readings.{penalty, sizes}
+use Rattle.decoding.specs.Readings.{penalty, sizes, sumLimit}
 use Rattle.decoding.specs.Quick.{quickWord, quickBits, quickPenalty}
 use Rattle.decoding.specs.QuickLaws.{length-quick, bits-quick}
 use Rattle.code.specs.declared.Code.{Code}
@@ -34,7 +34,7 @@ module _ (r m : ℕ) (l : List ℤ) (bits word : List ℕ) where
   reading-done c o e f = rw (← e) f
 
 -- the running sums of sound readings are small
-pub sums-small : {c : Code} {l : List ℤ} {k n : ℕ} → SoundReadings c l k n → sizes l < 2 ^ 31
+pub sums-small : {c : Code} {l : List ℤ} {k n : ℕ} → SoundReadings c l k n → sizes l < sumLimit
 sums-small {l = l} a =
     omega (arith, sums-most l (omega (arith, a .entries .long, length-most (a .sound))) (a .entries .within))
 

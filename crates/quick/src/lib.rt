@@ -6,7 +6,7 @@ ghost use mathlib.Core.Path.{_≡_};
 ghost use mathlib.Core.List.{_++_};
 ghost use Prim.Native.Nat.{_-_, _^_, _≤_, _<_};
 ghost use lib.ListN.{length, take, drop};
-ghost use Rattle.decoding.specs.Readings.{penalty, sizes};
+ghost use Rattle.decoding.specs.Readings.{penalty, sizes, sumLimit};
 ghost use Rattle.decoding.specs.Quick.{decide, quickWord};
 ghost use Rattle.code.specs.Sound.{largestM};
 ghost use Rattle.code.specs.SoundInput.{SoundReadings};
@@ -50,7 +50,7 @@ pub fn take_reading(code: Code, readings: &[i16], bits: &mut [u8], word: &mut [u
 
 fn penalty(readings: &[i16], word: &[u8]) -> u32
     requires { ⌜ (length (now word) ≡ length (now readings))
-        × (sizes (now readings) < 2 ^ 31) ⌝ }
+        × (sizes (now readings) < sumLimit) ⌝ }
     ensures { λ p. ⌜ p ≡ penalty (now (readings .entry)) (now (word .entry)) ⌝ }
 {
     let mut sum = 0u32;

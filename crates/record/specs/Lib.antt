@@ -6,6 +6,7 @@ pub mod Demands
 -- Laws of the reader; no second outcome; reading what was written; demand 1 is met
 pub mod ReaderLaws
 pub mod Accepted
+pub mod RunningSums
 pub mod HeaderLaws
 pub mod OnlyHeader
 pub mod WritingLaws

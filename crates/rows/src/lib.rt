@@ -1,10 +1,10 @@
 // The two combining steps, on one pair and over rows; what a bit loses at a value.
 // Rows of running sums stand in one scratch array, the row of n sums at [n .. 2n].
 ghost use mathlib.Core.Path.{_≡_};
-ghost use Prim.Native.Nat.{_+_, _^_, _≤_, _<_};
+ghost use Prim.Native.Nat.{_+_, _≤_, _<_};
 ghost use lib.IntN.{natAbs};
 ghost use lib.ListN.{length, take};
-ghost use Rattle.decoding.specs.Readings.{loss, sizes};
+ghost use Rattle.decoding.specs.Readings.{loss, sizes, sumLimit};
 ghost use Rattle.decoding.specs.Quick.{lower, upper, lowerRow, upperRow};
 ghost use Rattle.rows.specs.Order.{lesser, greater};
 ghost use Rattle.rows.specs.Rows.{rowOf, withRow};
@@ -24,7 +24,7 @@ fn greater(x: i32, y: i32) -> i32
 // The smaller of |x| and |y|, with the sign of their product: the greater of their lesser and of
 // minus their greater, which needs no branch.
 pub fn lower(x: i32, y: i32) -> i32
-    requires { ⌜ (natAbs x < 2 ^ 31) × (natAbs y < 2 ^ 31) ⌝ }
+    requires { ⌜ (natAbs x < sumLimit) × (natAbs y < sumLimit) ⌝ }
     ensures { λ r. ⌜ r ≡ lower x y ⌝ }
 {
     let turned = -greater(x, y);
@@ -33,7 +33,7 @@ pub fn lower(x: i32, y: i32) -> i32
 
 // y + x where a is 0, else y - x.
 pub fn upper(x: i32, y: i32, a: u8) -> i32
-    requires { ⌜ natAbs x + natAbs y < 2 ^ 31 ⌝ }
+    requires { ⌜ natAbs x + natAbs y < sumLimit ⌝ }
     ensures { λ r. ⌜ r ≡ upper x y a ⌝ }
 {
     if a == 0 { y + x } else { y - x }
@@ -41,7 +41,7 @@ pub fn upper(x: i32, y: i32, a: u8) -> i32
 
 // The size of a value that the bit contradicts, else 0.
 pub fn loss(value: i32, bit: u8) -> u32
-    requires { ⌜ natAbs value < 2 ^ 31 ⌝ }
+    requires { ⌜ natAbs value < sumLimit ⌝ }
     ensures { λ p. ⌜ p ≡ loss value bit ⌝ }
 {
     if bit == 0 {
@@ -59,7 +59,7 @@ pub fn loss(value: i32, bit: u8) -> u32
 // The row of h sums for the lower half, from the row of 2h sums.
 pub fn lower_row(rows: &mut [i32], h: usize)
     requires { ⌜ (h + h + (h + h) ≤ length (now rows))
-        × (sizes (rowOf (h + h) (now rows)) < 2 ^ 31) ⌝ }
+        × (sizes (rowOf (h + h) (now rows)) < sumLimit) ⌝ }
     ensures { λ _. ⌜ now (rows .exit)
         ≡ withRow h (now (rows .entry)) (lowerRow h (rowOf (h + h) (now (rows .entry)))) ⌝ }
 {
@@ -73,7 +73,7 @@ pub fn lower_row(rows: &mut [i32], h: usize)
 // The row of h sums for the upper half, from the row of 2h sums and the lower half's word.
 pub fn upper_row(rows: &mut [i32], h: usize, word: &[u8])
     requires { ⌜ (h + h + (h + h) ≤ length (now rows)) × (h ≤ length (now word))
-        × (sizes (rowOf (h + h) (now rows)) < 2 ^ 31) ⌝ }
+        × (sizes (rowOf (h + h) (now rows)) < sumLimit) ⌝ }
     ensures { λ _. ⌜ now (rows .exit)
         ≡ withRow h (now (rows .entry))
         (upperRow h (rowOf (h + h) (now (rows .entry))) (take h (now (word .entry)))) ⌝ }

@@ -7,7 +7,7 @@ use lib.IntN.{ℤ}
 use lib.ListN.{length, getD, take, drop}
 use lib.Dec.{ltb, leb}
 use Rattle.words.specs.Bits.{Bits}
-use Rattle.decoding.specs.Readings.{sizes}
+use Rattle.decoding.specs.Readings.{sizes, sumLimit}
 use Rattle.decoding.specs.Walk.{Full, Held, none, one, two, State, start, finished, value, pathPenalty}
 use Rattle.decoding.specs.Allowance.{Limited, ended, out, extendWithin, walkWithin}
 use Rattle.memory.specs.Memory.{Stands, ValueReady}
@@ -155,7 +155,7 @@ pub record Ready (l : List ℤ) (kinds : List ℕ) (s : List ℤ) (y best second
   pub room : 2 ^ w .m ≤ 256
   pub long : length l ≡ 2 ^ w .m
   pub long-kinds : length kinds ≡ 2 ^ w .m
-  pub small : sizes l < 2 ^ 31
+  pub small : sizes l < sumLimit
   pub inside : i ≤ 2 ^ w .m
   pub penalty : p ≡ pathPenalty (w .m) l (take i y)
   pub going : w .out ≡ false
@@ -238,7 +238,7 @@ pub record Walkable (m : ℕ) (l : List ℤ) (kinds best second : List ℕ) : Ty
   pub room : 2 ^ m ≤ 256
   pub long : length l ≡ 2 ^ m
   pub long-kinds : length kinds ≡ 2 ^ m
-  pub small : sizes l < 2 ^ 31
+  pub small : sizes l < sumLimit
   pub both : AreBits m best second
 
 pub record Walked (allowed m : ℕ) (l : List ℤ) (kinds : List ℕ) (w : Progress) (best second : List ℕ) : Type 0 where

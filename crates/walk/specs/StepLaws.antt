@@ -14,7 +14,7 @@ use borrow.Author.Tests.{lt-leb, ltb-false, ltb-true}
 use Rattle.numbers.specs.Halves.{length-more}
 use Rattle.words.specs.Bits.{Bits}
 use Rattle.words.specs.TransformLaws.{bits-more, bits-take}
-use Rattle.decoding.specs.Readings.{loss}
+use Rattle.decoding.specs.Readings.{loss, sumLimit}
 use Rattle.decoding.specs.Quick.{hard}
 use Rattle.decoding.specs.Walk.{State, Full, dropped, finished, value}
 use Rattle.decoding.specs.Allowance.{Limited, ended, out, andThen, extendWithin, walkWithin}
@@ -133,11 +133,11 @@ module _ {l : List ℤ} {kinds : List ℕ} {s : List ℤ} {y best second : List 
         before = r .kept .rows;
       }
 
-  pub value-small : natAbs (value (w .m) l (take i y)) < 2 ^ 31
+  pub value-small : natAbs (value (w .m) l (take i y)) < sumLimit
   value-small = omega (arith, value-sizes (w .m) l (take i y), r .small)
 
   module _ (b : ℕ) (inside : i < 2 ^ w .m) (bit : b < 2) where
-    pub sum-small : p + loss (value (w .m) l (take i y)) b < 2 ^ 31
+    pub sum-small : p + loss (value (w .m) l (take i y)) b < sumLimit
     sum-small =
         let u = take i y in
         let long : length (u ++ b ∷ []) ≤ 2 ^ w .m = rw (length-more u b) (omega (arith, long-here)) in

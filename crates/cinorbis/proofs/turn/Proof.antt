@@ -4,10 +4,10 @@ use Prim.Native.Nat.{_-_}
 use native.Mathlib.Omega.{arith}
 use borrow.Author.Tests.{ltb-false}
 use lib.ListN.{length}
-use Rattle.cinorbis.specs.declared.state.Next.the-variants.{Take, Total, Read}
-use Rattle.cinorbis.specs.State.{nextOf}
-use Rattle.cinorbis.specs.StateLaws.{next-shown, there-first, absent-short}
-use Rattle.cinorbis.specs.Turns.{writes, takes, totals, reads}
+use Rattle.turns.specs.declared.Next.the-variants.{Take, Total, Read}
+use Rattle.turns.specs.Situation.{nextOf}
+use Rattle.turns.specs.SituationLaws.{next-shown, there-first, absent-short}
+use Rattle.cinorbis.specs.Runs.{writes, takes, totals, reads}
 use borrow.Author.Needs.{needs}
 use Rattle.cinorbis.proofs.turn.Statement.{statement}
 use Rattle.cinorbis.proofs.turn.Tie as tie

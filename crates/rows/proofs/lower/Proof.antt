@@ -2,6 +2,7 @@
 use borrow.Author.Needs.{needs}
 use mathlib.Core.Path.{_≡_, ap, ap₂, _∙_}
 use Prim.Native.Nat.{_^_}
+use native.Mathlib.Omega.{arith}
 use lib.IntN.{ℤ, pos, _-ℤ_}
 use mir.Syntax.{w32}
 use mir.Val.{SFits}
@@ -20,7 +21,7 @@ sub-turned c =
     let s = c .before in
     let is : c .greater .result ≡ greater (s .args .x) (s .args .y) =
     rw (toZ-ofZ (s .fits .x), toZ-ofZ (s .fits .y)) at (c .greater .ensures) in
-    let small = size-greater (s .args .x) (s .args .y) (2 ^ 31) (s .pre .0) (s .pre .1) in
+    let small = size-greater (s .args .x) (s .args .y) (2 ^ 31) (omega (arith, s .pre .0)) (omega (arith, s .pre .1)) in
     rw (toZ-ofZ (record { sfits = c .greater .ok }), is) (fits-size _ (size-turned (greater (s .args .x) (s .args .y)) (2 ^ 31) small))
 
 lesser-requires : tie.Need-lesser-requires

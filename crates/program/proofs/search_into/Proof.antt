@@ -1,0 +1,107 @@
+-- `program::search_into` meets its contract: the answer says what becomes of the record.
+use mathlib.Core.Path.{_≡_, ap, sym, _∙_, subst}
+use mathlib.Core.List.{List}
+use Prim.Native.Nat.{ℕ}
+use native.Mathlib.Omega.{arith}
+use Rattle.search.specs.declared.Searched.{Searched}
+use Rattle.program.specs.Program.{Result, answered, resultOf}
+use Rattle.program.specs.Step.{Stepped}
+use Rattle.program.specs.StepLaws.{resultIn, searched-result, found-bits}
+use borrow.Author.Needs.{needs}
+use Rattle.program.proofs.search_into.Statement.{statement}
+use Rattle.program.proofs.search_into.Tie as tie
+
+search-record-requires : tie.Need-search-record-requires
+search-record-requires c κs = search needs
+
+enum-known-penalty : tie.Need-enum-known-penalty
+enum-known-penalty c = search needs
+
+-- what the answer says
+module _ (r : tie.After-search-record) where
+  abbrev g : tie.Start
+  g = r .before .before .before .before .before .before .before
+
+  abbrev bits : List ℕ
+  bits = r .search-record .last .1 .1 .0
+
+  says : resultIn (r .search-record .result) bits ≡ resultOf (g .args .s .now)
+  says =
+      searched-result (g .args .s .now) (g .args .code) bits (r .search-record .last .1 .1 .1 .0) (g .args .bits .now) (g .args .word .now)
+      (g .pre .0 .0) (g .pre .0 .1) (g .pre .0 .2) (r .search-record .result) (r .search-record .ensures)
+
+-- and where it is an answer
+module _ (c : tie.After-known-told) where
+  abbrev at-search : tie.After-search-record
+  at-search = c .before .before .before .before .before .before .before
+
+  abbrev values : ℕ × ℕ × ℕ
+  values = let p = c .before .penalty .given .0 in (p .0, p .1 .0, p .1 .1 .0)
+
+  found : answered (bits at-search) (values .0) (values .1) (values .2) ≡ resultOf (g at-search .args .s .now)
+  found = ap (λ (a : Searched). resultIn a (bits at-search)) (sym (c .before .penalty .given .1)) ∙ says at-search
+
+tell-requires : tie.Need-tell-requires
+tell-requires c κs =
+    let k = c .before .before in
+    let g = k .before .before .before .before .before .before .before .before .before .before .before .before .before .before in
+    let r = k .before .before .before .before .before .before .before .search-record in
+    (g .pre .1 .0, found-bits (g .args .s .now) _ _ _ _ (found k), omega (arith, g .pre .1 .1, r .kept .1 .1 .0), g .pre .1 .2)
+
+enum-known-why : tie.Need-enum-known-why
+enum-known-why c = search needs
+
+refuse-requires : tie.Need-refuse-requires
+refuse-requires c κs = search needs
+
+same-length : tie.Need-same-length
+same-length c = search needs
+
+same-length-2 : tie.Need-same-length-2
+same-length-2 c = search needs
+
+same-length-3 : tie.Need-same-length-3
+same-length-3 c = search needs
+
+returns : tie.Need-returns
+returns c =
+    let k = c .before .before .before .before .before in
+    let g = k .before .before .before .before .before .before .before .before .before .before .before .before .before .before .args in
+    let t = c .before .before .tell in
+    subst (λ (x : Result). Stepped (g .w) (g .s .now) x (g .out .now) (g .at) (t .result) (t .last .1 .1 .1 .1 .1 .1 .0)) (found k) (t .ensures)
+
+same-length-4 : tie.Need-same-length-4
+same-length-4 c = search needs
+
+same-length-5 : tie.Need-same-length-5
+same-length-5 c = search needs
+
+same-length-6 : tie.Need-same-length-6
+same-length-6 c = search needs
+
+returns-2 : tie.Need-returns-2
+returns-2 c =
+    let k = c .before .before .before .before in
+    let r = c .before .before .before .before .before .before .before .before .before .before .before in
+    let g = c .before .before .before .before .before .before .before .before .before .before .before .before .before .before .before .before .before .before .args in
+    let t = c .before .before .refuse in
+    let is = ap (λ (a : Searched). resultIn a (bits r)) (sym (k .before .why .given .1)) ∙ says r in
+    subst (λ (x : Result). Stepped (g .w) (g .s .now) x (g .out .now) (g .at) (t .result) (t .last .1 .1 .1 .0)) is (t .ensures)
+
+pub search-into-spec : {M : Type 1} → statement M
+search-into-spec =
+    tie.close
+    (tie.spec
+    search-record-requires
+    enum-known-penalty
+    tell-requires
+    enum-known-why
+    refuse-requires
+    same-length
+    same-length-2
+    same-length-3
+    returns
+    same-length-4
+    same-length-5
+    same-length-6
+    returns-2)
