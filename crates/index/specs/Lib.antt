@@ -10,3 +10,5 @@ pub mod FindingLaws
 pub mod MakingLaws
 pub mod AppendingLaws
 pub mod OwnMet
+pub mod AppendMet
+pub mod OnlyIndex

@@ -178,7 +178,7 @@ module _ (s table : List ℕ) where
   made-short (refused why) e h = let z : _≡_ {A = ℕ} 0 1 = cc in absurd (omega arith)
   made-short (these l) e h = rw (lt-ltb (length table) (length (entriesOf l)) h)
 
-  made-whole : (t : Starts) → t ≡ these (listOf t) → length (entriesOf (listOf t)) ≤ length table
+  pub made-whole : (t : Starts) → t ≡ these (listOf t) → length (entriesOf (listOf t)) ≤ length table
       → told (Done (indexOf (length (listOf t)) (length s))) (entriesOf (listOf t) ++ drop (length (entriesOf (listOf t))) table) ≡ madeBy t s table
   made-whole (refused why) e h = let z : _≡_ {A = ℕ} 0 1 = cc in absurd (omega arith)
   made-whole (these l) e h = rw (le-ltb (length table) (length (entriesOf l)) h)

@@ -5,10 +5,12 @@ use Prim.Native.Nat.{ℕ, _/_, _≤_, _<_}
 use lib.ListN.{length, take}
 use Rattle.code.specs.declared.Refusal.the-variants.{Torn, NoEntry}
 use Rattle.index.specs.declared.Index.{Index}
+use Rattle.index.specs.declared.Indexed.the-variants.{Done}
 use Rattle.index.specs.declared.Place.the-variants.{Refused}
 use Rattle.index.specs.Steps.{these, startsOf}
 use Rattle.index.specs.Finding.{block, startIn, fromBeginning, headerAt, partAt, headerIn, partIn}
-use Rattle.index.specs.Making.{entriesOf, listOf}
+use Rattle.index.specs.Making.{entriesOf, told, making, listOf}
+use Rattle.index.specs.Appending.{AppendOutcome}
 
 -- a capture of whole records, and the entries that are made of it
 pub record Own (s table : List ℕ) : Type 0 where
@@ -38,3 +40,7 @@ pub record Belongs (index : Index) (capture table : List ℕ) : Type 0 where
   pub whole : startsOf (take (index .used) capture) ≡ these (listOf (startsOf (take (index .used) capture)))
   pub count : index .records ≡ length (listOf (startsOf (take (index .used) capture)))
   pub entries : let own = entriesOf (listOf (startsOf (take (index .used) capture))) in take (length own) table ≡ own
+
+-- what an append leaves is what is made afresh of the longer capture
+abbrev pub MadeAfresh : AppendOutcome → List ℕ → Type 0
+MadeAfresh o table = making (take (o .index .used) (o .capture)) table ≡ told (Done (o .index)) (o .table)

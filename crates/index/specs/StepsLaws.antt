@@ -168,6 +168,7 @@ starts-none s at h f =
     some-with : (t : Starts) → andThese at t ≡ these [] → ⊥
     some-with (these l) g = let n : _≡_ {A = ℕ} 0 1 = cc in omega arith
     some-with (refused why) g = let n : _≡_ {A = ℕ} 0 1 = cc in omega arith
+
     some-by : (p : Place) → at < length s → stepped s at ≡ p → ⊥
     some-by (Refused why) inside e =
         let z : refused why ≡ these [] = sym (starts-refused s at why inside e) ∙ f in
