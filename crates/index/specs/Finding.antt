@@ -1,7 +1,7 @@
 -- What finding a record by its number gives, whatever table is handed in (docs/RULES.md, §14).
 use mathlib.Core.List.{List, []}
 use mathlib.Core.Bool.{cond}
-use Prim.Native.Nat.{ℕ, suc, _/_, _%_}
+use Prim.Native.Nat.{ℕ, _+_, _/_, _%_}
 use lib.ListN.{length, getD, drop}
 use lib.Dec.{leb, eqb}
 use Rattle.code.specs.declared.Refusal.the-variants.{Torn, NoEntry}
@@ -47,3 +47,15 @@ headerIn s table w = headerAt s (startIn s table w)
 
 abbrev pub partIn : List ℕ → List ℕ → ℕ → List ℕ
 partIn s table w = partAt s (startIn s table w)
+
+-- where that part starts in the capture: behind the record's first byte; 0 on refusal
+abbrev pub partAfter : Header → ℕ → ℕ
+partAfter (header.Refused why) start = 0
+partAfter (header.Record c) start = start + 1
+
+abbrev pub partStartAt : List ℕ → Place → ℕ
+partStartAt s (Refused why) = 0
+partStartAt s (At start) = partAfter (headerOf (drop start s)) start
+
+abbrev pub partStart : List ℕ → List ℕ → ℕ → ℕ
+partStart s table w = partStartAt s (startIn s table w)

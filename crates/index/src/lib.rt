@@ -5,10 +5,11 @@ use code::Refusal;
 use record::Header;
 use record::Written;
 ghost use mathlib.Core.Path.{_≡_};
+ghost use Prim.Native.Nat.{_+_, _<_, _^_};
 ghost use lib.ListN.{length};
 ghost use Rattle.record.specs.Reader as Reader;
 ghost use Rattle.index.specs.Steps.{stepped, passed, startsOf};
-ghost use Rattle.index.specs.Finding.{startIn, headerIn, partIn};
+ghost use Rattle.index.specs.Finding.{startIn, headerIn, partIn, partAfter, partStart};
 ghost use Rattle.index.specs.Making.{Room, Enterable, counted, entriesFor, withEntry};
 ghost use Rattle.index.specs.Making.{entered, told, making};
 ghost use Rattle.index.specs.Appending.{Fitting, toldAppend, full, appended, appending};
@@ -110,6 +111,27 @@ pub fn find<'a>(capture: &'a [u8], table: &[usize], w: usize) -> &'a [u8]
     match start_of(capture, table, w) {
         Place::At(start) => record::packed(&capture[start..]),
         Place::Refused(_) => &capture[..0],
+    }
+}
+
+// Behind the first byte of a record that starts here.
+fn part_after(header: Header, start: usize) -> usize
+    requires { ⌜ start + 1 < 2 ^ 64 ⌝ }
+    ensures { λ k. ⌜ k ≡ partAfter header start ⌝ }
+{
+    match header {
+        Header::Record(_) => start + 1,
+        Header::Refused(_) => 0,
+    }
+}
+
+// Where the packed part of record w starts in the capture. 0 on refusal.
+pub fn part_start(capture: &[u8], table: &[usize], w: usize) -> usize
+    ensures { λ k. ⌜ k ≡ partStart (now (capture .entry)) (now (table .entry)) w ⌝ }
+{
+    match start_of(capture, table, w) {
+        Place::At(start) => part_after(record::header_of(&capture[start..]), start),
+        Place::Refused(_) => 0,
     }
 }
 
