@@ -194,10 +194,8 @@ pub fn make(capture: &[u8], table: &mut [usize]) -> Indexed
                 return Indexed::Refused(Refusal::OutputLength);
             }
             put_entries(capture, table);
-            Indexed::Done(Index {
-                records,
-                used: capture.len(),
-            })
+            let used = capture.len();
+            Indexed::Done(Index { records, used })
         }
         Counted::Refused(why) => Indexed::Refused(why),
     }
