@@ -135,13 +135,13 @@ static double v_quick(work w) {
 }
 
 static double library_search(work w) {
-    uint8_t word[256], bits[256];
+    uint8_t word[256], bits[256], runner_up[256];
     cinorbis_numbers n;
     double visits = 0;
     size_t k = dimension(w.r, w.m), l = (size_t)1 << w.m;
     for (int i = 0; i < w.repeats; i++)
         for (int t = 0; t < SETS; t++) {
-            uint32_t refusal = cinorbis_search_within(w.r, w.m, w.allowed, readings[t], l, bits, k, word, l, &n);
+            uint32_t refusal = cinorbis_search_within(w.r, w.m, w.allowed, readings[t], l, bits, k, word, l, runner_up, &n);
             visits += (double)n.visits;
             sum_library += refusal == 0 ? n.penalty * 3 + n.gap + bits[0] : refusal;
         }
@@ -240,7 +240,7 @@ static void search_figures(uint32_t r, uint32_t m, double noise, const char *kin
 /* records of RM(2,5): packed once, then searched */
 static void record_figures(void) {
     static uint8_t bytes[SETS][CINORBIS_LARGEST_RECORD];
-    uint8_t bits[256], word[256];
+    uint8_t bits[256], word[256], runner_up[256];
     cinorbis_numbers n;
     make(2, 5, 0.4);
     for (int t = 0; t < SETS; t++) {
@@ -257,7 +257,7 @@ static void record_figures(void) {
     for (int i = 0; i < ROUNDS; i++) {
         double start = now();
         for (int repeat = 0; repeat < 20; repeat++)
-            for (int t = 0; t < SETS; t++) sum_library += cinorbis_search_record(1000000, bytes[t], 49, bits, 16, word, 32, &n);
+            for (int t = 0; t < SETS; t++) sum_library += cinorbis_search_record(1000000, bytes[t], 49, bits, 16, word, 32, runner_up, &n);
         double taken = (now() - start) / (20.0 * SETS);
         if (taken < least) least = taken;
     }
@@ -271,13 +271,13 @@ static void grow(void) {
         for (uint32_t r = 0; r <= m; r++)
             for (int level = 0; level < 3; level++) {
                 make(r, m, noise[level]);
-                uint8_t bits[256], word[256];
+                uint8_t bits[256], word[256], runner_up[256];
                 cinorbis_numbers n;
                 size_t k = dimension(r, m), l = (size_t)1 << m;
                 double visits = 0, start = now();
                 int out = 0;
                 for (int t = 0; t < SETS; t++) {
-                    out += cinorbis_search_within(r, m, 200000, readings[t], l, bits, k, word, l, &n) == 6;
+                    out += cinorbis_search_within(r, m, 200000, readings[t], l, bits, k, word, l, runner_up, &n) == 6;
                     visits += (double)n.visits;
                 }
                 printf("%u %u %zu %.1f %.1f %.0f %d\n", (unsigned)r, (unsigned)m, k, noise[level], visits / SETS, (now() - start) / SETS, out);

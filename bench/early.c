@@ -62,6 +62,13 @@ static void make(uint32_t r, uint32_t m, double noise, double most) {
 
 typedef uint32_t call(uint32_t, uint32_t, const int16_t *, size_t, uint8_t *, size_t, uint8_t *, size_t, cinorbis_numbers *);
 
+/* the search, whose runner-up nobody looks at */
+static uint32_t search_alone(uint32_t r, uint32_t m, const int16_t *l, size_t n, uint8_t *bits, size_t k, uint8_t *word, size_t w,
+                             cinorbis_numbers *numbers) {
+    uint8_t runner_up[256];
+    return cinorbis_search(r, m, l, n, bits, k, word, w, runner_up, numbers);
+}
+
 /* the time of one round over all words */
 static double round_of(call *f, uint32_t r, uint32_t m) {
     uint8_t bits[256], word[256];
@@ -83,7 +90,7 @@ static int at_once(uint32_t r, uint32_t m) {
         uint8_t bits[2][256], word[2][256];
         cinorbis_numbers a, b;
         count += cinorbis_early_within(r, m, 0, readings[t], n, bits[0], k, word[0], n, &a) == CINORBIS_DONE;
-        if (cinorbis_search(r, m, readings[t], n, bits[0], k, word[0], n, &a) != CINORBIS_DONE) continue;
+        if (search_alone(r, m, readings[t], n, bits[0], k, word[0], n, &a) != CINORBIS_DONE) continue;
         if (cinorbis_early(r, m, readings[t], n, bits[1], k, word[1], n, &b) != CINORBIS_DONE || a.penalty != b.penalty ||
             memcmp(bits[0], bits[1], k) != 0 || memcmp(word[0], word[1], n) != 0)
             disagreed = 1;
@@ -97,7 +104,7 @@ static void figures(uint32_t r, uint32_t m, double noise, int clipped) {
     double early = INFINITY, search = INFINITY;
     for (int i = 0; i < ROUNDS; i++) {
         early = fmin(early, round_of(cinorbis_early, r, m));
-        search = fmin(search, round_of(cinorbis_search, r, m));
+        search = fmin(search, round_of(search_alone, r, m));
     }
     printf("| RM(%u,%u) | %.2f | %s | %.0f%% | %.2f | %.2f | %.2f |\n", r, m, noise, clipped ? "yes" : "no", 100.0 * count / WORDS,
            early / WORDS / 1000, search / WORDS / 1000, early / search);

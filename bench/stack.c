@@ -10,7 +10,7 @@
 #define ROOM (1 << 20)
 static unsigned char *stack;
 static int16_t readings[256];
-static uint8_t bits[256], word[256], record[CINORBIS_LARGEST_RECORD];
+static uint8_t bits[256], word[256], runner_up[256], record[CINORBIS_LARGEST_RECORD];
 static cinorbis_telegram shown;
 static cinorbis_written written;
 static uint8_t table[64], row[8];
@@ -22,7 +22,7 @@ static void *nothing(void *a) { return a; }
 
 /* the walk is deepest where every index carries information */
 static void *search(void *a) {
-    refusal = cinorbis_search(8, 8, readings, 256, bits, 256, word, 256, &numbers);
+    refusal = cinorbis_search(8, 8, readings, 256, bits, 256, word, 256, runner_up, &numbers);
     return a;
 }
 
@@ -32,7 +32,7 @@ static void *early(void *a) {
 }
 
 static void *search_record(void *a) {
-    refusal = cinorbis_search_record(CINORBIS_DEFAULT_ALLOWANCE, record, sizeof record, bits, 256, word, 256, &numbers);
+    refusal = cinorbis_search_record(CINORBIS_DEFAULT_ALLOWANCE, record, sizeof record, bits, 256, word, 256, runner_up, &numbers);
     return a;
 }
 

@@ -13,8 +13,12 @@
  * the length is 0, and what a call writes overlaps nothing else that it is given: these two are not tested. All else is: any numbers may be
  * handed in.
  *
- * Answers: a call returns 0 when it is done, or the number of its refusal. A refused call leaves every buffer as it was. The struct of
- * numbers is written by every call, with 0 in what the call or its refusal does not carry.
+ * Answers: a call returns 0 when it is done, or the number of its refusal. A refused call leaves every buffer as it was, but for a runner-up. The
+ * struct of numbers and the runner-up are written by every call, with 0 in what the call or its refusal does not carry.
+ *
+ * The runner-up of a search: the k information bits of the second full path that the walk holds at its end, one per byte, in 256 bytes. Their word has
+ * the next best penalty, penalty + gap; where several words share that penalty, the walk decides which one it is (§5). The bytes past the k-th
+ * are 0, and under every refusal all 256 are.
  *
  * Every call ends. None keeps anything from one call to the next, so any number of threads may call at once, each with its own buffers. There is
  * no heap; the archive asks for memcpy and memset alone. */
@@ -29,7 +33,7 @@ extern "C" {
 #endif
 
 /* Raised when a call is added or changed. */
-#define CINORBIS_VERSION 12
+#define CINORBIS_VERSION 13
 
 #define CINORBIS_LARGEST_M 8u
 /* A reading is from -32767 to 32767: of the 16-bit numbers only -32768 is none, and is refused as 4. */
@@ -166,17 +170,19 @@ CINORBIS_CALL uint32_t cinorbis_quick(uint32_t r, uint32_t m, const int16_t *rea
                                       size_t bits_length, uint8_t *word, size_t word_length, cinorbis_numbers *numbers);
 
 /* The search for the best word with the default allowance. In: n readings. Out: the k bits and the word of least penalty, that penalty,
- * the gap (above 0) and the visits. Refuses 1, 2, 3, 4, then 6 or 7. Promise: search::search. */
+ * the gap (above 0) and the visits; the runner-up, always 256 bytes. Refuses 1, 2, 3, 4, then 6 or 7. Promise: search::search. */
 CINORBIS_CALL uint32_t cinorbis_search(uint32_t r, uint32_t m, const int16_t *readings, size_t readings_length, uint8_t *bits,
-                                       size_t bits_length, uint8_t *word, size_t word_length, cinorbis_numbers *numbers);
+                                       size_t bits_length, uint8_t *word, size_t word_length, uint8_t runner_up[256],
+                                       cinorbis_numbers *numbers);
 
 /* The same with an allowance of visits, any number. Promise: search::search_within. */
 CINORBIS_CALL uint32_t cinorbis_search_within(uint32_t r, uint32_t m, uint32_t allowed, const int16_t *readings,
                                               size_t readings_length, uint8_t *bits, size_t bits_length, uint8_t *word,
-                                              size_t word_length, cinorbis_numbers *numbers);
+                                              size_t word_length, uint8_t runner_up[256], cinorbis_numbers *numbers);
 
 /* The early answer: the quick reading's word at once where it is surely the best one (§10), else by the
- * search with the default allowance. In: n readings. Out: the k bits and the word of least penalty, and that penalty; gap and visits are 0.
+ * search with the default allowance. In: n readings. Out: the k bits and the word of least penalty, and that penalty; gap and visits are 0, and there is
+ * no runner-up.
  * Refuses 1, 2, 3, 4, then 6 or 7 where the search was needed, each as cinorbis_search gives it. It pays where most words arrive clean and the readings
  * are clipped near the word's own size (README.md, "Speed"). Promise: early::early. */
 CINORBIS_CALL uint32_t cinorbis_early(uint32_t r, uint32_t m, const int16_t *readings, size_t readings_length, uint8_t *bits,
@@ -188,7 +194,7 @@ CINORBIS_CALL uint32_t cinorbis_early_within(uint32_t r, uint32_t m, uint32_t al
                                              cinorbis_numbers *numbers);
 
 /* First-order words (§13): the best word of RM(1,m), m from 1 to 8, without a walk. In: n readings. Out: as cinorbis_search with an allowance as large as
- * the whole tree, but visits are always 0. Refuses 1 (also for r other than 1, and m = 0), 2, 3, 4, then 7; never 6. Promise: first_order::first_order. */
+ * the whole tree, but visits are always 0, and there is no runner-up. Refuses 1 (also for r other than 1, and m = 0), 2, 3, 4, then 7; never 6. Promise: first_order::first_order. */
 CINORBIS_CALL uint32_t cinorbis_first_order(uint32_t r, uint32_t m, const int16_t *readings, size_t readings_length, uint8_t *bits,
                                             size_t bits_length, uint8_t *word, size_t word_length, cinorbis_numbers *numbers);
 
@@ -211,7 +217,8 @@ CINORBIS_CALL uint32_t cinorbis_unpack(const uint8_t *part, size_t part_length, 
 /* The search of the record that the bytes begin with. Out as cinorbis_search_within. Refuses 1, 8, 9, 3, then 6 or 7; never 4.
  * Promise: record::search_record. */
 CINORBIS_CALL uint32_t cinorbis_search_record(uint32_t allowed, const uint8_t *bytes, size_t bytes_length, uint8_t *bits,
-                                              size_t bits_length, uint8_t *word, size_t word_length, cinorbis_numbers *numbers);
+                                              size_t bits_length, uint8_t *word, size_t word_length, uint8_t runner_up[256],
+                                              cinorbis_numbers *numbers);
 
 /* ---- The index of a capture (§14): a lent table with the start of every 16th record, so that any record is found in at most 15 steps. Making it and
  * stepping look at first bytes and lengths only: a pad bit is refused, as 9, only in the record asked for. */

@@ -36,17 +36,36 @@ static inline answer quick(uint32_t r, uint32_t m, const int16_t *l, size_t n_, 
     CALL(cinorbis_quick, r, m, l, n_, bits, k, word, w);
 }
 
+/* the searches with their runner-up, and without: then it goes into bytes that nobody looks at */
+static inline answer search_second(uint32_t r, uint32_t m, const int16_t *l, size_t n_, uint8_t *bits, size_t k, uint8_t *word, size_t w,
+                                   uint8_t *second) {
+    CALL(cinorbis_search, r, m, l, n_, bits, k, word, w, second);
+}
+
+static inline answer search_within_second(uint32_t r, uint32_t m, uint32_t allowed, const int16_t *l, size_t n_, uint8_t *bits, size_t k,
+                                          uint8_t *word, size_t w, uint8_t *second) {
+    CALL(cinorbis_search_within, r, m, allowed, l, n_, bits, k, word, w, second);
+}
+
+static inline answer search_record_second(uint32_t allowed, const uint8_t *s, size_t n_, uint8_t *bits, size_t k, uint8_t *word, size_t w,
+                                          uint8_t *second) {
+    CALL(cinorbis_search_record, allowed, s, n_, bits, k, word, w, second);
+}
+
 static inline answer search(uint32_t r, uint32_t m, const int16_t *l, size_t n_, uint8_t *bits, size_t k, uint8_t *word, size_t w) {
-    CALL(cinorbis_search, r, m, l, n_, bits, k, word, w);
+    uint8_t second[256];
+    return search_second(r, m, l, n_, bits, k, word, w, second);
 }
 
 static inline answer search_within(uint32_t r, uint32_t m, uint32_t allowed, const int16_t *l, size_t n_, uint8_t *bits, size_t k, uint8_t *word,
                             size_t w) {
-    CALL(cinorbis_search_within, r, m, allowed, l, n_, bits, k, word, w);
+    uint8_t second[256];
+    return search_within_second(r, m, allowed, l, n_, bits, k, word, w, second);
 }
 
 static inline answer search_record(uint32_t allowed, const uint8_t *s, size_t n_, uint8_t *bits, size_t k, uint8_t *word, size_t w) {
-    CALL(cinorbis_search_record, allowed, s, n_, bits, k, word, w);
+    uint8_t second[256];
+    return search_record_second(allowed, s, n_, bits, k, word, w, second);
 }
 
 #endif

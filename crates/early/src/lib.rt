@@ -97,7 +97,9 @@ fn test_first(
         half::copy(read_word, word);
         return Answered::Best { penalty };
     }
-    shortened(search::search_sound(code, allowed, readings, bits, word))
+    let answer = search::search_sound(code, allowed, readings, bits, word);
+    let result = answer.result;
+    shortened(result)
 }
 
 // Of a search only word, bits and penalty are given.

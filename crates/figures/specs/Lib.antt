@@ -1,2 +1,3 @@
 pub mod BenchFigures
 pub mod LargestReadings
+pub mod RunnerUpFigures

@@ -90,7 +90,10 @@ fn search_into(
     ensures { λ t. ⌜ Stepped w (now (s .entry)) (resultOf (now (s .entry)))
         (now (out .entry)) at t (now (out .exit)) ⌝ }
 {
-    match record::search_record(s, ALLOWANCE, bits, word) {
+    let answer = record::search_record(s, ALLOWANCE, bits, word);
+    // the line says nothing of the runner-up
+    let result = answer.result;
+    match result {
         Searched::Found {
             penalty,
             gap,

@@ -1,8 +1,10 @@
 -- What the search of a record tells and leaves, for all that it can be given: a record checks 1, 8, 9, then 3, 6 and 7.
-use mathlib.Core.List.{List}
+use mathlib.Core.List.{List, []}
 use Prim.Native.Nat.{ℕ}
+use Rattle.words.specs.Kinds.{kinds}
 use Rattle.search.specs.declared.Searched.the-variants as searched
 use Rattle.search.specs.Outcome.{Outcome, told, searching}
+use Rattle.search.specs.RunnerUp.{WholeOutcome, runnerUp, shownWith}
 use Rattle.record.specs.declared.Header.{Header}
 use Rattle.record.specs.declared.Header.the-variants.{Record, Refused}
 use Rattle.record.specs.Reader.{headerOf, readingsOf}
@@ -14,3 +16,14 @@ searchingBy (Record c) allowed s bits word = searching (c .r) (c .m) allowed (re
 
 unfoldable pub searchingRecord : ℕ → List ℕ → List ℕ → List ℕ → Outcome
 searchingRecord allowed s bits word = searchingBy (headerOf s) allowed s bits word
+
+-- ---- and the runner-up of that search, which no refusal shows
+abbrev pub runnerUpBy : Header → List ℕ → List ℕ
+runnerUpBy (Refused why) s = []
+runnerUpBy (Record c) s = runnerUp (c .m) (kinds (c .r) (c .m)) (readingsOf c s)
+
+abbrev pub searchingWholeBy : Header → ℕ → List ℕ → List ℕ → List ℕ → WholeOutcome
+searchingWholeBy h allowed s bits word = shownWith (runnerUpBy h s) (searchingBy h allowed s bits word)
+
+abbrev pub searchingRecordWhole : ℕ → List ℕ → List ℕ → List ℕ → WholeOutcome
+searchingRecordWhole allowed s bits word = shownWith (runnerUpBy (headerOf s) s) (searchingRecord allowed s bits word)

@@ -8,13 +8,13 @@ ghost use Rattle.packing.specs.Layout.{recordOf, partLength};
 ghost use Rattle.record.specs.Reader.{codeOf, lengthBy, headedBy, headerOf, told, partBy};
 ghost use Rattle.record.specs.Writing as Writing;
 ghost use Rattle.record.specs.Writing.{writable, writing};
-ghost use Rattle.search.specs.Outcome as Search;
-ghost use Rattle.record.specs.Searching.{searchingBy, searchingRecord};
+ghost use Rattle.search.specs.RunnerUp.{toldWhole};
+ghost use Rattle.record.specs.Searching.{searchingWholeBy, searchingRecordWhole};
 use code::Admitted;
 use code::Code;
 use code::Made;
 use code::Refusal;
-use search::Searched;
+use search::WithRunnerUp;
 
 // What bytes begin with: a record of a code, or why not.
 pub enum Header {
@@ -96,20 +96,26 @@ pub fn packed(s: &[u8]) -> &[u8]
 }
 
 // Searches the record that the bytes begin with. The refusals are 1, 8, 9, 3, 6, 7, in this order.
-pub fn search_record(s: &[u8], allowed: u32, bits: &mut [u8], word: &mut [u8]) -> Searched
-    ensures { λ answer. ⌜ Search.told answer (now (bits .exit)) (now (word .exit))
-        ≡ searchingRecord allowed (now (s .entry)) (now (bits .entry)) (now (word .entry)) ⌝ }
+pub fn search_record(s: &[u8], allowed: u32, bits: &mut [u8], word: &mut [u8]) -> WithRunnerUp
+    ensures { λ answer. ⌜ toldWhole answer (now (bits .exit)) (now (word .exit))
+        ≡ searchingRecordWhole allowed (now (s .entry)) (now (bits .entry)) (now (word .entry)) ⌝ }
 {
     match frame(s) {
         Header::Record(code) => search_framed(s, code, allowed, bits, word),
-        Header::Refused(why) => Searched::Refused(why),
+        Header::Refused(why) => WithRunnerUp::refused(why),
     }
 }
 
-fn search_framed(s: &[u8], code: Code, allowed: u32, bits: &mut [u8], word: &mut [u8]) -> Searched
+fn search_framed(
+    s: &[u8],
+    code: Code,
+    allowed: u32,
+    bits: &mut [u8],
+    word: &mut [u8],
+) -> WithRunnerUp
     requires { ⌜ Sound code × (suc (partLength (code .m)) ≤ length (now s)) ⌝ }
-    ensures { λ answer. ⌜ Search.told answer (now (bits .exit)) (now (word .exit))
-        ≡ searchingBy (Header.Record code) allowed (now (s .entry))
+    ensures { λ answer. ⌜ toldWhole answer (now (bits .exit)) (now (word .exit))
+        ≡ searchingWholeBy (Header.Record code) allowed (now (s .entry))
         (now (bits .entry)) (now (word .entry)) ⌝ }
 {
     let mut readings = [0i16; 256];

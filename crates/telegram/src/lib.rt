@@ -93,7 +93,10 @@ pub fn read_within(allowed: u32, readings: &[i16]) -> Heard
 {
     let mut found = [0u8; 16];
     let mut word = [0u8; 32];
-    match search::search_within(2, 5, allowed, readings, &mut found, &mut word) {
+    let answer = search::search_within(2, 5, allowed, readings, &mut found, &mut word);
+    // of its runner-up nothing is shown
+    let result = answer.result;
+    match result {
         Searched::Refused(why) => Heard::Refused(Fault::Link(why)),
         Searched::Found {
             penalty,

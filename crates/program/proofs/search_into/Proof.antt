@@ -4,6 +4,7 @@ use mathlib.Core.List.{List}
 use Prim.Native.Nat.{ℕ}
 use native.Mathlib.Omega.{arith}
 use Rattle.search.specs.declared.Searched.{Searched}
+use Rattle.search.specs.RunnerUp.{WholeOutcome}
 use Rattle.program.specs.Program.{Result, answered, resultOf}
 use Rattle.program.specs.Step.{Stepped}
 use Rattle.program.specs.StepLaws.{resultIn, searched-result, found-bits}
@@ -14,8 +15,8 @@ use Rattle.program.proofs.search_into.Tie as tie
 search-record-requires : tie.Need-search-record-requires
 search-record-requires c κs = search needs
 
-enum-known-penalty : tie.Need-enum-known-penalty
-enum-known-penalty c = search needs
+enum-known-result : tie.Need-enum-known-result
+enum-known-result c = search needs
 
 -- what the answer says
 module _ (r : tie.After-search-record) where
@@ -25,10 +26,10 @@ module _ (r : tie.After-search-record) where
   abbrev bits : List ℕ
   bits = r .search-record .last .1 .1 .0
 
-  says : resultIn (r .search-record .result) bits ≡ resultOf (g .args .s .now)
+  says : resultIn (r .search-record .result .result) bits ≡ resultOf (g .args .s .now)
   says =
       searched-result (g .args .s .now) (g .args .code) bits (r .search-record .last .1 .1 .1 .0) (g .args .bits .now) (g .args .word .now)
-      (g .pre .0 .0) (g .pre .0 .1) (g .pre .0 .2) (r .search-record .result) (r .search-record .ensures)
+      (g .pre .0 .0) (g .pre .0 .1) (g .pre .0 .2) (r .search-record .result .result) (ap (λ (o : WholeOutcome). o .outcome) (r .search-record .ensures))
 
 -- and where it is an answer
 module _ (c : tie.After-known-told) where
@@ -36,10 +37,10 @@ module _ (c : tie.After-known-told) where
   at-search = c .before .before .before .before .before .before .before
 
   abbrev values : ℕ × ℕ × ℕ
-  values = let p = c .before .penalty .given .0 in (p .0, p .1 .0, p .1 .1 .0)
+  values = let p = c .before .result .given .0 in (p .0, p .1 .0, p .1 .1 .0)
 
   found : answered (bits at-search) (values .0) (values .1) (values .2) ≡ resultOf (g at-search .args .s .now)
-  found = ap (λ (a : Searched). resultIn a (bits at-search)) (sym (c .before .penalty .given .1)) ∙ says at-search
+  found = ap (λ (a : Searched). resultIn a (bits at-search)) (sym (c .before .result .given .1)) ∙ says at-search
 
 tell-requires : tie.Need-tell-requires
 tell-requires c κs =
@@ -48,8 +49,8 @@ tell-requires c κs =
     let r = k .before .before .before .before .before .before .before .search-record in
     (g .pre .1 .0, found-bits (g .args .s .now) _ _ _ _ (found k), omega (arith, g .pre .1 .1, r .kept .1 .1 .0), g .pre .1 .2)
 
-enum-known-why : tie.Need-enum-known-why
-enum-known-why c = search needs
+enum-known-result-2 : tie.Need-enum-known-result-2
+enum-known-result-2 c = search needs
 
 refuse-requires : tie.Need-refuse-requires
 refuse-requires c κs = search needs
@@ -85,7 +86,7 @@ returns-2 c =
     let r = c .before .before .before .before .before .before .before .before .before .before .before in
     let g = c .before .before .before .before .before .before .before .before .before .before .before .before .before .before .before .before .before .before .args in
     let t = c .before .before .refuse in
-    let is = ap (λ (a : Searched). resultIn a (bits r)) (sym (k .before .why .given .1)) ∙ says r in
+    let is = ap (λ (a : Searched). resultIn a (bits r)) (sym (k .before .result2 .given .1)) ∙ says r in
     subst (λ (x : Result). Stepped (g .w) (g .s .now) x (g .out .now) (g .at) (t .result) (t .last .1 .1 .1 .0)) is (t .ensures)
 
 pub search-into-spec : {M : Type 1} → statement M
@@ -93,9 +94,9 @@ search-into-spec =
     tie.close
     (tie.spec
     search-record-requires
-    enum-known-penalty
+    enum-known-result
     tell-requires
-    enum-known-why
+    enum-known-result-2
     refuse-requires
     same-length
     same-length-2

@@ -1,7 +1,11 @@
 -- `record::search_record` meets its contract: the frame tells, then the search.
 use mathlib.Core.Path.{_∙_, ap, sym}
+use mathlib.Core.List.{[]}
+use Rattle.search.specs.declared.WithRunnerUp.{WithRunnerUp}
+use Rattle.search.specs.RunnerUp.{toldWhole}
+use Rattle.search.specs.RunnerUpLaws.{none-shown}
 use Rattle.record.specs.declared.Header.{Header}
-use Rattle.record.specs.Searching.{searchingBy, searchingRecord}
+use Rattle.record.specs.Searching.{searchingWholeBy, searchingRecord}
 use Rattle.record.specs.ReaderLaws.{framed-record}
 use borrow.Author.Needs.{needs}
 use Rattle.record.proofs.search_record.Statement.{statement}
@@ -22,6 +26,9 @@ search-framed-requires c κs =
 enum-known-why : tie.Need-enum-known-why
 enum-known-why c = search needs
 
+refused-requires : tie.Need-refused-requires
+refused-requires c κs = search needs
+
 same-length : tie.Need-same-length
 same-length c = search needs
 
@@ -34,15 +41,18 @@ returns c =
     let f = c .before .before .before .before .before .before .before .before .before .before in
     let g = f .before .before .before .before .args in
     c .before .before .before .before .search-framed .ensures
-    ∙ ap (λ (h : Header). searchingBy h (g .allowed) (g .s .now) (g .bits .now) (g .word .now))
+    ∙ ap (λ (h : Header). searchingWholeBy h (g .allowed) (g .s .now) (g .bits .now) (g .word .now))
     (sym (sym (f .frame .ensures) ∙ c .before .before .before .before .before .before .before .before .code .given .1))
 
 returns-2 : tie.Need-returns-2
 unfolding searchingRecord
 returns-2 c =
-    let g = c .before .before .before .before .before .before .before .args in
-    ap (λ (h : Header). searchingBy h (g .allowed) (g .s .now) (g .bits .now) (g .word .now))
-    (sym (sym (c .before .before .before .frame .ensures) ∙ c .before .why .given .1))
+    let known = c .before .before in
+    let g = known .before .before .before .before .before .before .args in
+    ap (λ (a : WithRunnerUp). toldWhole a (g .bits .now) (g .word .now)) (c .refused .ensures)
+    ∙ sym (none-shown [] (known .why .given .0 .0) (g .bits .now) (g .word .now))
+    ∙ ap (λ (h : Header). searchingWholeBy h (g .allowed) (g .s .now) (g .bits .now) (g .word .now))
+    (sym (sym (known .before .before .frame .ensures) ∙ known .why .given .1))
 
 pub search-record-spec : {M : Type 1} → statement M
 search-record-spec =
@@ -52,6 +62,7 @@ search-record-spec =
     enum-known-code
     search-framed-requires
     enum-known-why
+    refused-requires
     same-length
     same-length-2
     returns
