@@ -168,7 +168,7 @@ int main(void) {
     bounded("unpacking", unpack, 0, 500);
     bounded("writing a telegram", write_telegram, 0, 500);
     /* readings of no telegram: the word found has the marker set */
-    bounded("reading a telegram", telegram, CINORBIS_MARKER, 6000);
+    bounded("reading a telegram", telegram, CINORBIS_MARKER, 7000);
     printf("%d passed, %d failed\n", passed, failed);
     return failed != 0;
 }

@@ -66,6 +66,7 @@ enum cinorbis_refusal {
     CINORBIS_TIED = 7,          /* search: two words share the least penalty; penalty and visits are given */
     CINORBIS_TORN = 8,          /* record: it ends before its last byte */
     CINORBIS_PAD = 9,           /* record: a pad bit is 1 */
+    CINORBIS_NO_ENTRY = 10,     /* index: no entry for the record, or the capture ends right before it */
     CINORBIS_MAP = 11,          /* maps of positions: a byte of a table or row is above 1, or no map undoes the map */
     CINORBIS_NAMED = 12,        /* shortened sets: the row is not n bytes of 0 and 1, names a frozen index, or leaves no information index */
     CINORBIS_MARKER = 13,       /* telegram: its marker is set, as when the link is turned over */
@@ -87,6 +88,7 @@ static inline const char *cinorbis_refusal_text(uint32_t refusal) {
     case CINORBIS_TIED: return "tied: two words share the least penalty";
     case CINORBIS_TORN: return "the record ends before its last byte";
     case CINORBIS_PAD: return "a pad bit of the record is 1";
+    case CINORBIS_NO_ENTRY: return "the index has no entry for this record, or the capture ends before it";
     case CINORBIS_MAP: return "no map of positions: a byte is above 1, or nothing undoes it";
     case CINORBIS_NAMED: return "the row names no part of the information indices";
     case CINORBIS_MARKER: return "the telegram's marker is set: the link is turned over";
@@ -118,6 +120,21 @@ typedef struct {
     uint64_t next;  /* the place after the record */
     uint64_t place; /* under 4: the number of the reading */
 } cinorbis_written;
+
+/* The index of a capture, beside its table. Both 0 when making it is refused. */
+typedef struct {
+    uint64_t records; /* how many there are */
+    uint64_t used;    /* how many bytes they take */
+} cinorbis_index;
+
+/* A record of a capture. All 0 when refused. */
+typedef struct {
+    uint64_t r;
+    uint64_t m;
+    uint64_t start;  /* the packed part starts at capture[start] */
+    uint64_t length; /* of the packed part */
+    uint64_t place;  /* 0: no record is refused as 4 */
+} cinorbis_entry;
 
 /* What the tilt head says. All 0 under every refusal. */
 typedef struct {
@@ -236,6 +253,26 @@ CINORBIS_CALL uint32_t cinorbis_unpack(const uint8_t *part, size_t part_length, 
 CINORBIS_CALL uint32_t cinorbis_search_record(uint32_t allowed, const uint8_t *bytes, size_t bytes_length, uint8_t *bits,
                                               size_t bits_length, uint8_t *word, size_t word_length, uint8_t runner_up[256],
                                               cinorbis_numbers *numbers);
+
+/* ---- The index of a capture (§14): a lent table with the start of every 16th record, so that any record is found in at most 15 steps. Making it and
+ * stepping look at first bytes and lengths only: a pad bit is refused, as 9, only in the record asked for. */
+
+/* Makes the table of a whole capture. Out: the starts of the records 0, 16, 32 and so on, entries past those as they were, and the index. (records + 15)
+ * / 16 entries are enough. Refuses 1 or 8, whichever is met first, then 3 where the table has too few entries. Promise: index::make. */
+CINORBIS_CALL uint32_t cinorbis_index_make(const uint8_t *capture, size_t capture_length, size_t *table, size_t entries, cinorbis_index *index);
+
+/* Record w, counted from 0, by the table's entry for its block. Out: its code and where its packed part stands. Refuses 10, 1 and 8 as met in stepping, 10,
+ * then 1, 8, 9 of the record itself. With a table of another capture it still only refuses or gives some part of the capture.
+ * Promise: index::header_of, index::find, index::part_start. */
+CINORBIS_CALL uint32_t cinorbis_index_find(size_t w, const uint8_t *capture, size_t capture_length, const size_t *table, size_t entries,
+                                           cinorbis_entry *entry);
+
+/* Writes a record at the end of the used part of a capture's buffer, and its entry where its number is a multiple of 16. The index goes in and comes out; on
+ * refusal it stays as it is. With the capture's own index and table, both are then those that cinorbis_index_make gives for the longer capture.
+ * Refuses 1, 2, 4, then 3 where either buffer has too little room. Promise: index::append. */
+CINORBIS_CALL uint32_t cinorbis_index_append(uint32_t r, uint32_t m, const int16_t *readings, size_t readings_length, uint8_t *capture,
+                                             size_t capture_length, size_t *table, size_t entries, cinorbis_index *index,
+                                             cinorbis_written *written);
 
 /* ---- Turned position orders (§12)
  *

@@ -5,6 +5,8 @@ pub mod Answers
 pub mod ToldLaws
 pub mod AtOnce
 pub mod AtOnceLaws
+pub mod Indexed
+pub mod IndexedLaws
 pub mod Reordered
 pub mod Unpacked
 pub mod Written

@@ -3,6 +3,7 @@
 use code::Refusal;
 use early::Answered;
 use encode::Encoded;
+use index::Indexed;
 use packing::Unpacked;
 use quick::Read;
 use record::Header;
@@ -22,6 +23,8 @@ ghost use Rattle.answers.specs.Answers.{encodedNumber, encodedNumbers, r
 ghost use Rattle.answers.specs.Answers.{searchedNumber, searchedNumbers};
 ghost use Rattle.answers.specs.Answers.{headerNumber, headerNumbers};
 ghost use Rattle.answers.specs.AtOnceLaws.{answeredNumber, answeredNumbers};
+ghost use Rattle.answers.specs.Indexed.{indexedNumber, madeNumbers, entryNumbers};
+ghost use Rattle.answers.specs.Indexed.{appendedNumbers, pairAfter};
 ghost use Rattle.answers.specs.Written.{wroteNumber, wroteNumbers};
 ghost use Rattle.answers.specs.Telegrams.{fields, writtenNumber, shownRead};
 
@@ -226,6 +229,71 @@ pub fn put_heard(answer: Heard, telegram: &mut [u64; 3], out: &mut [u64; 4]) -> 
         Heard::Refused(why) => {
             put_numbers(out, why.penalty(), 0, why.visits(), why.place());
             *telegram = [0, 0, 0];
+            why.number()
+        }
+    }
+}
+
+// The index that was made: records and used.
+pub fn put_made(answer: Indexed, out: &mut [u64; 2]) -> u32
+    ensures { λ number. ⌜ (number ≡ indexedNumber answer) × (now (out .exit) ≡ madeNumbers answer) ⌝ }
+{
+    match answer {
+        Indexed::Done(index) => {
+            put_places(out, index.records, index.used);
+            0
+        }
+        Indexed::Refused(why) => {
+            put_places(out, 0, 0);
+            why.number()
+        }
+    }
+}
+
+// r, m, start, length and place.
+fn put_five(out: &mut [u64; 5], r: u32, m: u32, start: usize, length: usize, place: usize)
+    ensures { λ _. ⌜ now (out .exit) ≡ r ∷ m ∷ start ∷ length ∷ place ∷ [] ⌝ }
+{
+    *out = [
+        r as u64,
+        m as u64,
+        start as u64,
+        length as u64,
+        place as u64,
+    ];
+}
+
+// A record that was found, and where its packed part stands.
+pub fn put_entry(header: Header, start: usize, length: usize, out: &mut [u64; 5]) -> u32
+    ensures { λ number. ⌜ (number ≡ headerNumber header)
+        × (now (out .exit) ≡ entryNumbers header start length) ⌝ }
+{
+    match header {
+        Header::Record(code) => {
+            put_five(out, code.r, code.m, start, length, 0);
+            0
+        }
+        Header::Refused(why) => {
+            put_five(out, 0, 0, start, length, why.place());
+            why.number()
+        }
+    }
+}
+
+// The index after an append, which stays as it is on refusal; the new end and the place under 4.
+pub fn put_appended(answer: Indexed, index: &mut [u64; 2], out: &mut [u64; 2]) -> u32
+    ensures { λ number. ⌜ (number ≡ indexedNumber answer)
+        × (now (index .exit) ≡ pairAfter (now (index .entry)) answer)
+        × (now (out .exit) ≡ appendedNumbers answer) ⌝ }
+{
+    match answer {
+        Indexed::Done(after) => {
+            put_places(index, after.records, after.used);
+            put_places(out, after.used, 0);
+            0
+        }
+        Indexed::Refused(why) => {
+            put_places(out, 0, why.place());
             why.number()
         }
     }

@@ -1,0 +1,55 @@
+-- What C sees of an index: the number returned, the numbers, and what was lent.
+use mathlib.Core.List.{List, [], _∷_}
+use mathlib.Core.Bool.{cond}
+use Prim.Native.Nat.{ℕ}
+use lib.ListN.{length, getD}
+use lib.Dec.{eqb}
+use Rattle.code.specs.Sound.{carried}
+use Rattle.record.specs.declared.Header.{Header}
+use Rattle.record.specs.Reader as Reader
+use Rattle.index.specs.declared.Index.{Index}
+use Rattle.index.specs.declared.Indexed.{Indexed}
+use Rattle.index.specs.declared.Indexed.the-variants.{Done, Refused}
+use Rattle.index.specs.Making.{IndexOutcome, indexOf}
+use Rattle.index.specs.Appending.{AppendOutcome}
+use Rattle.answers.specs.Told.{Told, told}
+
+-- records and used: the header's struct
+abbrev pub pair : Index → List ℕ
+pair index = index .records ∷ index .used ∷ []
+
+abbrev pub indexIn : List ℕ → Index
+indexIn lent = indexOf (getD lent 0 0) (getD lent 1 0)
+
+abbrev pub shownMade : IndexOutcome → Told
+shownMade o = told (o .carry .number) (pair (o .index)) (o .table ∷ [])
+
+-- what a record says and where its packed part stands: r, m, start, length, place
+abbrev pub entryNumbers : Header → ℕ → ℕ → List ℕ
+entryNumbers h start n = let t = Reader.told h in t .r ∷ t .m ∷ start ∷ n ∷ t .carry .place ∷ []
+
+abbrev pub shownEntry : Header → ℕ → List ℕ → Told
+shownEntry h start part = told (Reader.told h .carry .number) (entryNumbers h start (length part)) []
+
+-- the new end and the place under 4; the index, which stays as it is on refusal; both buffers
+abbrev pub shownAppended : List ℕ → AppendOutcome → Told
+shownAppended before o =
+    told (o .carry .number) (o .index .used ∷ o .carry .place ∷ [])
+    (cond (eqb (o .carry .number) 0) (pair (o .index)) before ∷ o .capture ∷ o .table ∷ [])
+
+-- ---- the number of an answer, and the numbers that its values become
+abbrev pub indexedNumber : Indexed → ℕ
+indexedNumber (Done index) = 0
+indexedNumber (Refused why) = carried why .number
+
+abbrev pub madeNumbers : Indexed → List ℕ
+madeNumbers (Done index) = pair index
+madeNumbers (Refused why) = 0 ∷ 0 ∷ []
+
+abbrev pub appendedNumbers : Indexed → List ℕ
+appendedNumbers (Done index) = index .used ∷ 0 ∷ []
+appendedNumbers (Refused why) = 0 ∷ carried why .place ∷ []
+
+abbrev pub pairAfter : List ℕ → Indexed → List ℕ
+pairAfter before (Done index) = pair index
+pairAfter before (Refused why) = before

@@ -1,0 +1,62 @@
+-- The exports of an index tell the outcomes of the calls that they make.
+use mathlib.Core.Path.{_≡_, refl, ap, ap₂, _∙_}
+use mathlib.Core.List.{List, [], _∷_}
+use Prim.Native.Nat.{ℕ}
+use native.Mathlib.Omega.{arith}
+use lib.ListN.{length}
+use borrow.Author.Tests.{ne-eqb}
+use Rattle.code.specs.Sound.{carried}
+use Rattle.code.specs.RefusalLaws.{number-above}
+use Rattle.record.specs.declared.Header.{Header}
+use Rattle.record.specs.Reader as Reader
+use Rattle.index.specs.declared.Indexed.{Indexed}
+use Rattle.index.specs.declared.Indexed.the-variants.{Done, Refused}
+use Rattle.index.specs.Making as Making
+use Rattle.index.specs.Making.{IndexOutcome}
+use Rattle.index.specs.Appending.{AppendOutcome, toldAppend}
+use Rattle.answers.specs.Told.{told}
+use Rattle.answers.specs.Answers.{headerNumber}
+use Rattle.answers.specs.Indexed.{shownMade, entryNumbers, shownEntry, shownAppended, indexedNumber, madeNumbers, appendedNumbers, pairAfter}
+
+by-made : (a : Indexed) (t : List ℕ) → told (indexedNumber a) (madeNumbers a) (t ∷ []) ≡ shownMade (Making.told a t)
+by-made (Done i) t = refl
+by-made (Refused why) t = refl
+
+pub told-made : (a : Indexed) (t : List ℕ) (o : IndexOutcome) (returned : ℕ) (out : List ℕ) → Making.told a t ≡ o
+    → returned ≡ indexedNumber a → out ≡ madeNumbers a → told returned out (t ∷ []) ≡ shownMade o
+told-made a t o returned out e f g = ap₂ (λ (n : ℕ) (l : List ℕ). told n l (t ∷ [])) f g ∙ by-made a t ∙ ap shownMade e
+
+by-appended : (before : List ℕ) (a : Indexed) (d t : List ℕ)
+    → told (indexedNumber a) (appendedNumbers a) (pairAfter before a ∷ d ∷ t ∷ []) ≡ shownAppended before (toldAppend a d t)
+by-appended before (Done i) d t = refl
+by-appended before (Refused why) d t = rw (ne-eqb (carried why .number) 0 (λ z. omega (arith, number-above why, z)))
+
+pub told-appended : (before : List ℕ) (a : Indexed) (d t : List ℕ) (o : AppendOutcome) (returned : ℕ) (out after : List ℕ)
+    → toldAppend a d t ≡ o → returned ≡ indexedNumber a → out ≡ appendedNumbers a → after ≡ pairAfter before a
+    → told returned out (after ∷ d ∷ t ∷ []) ≡ shownAppended before o
+told-appended before a d t o returned out after e f g h =
+    ap₂ (λ (n : ℕ) (l : List ℕ). told n l (after ∷ d ∷ t ∷ [])) f g
+    ∙ ap (λ (x : List ℕ). told (indexedNumber a) (appendedNumbers a) (x ∷ d ∷ t ∷ [])) h
+    ∙ by-appended before a d t
+    ∙ ap (shownAppended before) e
+
+pub told-entry : (answer header : Header) (start first : ℕ) (given part out : List ℕ) (returned : ℕ) → Reader.told answer ≡ Reader.told header
+    → start ≡ first → given ≡ part → returned ≡ headerNumber answer → out ≡ entryNumbers answer start (length given)
+    → told returned out [] ≡ shownEntry header first part
+told-entry answer header start first given part out returned e s f n o =
+    cc (
+      o,
+      s,
+      ap length f,
+      n,
+      ap (λ (t : Reader.HeaderOutcome). t .carry .number) e,
+      ap (λ (t : Reader.HeaderOutcome). t .carry .place) e,
+      ap (λ (t : Reader.HeaderOutcome). t .r) e,
+      ap (λ (t : Reader.HeaderOutcome). t .m) e,
+    )
+
+-- what is handed over of an append, by the variant that it is
+pub handed-append : (before : List ℕ) (answer a : Indexed) (returned : ℕ) (after out : List ℕ) → answer ≡ a
+    → returned ≡ indexedNumber a → after ≡ pairAfter before a → out ≡ appendedNumbers a
+    → (returned ≡ indexedNumber answer) × (after ≡ pairAfter before answer) × (out ≡ appendedNumbers answer)
+handed-append before answer a returned after out e f g h = (rw e f, rw e g, rw e h)

@@ -1,0 +1,22 @@
+-- `index::part_after` meets its contract.
+use borrow.Author.Needs.{needs}
+use Rattle.index.proofs.part_after.Statement.{statement}
+use Rattle.index.proofs.part_after.Tie as tie
+
+enum-told : tie.Need-enum-told
+enum-told c = search needs
+
+add-result : tie.Need-add-result
+add-result c = search needs
+
+enum-told-2 : tie.Need-enum-told-2
+enum-told-2 c = search needs
+
+returns : tie.Need-returns
+returns c = rw (c .enum-told .given .1)
+
+returns-2 : tie.Need-returns-2
+returns-2 c = search needs
+
+pub part-after-spec : {M : Type 1} → statement M
+part-after-spec = tie.close (tie.spec enum-told add-result enum-told-2 returns returns-2)

@@ -1,0 +1,73 @@
+// An index of a capture: making it, asking it for a record, appending a record.
+use answers::put_appended;
+use answers::put_entry;
+use answers::put_made;
+use index::Index;
+ghost use mathlib.Core.Path.{_≡_};
+ghost use mathlib.Core.List.{[], _∷_};
+ghost use Rattle.index.specs.Finding.{headerIn, partIn, partStart};
+ghost use Rattle.index.specs.Making.{making};
+ghost use Rattle.index.specs.Appending.{appending};
+ghost use Rattle.answers.specs.Told.{told};
+ghost use Rattle.answers.specs.Indexed.{indexIn, shownMade, shownEntry, shownAppended};
+
+#[no_mangle]
+pub extern "C" fn cinorbis_index_make(
+    capture: &[u8],
+    table: &mut [usize],
+    out: &mut [u64; 2],
+) -> u32
+    ensures { λ returned. ⌜ told returned (now (out .exit)) (now (table .exit) ∷ [])
+        ≡ shownMade (making (now (capture .entry)) (now (table .entry))) ⌝ }
+{
+    let answer = index::make(capture, table);
+    put_made(answer, out)
+}
+
+#[no_mangle]
+pub extern "C" fn cinorbis_index_find(
+    w: usize,
+    capture: &[u8],
+    table: &[usize],
+    out: &mut [u64; 5],
+) -> u32
+    ensures { λ returned. ⌜ told returned (now (out .exit)) []
+        ≡ shownEntry (headerIn (now (capture .entry)) (now (table .entry)) w)
+        (partStart (now (capture .entry)) (now (table .entry)) w)
+        (partIn (now (capture .entry)) (now (table .entry)) w) ⌝ }
+{
+    let header = index::header_of(capture, table, w);
+    let start = index::part_start(capture, table, w);
+    let part = index::find(capture, table, w);
+    put_entry(header, start, part.len(), out)
+}
+
+// The index that was handed in.
+fn taken(index: &[u64; 2]) -> Index
+    ensures { λ k. ⌜ k ≡ indexIn (now (index .entry)) ⌝ }
+{
+    Index {
+        records: index[0] as usize,
+        used: index[1] as usize,
+    }
+}
+
+#[no_mangle]
+pub extern "C" fn cinorbis_index_append(
+    r: u32,
+    m: u32,
+    readings: &[i16],
+    capture: &mut [u8],
+    table: &mut [usize],
+    index: &mut [u64; 2],
+    out: &mut [u64; 2],
+) -> u32
+    ensures { λ returned. ⌜ told returned (now (out .exit)) (now (index .exit)
+        ∷ now (capture .exit) ∷ now (table .exit) ∷ [])
+        ≡ shownAppended (now (index .entry)) (appending (indexIn (now (index .entry))) r m
+        (now (readings .entry)) (now (capture .entry)) (now (table .entry))) ⌝ }
+{
+    let before = taken(index);
+    let answer = index::append(before, r, m, readings, capture, table);
+    put_appended(answer, index, out)
+}
