@@ -1,9 +1,9 @@
 // The C export of first-order words.
-use crate::put_searched;
+use answers::put_searched;
 ghost use mathlib.Core.Path.{_≡_};
 ghost use mathlib.Core.List.{[], _∷_};
 ghost use Rattle.first_order.specs.Outcome.{firstOrdering};
-ghost use Rattle.pumpbox.specs.Told.{told, shownSearch};
+ghost use Rattle.answers.specs.Told.{told, shownSearch};
 
 #[no_mangle]
 pub extern "C" fn cinorbis_first_order(

@@ -8,11 +8,10 @@ mod telegrams;
 mod unpacking;
 mod writing;
 
-use encode::Encoded;
-use quick::Read;
-use record::Header;
-use search::Searched;
-use search::WithRunnerUp;
+use answers::put_encoded;
+use answers::put_header;
+use answers::put_read;
+use answers::put_whole;
 ghost use mathlib.Core.Path.{_≡_};
 ghost use mathlib.Core.List.{[], _∷_};
 ghost use Rattle.encode.specs.Outcome.{encoding, inverting};
@@ -21,36 +20,7 @@ ghost use Rattle.record.specs.Reader.{headerOf, partBy};
 ghost use Rattle.record.specs.Searching.{searchingRecordWhole};
 ghost use Rattle.search.specs.RunnerUp.{searchingWhole};
 ghost use Rattle.code.specs.Sound.{defaultAllowance};
-ghost use Rattle.pumpbox.specs.Told.{numbers, told, shown, shownQuick, shownWhole, shownPart};
-ghost use Rattle.pumpbox.specs.Answers.{headerNumber, headerR, headerM, headerPlace};
-ghost use Rattle.pumpbox.specs.Answers.{encodedNumber, encodedPlace, readNumber, readPenalty, readPlace};
-ghost use Rattle.pumpbox.specs.Answers.{searchedNumber, searchedPenalty, searchedGap, searchedVisits, searchedPlace, searchedNumbers};
-
-// Penalty, gap, visits and place, in the order of the header's struct.
-fn put_numbers(out: &mut [u64; 4], penalty: u32, gap: u32, visits: u32, place: usize)
-    ensures { λ _. ⌜ now (out .exit) ≡ numbers penalty gap visits place ⌝ }
-{
-    *out = [penalty as u64, gap as u64, visits as u64, place as u64];
-}
-
-// The number of an answer of encode or inverse.
-fn number_of(answer: Encoded) -> u32
-    ensures { λ number. ⌜ number ≡ encodedNumber answer ⌝ }
-{
-    match answer {
-        Encoded::Done => 0,
-        Encoded::Refused(why) => why.number(),
-    }
-}
-
-fn place_of(answer: Encoded) -> usize
-    ensures { λ place. ⌜ place ≡ encodedPlace answer ⌝ }
-{
-    match answer {
-        Encoded::Done => 0,
-        Encoded::Refused(why) => why.place(),
-    }
-}
+ghost use Rattle.answers.specs.Told.{told, shown, shownQuick, shownWhole, shownPart};
 
 #[no_mangle]
 pub extern "C" fn cinorbis_encode(
@@ -64,8 +34,7 @@ pub extern "C" fn cinorbis_encode(
         ≡ shown (encoding r m (now (bits .entry)) (now (word .entry))) ⌝ }
 {
     let answer = encode::encode(r, m, bits, word);
-    put_numbers(out, 0, 0, 0, place_of(answer));
-    number_of(answer)
+    put_encoded(answer, out)
 }
 
 #[no_mangle]
@@ -80,36 +49,7 @@ pub extern "C" fn cinorbis_inverse(
         ≡ shown (inverting r m (now (word .entry)) (now (bits .entry))) ⌝ }
 {
     let answer = encode::inverse(r, m, word, bits);
-    put_numbers(out, 0, 0, 0, place_of(answer));
-    number_of(answer)
-}
-
-// The parts of a quick reading's answer.
-fn read_number(answer: Read) -> u32
-    ensures { λ r. ⌜ r ≡ readNumber answer ⌝ }
-{
-    match answer {
-        Read::Done { penalty: _ } => 0,
-        Read::Refused(why) => why.number(),
-    }
-}
-
-fn read_penalty(answer: Read) -> u32
-    ensures { λ r. ⌜ r ≡ readPenalty answer ⌝ }
-{
-    match answer {
-        Read::Done { penalty } => penalty,
-        Read::Refused(why) => why.penalty(),
-    }
-}
-
-fn read_place(answer: Read) -> usize
-    ensures { λ r. ⌜ r ≡ readPlace answer ⌝ }
-{
-    match answer {
-        Read::Done { penalty: _ } => 0,
-        Read::Refused(why) => why.place(),
-    }
+    put_encoded(answer, out)
 }
 
 #[no_mangle]
@@ -125,99 +65,7 @@ pub extern "C" fn cinorbis_quick(
         ≡ shownQuick (quickReading r m (now (readings .entry)) (now (bits .entry)) (now (word .entry))) ⌝ }
 {
     let answer = quick::quick(r, m, readings, bits, word);
-    put_numbers(out, read_penalty(answer), 0, 0, read_place(answer));
-    read_number(answer)
-}
-
-// The parts of a search's answer.
-fn searched_number(answer: Searched) -> u32
-    ensures { λ r. ⌜ r ≡ searchedNumber answer ⌝ }
-{
-    match answer {
-        Searched::Found {
-            penalty: _,
-            gap: _,
-            visits: _,
-        } => 0,
-        Searched::Refused(why) => why.number(),
-    }
-}
-
-fn searched_penalty(answer: Searched) -> u32
-    ensures { λ r. ⌜ r ≡ searchedPenalty answer ⌝ }
-{
-    match answer {
-        Searched::Found {
-            penalty,
-            gap: _,
-            visits: _,
-        } => penalty,
-        Searched::Refused(why) => why.penalty(),
-    }
-}
-
-fn searched_gap(answer: Searched) -> u32
-    ensures { λ r. ⌜ r ≡ searchedGap answer ⌝ }
-{
-    match answer {
-        Searched::Found {
-            penalty: _,
-            gap,
-            visits: _,
-        } => gap,
-        Searched::Refused(_) => 0,
-    }
-}
-
-fn searched_visits(answer: Searched) -> u32
-    ensures { λ r. ⌜ r ≡ searchedVisits answer ⌝ }
-{
-    match answer {
-        Searched::Found {
-            penalty: _,
-            gap: _,
-            visits,
-        } => visits,
-        Searched::Refused(why) => why.visits(),
-    }
-}
-
-fn searched_place(answer: Searched) -> usize
-    ensures { λ r. ⌜ r ≡ searchedPlace answer ⌝ }
-{
-    match answer {
-        Searched::Found {
-            penalty: _,
-            gap: _,
-            visits: _,
-        } => 0,
-        Searched::Refused(why) => why.place(),
-    }
-}
-
-// The values of a search's answer go into the numbers; its number is returned.
-fn put_searched(answer: Searched, out: &mut [u64; 4]) -> u32
-    ensures { λ number. ⌜ (number ≡ searchedNumber answer) × (now (out .exit) ≡ searchedNumbers answer) ⌝ }
-{
-    put_numbers(
-        out,
-        searched_penalty(answer),
-        searched_gap(answer),
-        searched_visits(answer),
-        searched_place(answer),
-    );
-    searched_number(answer)
-}
-
-// The same of an answer with a runner-up, which goes into the lent bytes, zeros as they are.
-fn put_whole(answer: WithRunnerUp, runner_up: &mut [u8; 256], out: &mut [u64; 4]) -> u32
-    ensures { λ number. ⌜ (number ≡ searchedNumber (answer .result)) × (now (out .exit) ≡ searchedNumbers (answer .result))
-        × (now («runner_up» .exit) ≡ answer .«runner_up») ⌝ }
-{
-    let shown = answer.runner_up;
-    *runner_up = shown;
-    let result = answer.result;
-    put_searched(result, out)
+    put_read(answer, out)
 }
 
 #[no_mangle]
@@ -271,50 +119,6 @@ pub extern "C" fn cinorbis_search_record(
     put_whole(answer, runner_up, out)
 }
 
-// The parts of a record's header.
-fn header_number(header: Header) -> u32
-    ensures { λ r. ⌜ r ≡ headerNumber header ⌝ }
-{
-    match header {
-        Header::Record(_) => 0,
-        Header::Refused(why) => why.number(),
-    }
-}
-
-fn header_r(header: Header) -> u32
-    ensures { λ r. ⌜ r ≡ headerR header ⌝ }
-{
-    match header {
-        Header::Record(code) => code.r,
-        Header::Refused(_) => 0,
-    }
-}
-
-fn header_m(header: Header) -> u32
-    ensures { λ r. ⌜ r ≡ headerM header ⌝ }
-{
-    match header {
-        Header::Record(code) => code.m,
-        Header::Refused(_) => 0,
-    }
-}
-
-fn header_place(header: Header) -> usize
-    ensures { λ r. ⌜ r ≡ headerPlace header ⌝ }
-{
-    match header {
-        Header::Record(_) => 0,
-        Header::Refused(why) => why.place(),
-    }
-}
-
-// r, m, length and place, in the order of the header's struct.
-fn put_part(out: &mut [u64; 4], r: u32, m: u32, length: usize, place: usize)
-    ensures { λ _. ⌜ now (out .exit) ≡ numbers r m length place ⌝ }
-{
-    *out = [r as u64, m as u64, length as u64, place as u64];
-}
-
 #[no_mangle]
 pub extern "C" fn cinorbis_record(bytes: &[u8], out: &mut [u64; 4]) -> u32
     ensures { λ number. ⌜ told number (now (out .exit)) []
@@ -322,12 +126,5 @@ pub extern "C" fn cinorbis_record(bytes: &[u8], out: &mut [u64; 4]) -> u32
 {
     let header = record::header_of(bytes);
     let part = record::packed(bytes);
-    put_part(
-        out,
-        header_r(header),
-        header_m(header),
-        part.len(),
-        header_place(header),
-    );
-    header_number(header)
+    put_header(header, part.len(), out)
 }

@@ -1,27 +1,8 @@
 // Turned position orders: reordering by a map of positions, undo maps and products.
-use crate::put_numbers;
-use reorder::Answer;
+use answers::put_reordered;
 ghost use mathlib.Core.Path.{_≡_};
-ghost use Rattle.reorder.specs.Outcome.{answerCarries, reordering, reorderingWord, undoing, multiplying};
-ghost use Rattle.pumpbox.specs.Reordered.{reorderTold, shownReordered};
-
-fn number_of(answer: Answer) -> u32
-    ensures { λ number. ⌜ number ≡ answerCarries answer .number ⌝ }
-{
-    match answer {
-        Answer::Done => 0,
-        Answer::Refused(why) => why.number(),
-    }
-}
-
-fn place_of(answer: Answer) -> usize
-    ensures { λ place. ⌜ place ≡ answerCarries answer .place ⌝ }
-{
-    match answer {
-        Answer::Done => 0,
-        Answer::Refused(why) => why.place(),
-    }
-}
+ghost use Rattle.reorder.specs.Outcome.{reordering, reorderingWord, undoing, multiplying};
+ghost use Rattle.answers.specs.Reordered.{reorderTold, shownReordered};
 
 #[no_mangle]
 pub extern "C" fn cinorbis_reorder(
@@ -37,8 +18,7 @@ pub extern "C" fn cinorbis_reorder(
         (now (readings .entry)) (now (out .entry))) ⌝ }
 {
     let answer = reorder::reorder(m, table, row, readings, out);
-    put_numbers(numbers, 0, 0, 0, place_of(answer));
-    number_of(answer)
+    put_reordered(answer, numbers)
 }
 
 #[no_mangle]
@@ -55,8 +35,7 @@ pub extern "C" fn cinorbis_reorder_word(
         (now (word .entry)) (now (out .entry))) ⌝ }
 {
     let answer = reorder::reorder_word(m, table, row, word, out);
-    put_numbers(numbers, 0, 0, 0, place_of(answer));
-    number_of(answer)
+    put_reordered(answer, numbers)
 }
 
 #[no_mangle]
@@ -74,8 +53,7 @@ pub extern "C" fn cinorbis_undo_map(
         (now (out .entry)) (now (outrow .entry))) ⌝ }
 {
     let answer = reorder::undo_map(m, table, row, out, outrow);
-    put_numbers(numbers, 0, 0, 0, place_of(answer));
-    number_of(answer)
+    put_reordered(answer, numbers)
 }
 
 #[no_mangle]
@@ -95,6 +73,5 @@ pub extern "C" fn cinorbis_product_map(
         (now (table2 .entry)) (now (row2 .entry)) (now (out .entry)) (now (outrow .entry))) ⌝ }
 {
     let answer = reorder::product_map(m, table1, row1, table2, row2, out, outrow);
-    put_numbers(numbers, 0, 0, 0, place_of(answer));
-    number_of(answer)
+    put_reordered(answer, numbers)
 }

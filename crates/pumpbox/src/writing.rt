@@ -1,44 +1,10 @@
 // Writing a record into a capture.
-use record::Written;
+use answers::put_wrote;
 ghost use mathlib.Core.Path.{_≡_};
 ghost use mathlib.Core.List.{[], _∷_};
 ghost use Rattle.record.specs.Writing.{writing};
-ghost use Rattle.pumpbox.specs.Told.{told};
-ghost use Rattle.pumpbox.specs.Written.{wroteNext, wroteNumber, wrotePlace, shownWrote};
-
-fn next_of(answer: Written) -> usize
-    ensures { λ k. ⌜ k ≡ wroteNext answer ⌝ }
-{
-    match answer {
-        Written::Next(next) => next,
-        Written::Refused(_) => 0,
-    }
-}
-
-fn number_of(answer: Written) -> u32
-    ensures { λ k. ⌜ k ≡ wroteNumber answer ⌝ }
-{
-    match answer {
-        Written::Next(_) => 0,
-        Written::Refused(why) => why.number(),
-    }
-}
-
-fn place_of(answer: Written) -> usize
-    ensures { λ k. ⌜ k ≡ wrotePlace answer ⌝ }
-{
-    match answer {
-        Written::Next(_) => 0,
-        Written::Refused(why) => why.place(),
-    }
-}
-
-// The place after the record and the reading's number, in the order of the header's struct.
-fn put_written(out: &mut [u64; 2], next: usize, place: usize)
-    ensures { λ _. ⌜ now (out .exit) ≡ next ∷ place ∷ [] ⌝ }
-{
-    *out = [next as u64, place as u64];
-}
+ghost use Rattle.answers.specs.Told.{told};
+ghost use Rattle.answers.specs.Written.{shownWrote};
 
 #[no_mangle]
 pub extern "C" fn cinorbis_write_record(
@@ -53,6 +19,5 @@ pub extern "C" fn cinorbis_write_record(
         ≡ shownWrote (writing r m (now (readings .entry)) (now (buffer .entry)) at) ⌝ }
 {
     let answer = record::write(r, m, readings, buffer, at);
-    put_written(out, next_of(answer), place_of(answer));
-    number_of(answer)
+    put_wrote(answer, out)
 }

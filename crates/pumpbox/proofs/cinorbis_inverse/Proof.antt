@@ -1,38 +1,24 @@
 -- `cinorbis_inverse` tells the outcome of `inverse`.
+use Rattle.answers.specs.ToldLaws.{told-encoded}
 use borrow.Author.Needs.{needs}
-use Rattle.pumpbox.specs.ToldLaws.{told-encoded}
 use Rattle.pumpbox.proofs.cinorbis_inverse.Statement.{statement}
 use Rattle.pumpbox.proofs.cinorbis_inverse.Tie as tie
 
 inverse-requires : tie.Need-inverse-requires
 inverse-requires c κs = search needs
 
-place-of-requires : tie.Need-place-of-requires
-place-of-requires c κs = search needs
-
-put-numbers-requires : tie.Need-put-numbers-requires
-put-numbers-requires c κs = search needs
-
-number-of-requires : tie.Need-number-of-requires
-number-of-requires c κs = search needs
+put-encoded-requires : tie.Need-put-encoded-requires
+put-encoded-requires c κs = search needs
 
 same-length : tie.Need-same-length
 same-length c = search needs
 
 returns : tie.Need-returns
 returns c =
-    let e = c .before .before .before .before .before .before .inverse in
-    let p = c .before .before .place-of in
-    told-encoded (e .result) _ _ (c .number-of .result) (p .result) (c .before .put-numbers .last .0) (e .ensures) (c .number-of .ensures)
-    (p .ensures) (c .before .put-numbers .ensures)
+    let e = c .before .before .before .before .inverse in
+    let p = c .put-encoded in
+    told-encoded (e .result) _ _ (p .result) (p .last .1 .0) (e .ensures) (p .ensures .0) (p .ensures .1)
 
 pub cinorbis-inverse-spec : {M : Type 1} → statement M
 cinorbis-inverse-spec =
-    tie.close
-    (tie.spec
-    inverse-requires
-    place-of-requires
-    put-numbers-requires
-    number-of-requires
-    same-length
-    returns)
+    tie.close (tie.spec inverse-requires put-encoded-requires same-length returns)

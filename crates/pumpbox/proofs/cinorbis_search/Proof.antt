@@ -1,6 +1,6 @@
 -- `cinorbis_search` tells the outcome of `search`.
 use borrow.Author.Needs.{needs}
-use Rattle.pumpbox.specs.ToldLaws.{told-whole}
+use Rattle.answers.specs.ToldLaws.{told-whole}
 use Rattle.pumpbox.proofs.cinorbis_search.Statement.{statement}
 use Rattle.pumpbox.proofs.cinorbis_search.Tie as tie
 

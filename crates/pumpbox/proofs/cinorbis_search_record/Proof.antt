@@ -1,6 +1,6 @@
 -- `cinorbis_search_record` tells the outcome of `search_record`.
 use borrow.Author.Needs.{needs}
-use Rattle.pumpbox.specs.ToldLaws.{told-whole}
+use Rattle.answers.specs.ToldLaws.{told-whole}
 use Rattle.pumpbox.proofs.cinorbis_search_record.Statement.{statement}
 use Rattle.pumpbox.proofs.cinorbis_search_record.Tie as tie
 

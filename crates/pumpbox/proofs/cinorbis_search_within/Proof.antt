@@ -1,6 +1,6 @@
 -- `cinorbis_search_within` tells the outcome of `search_within`.
 use borrow.Author.Needs.{needs}
-use Rattle.pumpbox.specs.ToldLaws.{told-whole}
+use Rattle.answers.specs.ToldLaws.{told-whole}
 use Rattle.pumpbox.proofs.cinorbis_search_within.Statement.{statement}
 use Rattle.pumpbox.proofs.cinorbis_search_within.Tie as tie
 

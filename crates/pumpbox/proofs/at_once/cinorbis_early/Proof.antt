@@ -1,6 +1,6 @@
 -- `cinorbis_early` tells the outcome of `early`.
 use borrow.Author.Needs.{needs}
-use Rattle.pumpbox.specs.AtOnceLaws.{told-answered}
+use Rattle.answers.specs.AtOnceLaws.{told-answered}
 use Rattle.pumpbox.proofs.at_once.cinorbis_early.Statement.{statement}
 use Rattle.pumpbox.proofs.at_once.cinorbis_early.Tie as tie
 

@@ -1,6 +1,6 @@
 -- `cinorbis_early_within` tells the outcome of `early_within`.
 use borrow.Author.Needs.{needs}
-use Rattle.pumpbox.specs.AtOnceLaws.{told-answered}
+use Rattle.answers.specs.AtOnceLaws.{told-answered}
 use Rattle.pumpbox.proofs.at_once.cinorbis_early_within.Statement.{statement}
 use Rattle.pumpbox.proofs.at_once.cinorbis_early_within.Tie as tie
 

@@ -1,6 +1,6 @@
 -- `cinorbis_first_order` tells the outcome of `first_order`.
 use borrow.Author.Needs.{needs}
-use Rattle.pumpbox.specs.ToldLaws.{told-searched}
+use Rattle.answers.specs.ToldLaws.{told-searched}
 use Rattle.pumpbox.proofs.first.cinorbis_first_order.Statement.{statement}
 use Rattle.pumpbox.proofs.first.cinorbis_first_order.Tie as tie
 

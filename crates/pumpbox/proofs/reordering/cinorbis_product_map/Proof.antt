@@ -1,20 +1,14 @@
 -- `cinorbis_product_map` tells the outcome of `product_map`.
+use Rattle.answers.specs.Reordered.{told-reordered}
 use borrow.Author.Needs.{needs}
-use Rattle.pumpbox.specs.Reordered.{told-reordered}
 use Rattle.pumpbox.proofs.reordering.cinorbis_product_map.Statement.{statement}
 use Rattle.pumpbox.proofs.reordering.cinorbis_product_map.Tie as tie
 
 product-map-requires : tie.Need-product-map-requires
 product-map-requires c κs = search needs
 
-place-of-requires : tie.Need-place-of-requires
-place-of-requires c κs = search needs
-
-put-numbers-requires : tie.Need-put-numbers-requires
-put-numbers-requires c κs = search needs
-
-number-of-requires : tie.Need-number-of-requires
-number-of-requires c κs = search needs
+put-reordered-requires : tie.Need-put-reordered-requires
+put-reordered-requires c κs = search needs
 
 same-length : tie.Need-same-length
 same-length c = search needs
@@ -24,19 +18,10 @@ same-length-2 c = search needs
 
 returns : tie.Need-returns
 returns c =
-    let a = c .before .before .before .before .before .before .before .before .product-map in
-    let place = c .before .before .place-of in
-    told-reordered (a .result) _ _ (c .number-of .result) (place .result) (c .before .put-numbers .last .0) (a .ensures) (c .number-of .ensures)
-    (place .ensures) (c .before .put-numbers .ensures)
+    let e = c .before .before .before .before .before .before .product-map in
+    let p = c .put-reordered in
+    told-reordered (e .result) _ _ (p .result) (p .last .1 .0) (e .ensures) (p .ensures .0) (p .ensures .1)
 
 pub cinorbis-product-map-spec : {M : Type 1} → statement M
 cinorbis-product-map-spec =
-    tie.close
-    (tie.spec
-    product-map-requires
-    place-of-requires
-    put-numbers-requires
-    number-of-requires
-    same-length
-    same-length-2
-    returns)
+    tie.close (tie.spec product-map-requires put-reordered-requires same-length same-length-2 returns)

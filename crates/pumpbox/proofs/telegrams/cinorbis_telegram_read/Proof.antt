@@ -1,7 +1,7 @@
 -- `cinorbis_telegram_read` tells the outcome of `read`.
 use mathlib.Core.Path.{ap, _∙_}
 use borrow.Author.Needs.{needs}
-use Rattle.pumpbox.specs.Telegrams.{shownRead}
+use Rattle.answers.specs.Telegrams.{shownRead}
 use Rattle.pumpbox.proofs.telegrams.cinorbis_telegram_read.Statement.{statement}
 use Rattle.pumpbox.proofs.telegrams.cinorbis_telegram_read.Tie as tie
 

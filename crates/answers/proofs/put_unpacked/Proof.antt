@@ -1,0 +1,45 @@
+-- `answers::put_unpacked` meets its contract.
+use mathlib.Core.Path.{_≡_, refl}
+use Rattle.packing.specs.Unpacking.{carriedIn}
+use Rattle.packing.specs.declared.Unpacked.the-variants.{Done}
+use Rattle.answers.specs.Told.{numbers}
+use Rattle.answers.specs.ToldLaws.{handed}
+use borrow.Author.Needs.{needs}
+use Rattle.answers.proofs.put_unpacked.Statement.{statement}
+use Rattle.answers.proofs.put_unpacked.Tie as tie
+
+enum-told : tie.Need-enum-told
+enum-told c = search needs
+
+put-numbers-requires : tie.Need-put-numbers-requires
+put-numbers-requires c κs = search needs
+
+enum-known-answer : tie.Need-enum-known-answer
+enum-known-answer c = search needs
+
+put-place-requires : tie.Need-put-place-requires
+put-place-requires c κs = search needs
+
+returns : tie.Need-returns
+returns c =
+    let p = c .put-numbers in
+    let g = c .before .before .before .before .args in
+    let is : g .answer ≡ Done = cc in
+    handed (λ a. carriedIn a .number) (λ a. numbers 0 0 0 (carriedIn a .place)) _ _ 0 (p .last .0) is refl (p .ensures)
+
+returns-2 : tie.Need-returns-2
+returns-2 c =
+    let p = c .put-place in
+    handed (λ a. carriedIn a .number) (λ a. numbers 0 0 0 (carriedIn a .place)) _ _ (p .result) (p .last .1 .0) (c .before .before .before .answer .given .1)
+    (p .ensures .0) (p .ensures .1)
+
+pub put-unpacked-spec : {M : Type 1} → statement M
+put-unpacked-spec =
+    tie.close
+    (tie.spec
+    enum-told
+    put-numbers-requires
+    enum-known-answer
+    put-place-requires
+    returns
+    returns-2)

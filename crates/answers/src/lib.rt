@@ -1,0 +1,232 @@
+// What C is told of an answer: its values go into the numbers that C lends, in the order of the
+// header's structs, and its number is returned, which is 0 or a refusal's.
+use code::Refusal;
+use early::Answered;
+use encode::Encoded;
+use packing::Unpacked;
+use quick::Read;
+use record::Header;
+use reorder::Answer;
+use search::Searched;
+use search::WithRunnerUp;
+use telegram::Heard;
+use telegram::Telegram;
+ghost use mathlib.Core.Path.{_≡_};
+ghost use mathlib.Core.List.{[], _∷_};
+ghost use Rattle.code.specs.Sound.{carried};
+ghost use Rattle.packing.specs.Unpacking.{carriedIn};
+ghost use Rattle.reorder.specs.Outcome.{answerCarries};
+ghost use Rattle.telegram.specs.Outcome as Tilt;
+ghost use Rattle.answers.specs.Told.{numbers, told};
+ghost use Rattle.answers.specs.Answers.{encodedNumber, encodedNumbers, readNumber, readNumbers};
+ghost use Rattle.answers.specs.Answers.{searchedNumber, searchedNumbers};
+ghost use Rattle.answers.specs.Answers.{headerNumber, headerNumbers};
+ghost use Rattle.answers.specs.AtOnceLaws.{answeredNumber, answeredNumbers};
+ghost use Rattle.answers.specs.Written.{wroteNumber, wroteNumbers};
+ghost use Rattle.answers.specs.Telegrams.{fields, writtenNumber, shownRead};
+
+// Penalty, gap, visits and place.
+pub fn put_numbers(out: &mut [u64; 4], penalty: u32, gap: u32, visits: u32, place: usize)
+    ensures { λ _. ⌜ now (out .exit) ≡ numbers penalty gap visits place ⌝ }
+{
+    *out = [penalty as u64, gap as u64, visits as u64, place as u64];
+}
+
+// A refusal by a call whose refusals show their place alone.
+fn put_place(why: Refusal, out: &mut [u64; 4]) -> u32
+    ensures { λ number. ⌜ (number ≡ carried why .number)
+        × (now (out .exit) ≡ numbers 0 0 0 (carried why .place)) ⌝ }
+{
+    put_numbers(out, 0, 0, 0, why.place());
+    why.number()
+}
+
+// A refusal by a search.
+fn put_refused(why: Refusal, out: &mut [u64; 4]) -> u32
+    ensures { λ number. ⌜ (number ≡ carried why .number) × (now (out .exit)
+        ≡ numbers (carried why .penalty) 0 (carried why .visits) (carried why .place)) ⌝ }
+{
+    put_numbers(out, why.penalty(), 0, why.visits(), why.place());
+    why.number()
+}
+
+pub fn put_encoded(answer: Encoded, out: &mut [u64; 4]) -> u32
+    ensures { λ number. ⌜ (number ≡ encodedNumber answer)
+        × (now (out .exit) ≡ encodedNumbers answer) ⌝ }
+{
+    match answer {
+        Encoded::Done => {
+            put_numbers(out, 0, 0, 0, 0);
+            0
+        }
+        Encoded::Refused(why) => put_place(why, out),
+    }
+}
+
+pub fn put_read(answer: Read, out: &mut [u64; 4]) -> u32
+    ensures { λ number. ⌜ (number ≡ readNumber answer) × (now (out .exit) ≡ readNumbers answer) ⌝ }
+{
+    match answer {
+        Read::Done { penalty } => {
+            put_numbers(out, penalty, 0, 0, 0);
+            0
+        }
+        Read::Refused(why) => {
+            put_numbers(out, why.penalty(), 0, 0, why.place());
+            why.number()
+        }
+    }
+}
+
+pub fn put_searched(answer: Searched, out: &mut [u64; 4]) -> u32
+    ensures { λ number. ⌜ (number ≡ searchedNumber answer)
+        × (now (out .exit) ≡ searchedNumbers answer) ⌝ }
+{
+    match answer {
+        Searched::Found {
+            penalty,
+            gap,
+            visits,
+        } => {
+            put_numbers(out, penalty, gap, visits, 0);
+            0
+        }
+        Searched::Refused(why) => put_refused(why, out),
+    }
+}
+
+// An answer with a runner-up, which goes into the lent bytes, zeros as they are.
+pub fn put_whole(answer: WithRunnerUp, runner_up: &mut [u8; 256], out: &mut [u64; 4]) -> u32
+    ensures { λ number. ⌜ (number ≡ searchedNumber (answer .result)) × (now (out .exit) ≡ searchedNumbers (answer .result))
+        × (now («runner_up» .exit) ≡ answer .«runner_up») ⌝ }
+{
+    let shown = answer.runner_up;
+    *runner_up = shown;
+    let result = answer.result;
+    put_searched(result, out)
+}
+
+pub fn put_answered(answer: Answered, out: &mut [u64; 4]) -> u32
+    ensures { λ number. ⌜ (number ≡ answeredNumber answer)
+        × (now (out .exit) ≡ answeredNumbers answer) ⌝ }
+{
+    match answer {
+        Answered::Best { penalty } => {
+            put_numbers(out, penalty, 0, 0, 0);
+            0
+        }
+        Answered::Refused(why) => put_refused(why, out),
+    }
+}
+
+pub fn put_reordered(answer: Answer, out: &mut [u64; 4]) -> u32
+    ensures { λ number. ⌜ (number ≡ answerCarries answer .number)
+        × (now (out .exit) ≡ numbers 0 0 0 (answerCarries answer .place)) ⌝ }
+{
+    match answer {
+        Answer::Done => {
+            put_numbers(out, 0, 0, 0, 0);
+            0
+        }
+        Answer::Refused(why) => put_place(why, out),
+    }
+}
+
+pub fn put_unpacked(answer: Unpacked, out: &mut [u64; 4]) -> u32
+    ensures { λ number. ⌜ (number ≡ carriedIn answer .number)
+        × (now (out .exit) ≡ numbers 0 0 0 (carriedIn answer .place)) ⌝ }
+{
+    match answer {
+        Unpacked::Done => {
+            put_numbers(out, 0, 0, 0, 0);
+            0
+        }
+        Unpacked::Refused(why) => put_place(why, out),
+    }
+}
+
+// r, m, the packed part's length and place.
+fn put_part(out: &mut [u64; 4], r: u32, m: u32, length: usize, place: usize)
+    ensures { λ _. ⌜ now (out .exit) ≡ numbers r m length place ⌝ }
+{
+    *out = [r as u64, m as u64, length as u64, place as u64];
+}
+
+pub fn put_header(header: Header, length: usize, out: &mut [u64; 4]) -> u32
+    ensures { λ number. ⌜ (number ≡ headerNumber header)
+        × (now (out .exit) ≡ headerNumbers header length) ⌝ }
+{
+    match header {
+        Header::Record(code) => {
+            put_part(out, code.r, code.m, length, 0);
+            0
+        }
+        Header::Refused(why) => {
+            put_part(out, 0, 0, length, why.place());
+            why.number()
+        }
+    }
+}
+
+// The place after the record, and a reading's place.
+fn put_places(out: &mut [u64; 2], next: usize, place: usize)
+    ensures { λ _. ⌜ now (out .exit) ≡ next ∷ place ∷ [] ⌝ }
+{
+    *out = [next as u64, place as u64];
+}
+
+pub fn put_wrote(answer: record::Written, out: &mut [u64; 2]) -> u32
+    ensures { λ number. ⌜ (number ≡ wroteNumber answer) × (now (out .exit) ≡ wroteNumbers answer) ⌝ }
+{
+    match answer {
+        record::Written::Next(next) => {
+            put_places(out, next, 0);
+            0
+        }
+        record::Written::Refused(why) => {
+            put_places(out, 0, why.place());
+            why.number()
+        }
+    }
+}
+
+// A telegram's writer tells no more than its number.
+pub fn put_written(answer: telegram::Written, out: &mut [u64; 4]) -> u32
+    ensures { λ number. ⌜ (number ≡ writtenNumber answer) × (now (out .exit) ≡ numbers 0 0 0 0) ⌝ }
+{
+    put_numbers(out, 0, 0, 0, 0);
+    match answer {
+        telegram::Written::Done => 0,
+        telegram::Written::Refused(why) => why.number(),
+    }
+}
+
+// Cylinder, direction and tilt.
+fn put_telegram(out: &mut [u64; 3], t: Telegram)
+    ensures { λ _. ⌜ now (out .exit) ≡ fields t ⌝ }
+{
+    *out = [t.cylinder as u64, t.direction as u64, t.tilt as u64];
+}
+
+pub fn put_heard(answer: Heard, telegram: &mut [u64; 3], out: &mut [u64; 4]) -> u32
+    ensures { λ number. ⌜ told number (now (out .exit)) (now (telegram .exit) ∷ [])
+        ≡ shownRead (Tilt.told answer) ⌝ }
+{
+    match answer {
+        Heard::Shown {
+            telegram: shown,
+            penalty,
+            gap,
+            visits,
+        } => {
+            put_numbers(out, penalty, gap, visits, 0);
+            put_telegram(telegram, shown);
+            0
+        }
+        Heard::Refused(why) => {
+            put_numbers(out, why.penalty(), 0, why.visits(), why.place());
+            *telegram = [0, 0, 0];
+            why.number()
+        }
+    }
+}
