@@ -10,6 +10,7 @@
 #define ROOM (1 << 20)
 static unsigned char *stack;
 static int16_t readings[256];
+static float floats[256];
 static uint8_t bits[256], word[256], runner_up[256], record[CINORBIS_LARGEST_RECORD];
 static cinorbis_telegram shown;
 static cinorbis_written written;
@@ -23,6 +24,11 @@ static void *nothing(void *a) { return a; }
 /* the walk is deepest where every index carries information */
 static void *search(void *a) {
     refusal = cinorbis_search(8, 8, readings, 256, bits, 256, word, 256, runner_up, &numbers);
+    return a;
+}
+
+static void *search_float(void *a) {
+    refusal = cinorbis_search_float(8, 8, floats, 256, bits, 256, word, 256, runner_up, &numbers);
     return a;
 }
 
@@ -145,6 +151,7 @@ static void bounded(const char *name, void *(*call)(void *), uint32_t expected, 
 int main(void) {
     if (posix_memalign((void **)&stack, 4096, ROOM)) return 1;
     for (int j = 0; j < 256; j++) readings[j] = (int16_t)(((j * 7919) % 4095 - 2047) | 1); /* none is 0 */
+    for (int j = 0; j < 256; j++) floats[j] = (float)readings[j];
     ground = used(nothing);
     for (int p = 0; p < 8; p++) table[9 * p] = 1;
     if (cinorbis_write_record(8, 8, 0, readings, 256, record, sizeof record, &written) != CINORBIS_DONE) return 1;
@@ -158,6 +165,7 @@ int main(void) {
     bounded("quick reading, shortened", quick_shortened, 0, 3000);
     bounded("search, shortened", search_shortened, CINORBIS_OUT_OF_VISITS, 46000);
     bounded("search of a record", search_record, 0, 46000);
+    bounded("search of floats", search_float, 0, 64000);
     bounded("early answer", early, 0, 46000);
     /* two words of RM(1,8) share the least penalty */
     bounded("first-order words", first_order, CINORBIS_TIED, 2000);

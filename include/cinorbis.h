@@ -33,7 +33,7 @@ extern "C" {
 #endif
 
 /* Raised when a call is added or changed. */
-#define CINORBIS_VERSION 14
+#define CINORBIS_VERSION 15
 
 #define CINORBIS_LARGEST_M 8u
 /* A reading is from -32767 to 32767: of the 16-bit numbers only -32768 is none, and is refused as 4. */
@@ -60,7 +60,7 @@ enum cinorbis_refusal {
     CINORBIS_PARAMETERS = 1,    /* m > 8 or r > m (maps of positions: only m > 8) */
     CINORBIS_INPUT_LENGTH = 2,  /* an input's length is not n (information bits: k) */
     CINORBIS_OUTPUT_LENGTH = 3, /* an output's length is not n (information bits: k) */
-    CINORBIS_ENTRY = 4,         /* a reading beyond the largest, or a bit byte above 1; place: the lowest such entry */
+    CINORBIS_ENTRY = 4,         /* a reading beyond the largest, a float that is no whole number, or a bit byte above 1; place: the lowest such entry */
     CINORBIS_NOT_A_WORD = 5,    /* inverse: no information bits give the word; place: the lowest frozen index that is 1 */
     CINORBIS_OUT_OF_VISITS = 6, /* search: the walk needs more visits than allowed; visits: the allowance */
     CINORBIS_TIED = 7,          /* search: two words share the least penalty; penalty and visits are given */
@@ -231,6 +231,18 @@ CINORBIS_CALL uint32_t cinorbis_search_shortened(uint32_t r, uint32_t m, const u
 CINORBIS_CALL uint32_t cinorbis_search_within_shortened(uint32_t r, uint32_t m, uint32_t allowed, const uint8_t *named, size_t named_length,
                                                         const int16_t *readings, size_t readings_length, uint8_t *bits, size_t bits_length,
                                                         uint8_t *word, size_t word_length, uint8_t runner_up[256], cinorbis_numbers *numbers);
+
+/* The float board (§16): the search of readings that are floats. In: n floats. Out: all that cinorbis_search gives for the whole numbers that they are,
+ * runner-up and numbers too; no step is rounded. A float is a reading exactly if it is a whole number from -32767 to 32767; minus zero is 0. Any other
+ * entry, a fraction, a number beyond, a NaN or an infinity, is refused as 4. Refuses 1, 2, 3, 4, then 6 or 7. Promise: float_search::search_float. */
+CINORBIS_CALL uint32_t cinorbis_search_float(uint32_t r, uint32_t m, const float *readings, size_t readings_length, uint8_t *bits,
+                                             size_t bits_length, uint8_t *word, size_t word_length, uint8_t runner_up[256],
+                                             cinorbis_numbers *numbers);
+
+/* The same with an allowance of visits, any number. Promise: float_search::search_float_within. */
+CINORBIS_CALL uint32_t cinorbis_search_float_within(uint32_t r, uint32_t m, uint32_t allowed, const float *readings,
+                                                    size_t readings_length, uint8_t *bits, size_t bits_length, uint8_t *word,
+                                                    size_t word_length, uint8_t runner_up[256], cinorbis_numbers *numbers);
 
 /* ---- Packed records (§7). A packed -2048, the bottom rail, is read as -2047. */
 

@@ -2,6 +2,7 @@
 // A call returns 0 or its refusal's number.
 mod at_once;
 mod first;
+mod floats;
 mod indexing;
 mod lengths;
 mod reordering;

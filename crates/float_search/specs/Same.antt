@@ -1,0 +1,45 @@
+-- What the float search is to give, in the request's words (docs/RULES.md, §16).
+use mathlib.Core.Path.{_≡_}
+use mathlib.Core.Logic.{_↔_}
+use mathlib.Core.List.{List, [], _∷_}
+use Prim.Native.Nat.{ℕ, zero, suc, _≤_, _<_}
+use lib.IntN.{ℤ, natAbs}
+use lib.Ieee as Ieee
+use lib.Ieee.{Float}
+use Rattle.code.specs.Sound.{largestReading}
+use Rattle.search.specs.RunnerUp.{searchingWhole}
+use Rattle.search.specs.Demands.{SearchDemand1, SoundSearch, OutcomeDemands, RunnerUpDemand, LargerAllowance}
+use Rattle.decoding.specs.Readings.{turns}
+use Rattle.float_numbers.specs.Whole.{Stands, Stand, wholeOf, wholes}
+
+-- a float that is a whole number in range
+pub record FloatReading (x : Float) : Type 0 where
+  pub number : ℤ
+  pub stands : Stands x number
+  pub within : natAbs number ≤ largestReading
+
+-- an entry is refused as 4 exactly if it is none: it has a fraction, lies beyond, or is no number at all, or infinite
+abbrev pub RefusedEntry : Float → Type 0
+RefusedEntry x = (largestReading < natAbs (wholeOf x)) ↔ (FloatReading x → ⊥)
+
+-- the floats, negated where the word c has 1
+abbrev pub turnedFloats : List ℕ → List Float → List Float
+turnedFloats [] f = []
+turnedFloats (b ∷ c) [] = []
+turnedFloats (zero ∷ c) (x ∷ f) = x ∷ turnedFloats c f
+turnedFloats (suc b ∷ c) (x ∷ f) = Ieee.neg x ∷ turnedFloats c f
+
+-- floats f that are the whole numbers l
+pub record SameAnswers (r m : ℕ) (f : List Float) (l : List ℤ) (bits word : List ℕ) : Type 0 where
+  -- number by number and byte by byte what the search tells and writes for l, the runner-up too
+  pub outcome : (allowed : ℕ) → searchingWhole r m allowed (wholes f) bits word ≡ searchingWhole r m allowed l bits word
+  -- negated by a word, they are l negated by it
+  pub negated : (c : List ℕ) → Stand (turnedFloats c f) (turns c l)
+
+-- the demands, of the numbers that any floats are: their outcome is that of the float search
+pub record FloatDemands (r m : ℕ) (f : List Float) (bits word : List ℕ) : Type 0 where
+  pub demand-1 : (allowed : ℕ) → SearchDemand1 r m allowed (wholes f) bits word
+  pub larger : LargerAllowance r m (wholes f) bits word
+  pub runner-up : (allowed : ℕ) → RunnerUpDemand r m allowed (wholes f) bits word
+  -- demands 2 and 3, where tests 1 to 4 find nothing
+  pub demands : SoundSearch r m (wholes f) bits word → OutcomeDemands r m (wholes f) bits word
