@@ -28,7 +28,7 @@ use Rattle.record.specs.declared.Header.the-variants.{Record, Refused}
 use Rattle.record.specs.Reader.{readingsOf, headerOf}
 use Rattle.record.specs.ReaderLaws.{framed-record, length-readings-of}
 use Rattle.record.specs.Accepted.{readings-allowed}
-use Rattle.record.specs.Searching.{searchingBy, searchingRecord}
+use Rattle.record.specs.Searching.{searchingBy}
 use Rattle.program.specs.Program as program
 use Rattle.program.specs.Program.{Result, answered, refused, allowance, headed, resultOf}
 
@@ -64,11 +64,11 @@ module _ (s : List ℕ) (c : Code) (bits word bits₀ word₀ : List ℕ) (h : h
       }
 
   -- the search of an accepted record says what becomes of it
-  pub searched-result : (a : Searched) → Outcome.told a bits word ≡ searchingRecord allowance s bits₀ word₀ → resultIn a bits ≡ resultOf s
-  unfolding searchingRecord resultOf
+  pub searched-result : (a : Searched) → Outcome.told a bits word ≡ searchingBy (Record c) allowance s bits₀ word₀ → resultIn a bits ≡ resultOf s
+  unfolding resultOf
   searched-result a e =
       told-result a bits word bits₀ word₀ (answer (c .m) (kinds (c .r) (c .m)) (readingsOf c s) allowance)
-      (e ∙ ap (λ (k : Header). searchingBy k allowance s bits₀ word₀) h ∙ sound-answered bits₀ word₀ is-sound allowance)
+      (e ∙ sound-answered bits₀ word₀ is-sound allowance)
       ∙ ap (λ (k : Header). headed k s) (sym h)
 
 -- the bits of an answer are bits

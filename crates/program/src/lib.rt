@@ -90,7 +90,7 @@ fn search_into(
     ensures { λ t. ⌜ Stepped w (now (s .entry)) (resultOf (now (s .entry)))
         (now (out .entry)) at t (now (out .exit)) ⌝ }
 {
-    let answer = record::search_record(s, ALLOWANCE, bits, word);
+    let answer = record::search_framed(s, code, ALLOWANCE, bits, word);
     // the line says nothing of the runner-up
     let result = answer.result;
     match result {

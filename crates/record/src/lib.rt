@@ -106,7 +106,8 @@ pub fn search_record(s: &[u8], allowed: u32, bits: &mut [u8], word: &mut [u8]) -
     }
 }
 
-fn search_framed(
+// The same of a record whose frame is known: its code is sound, and it is whole.
+pub fn search_framed(
     s: &[u8],
     code: Code,
     allowed: u32,
