@@ -1,28 +1,26 @@
 -- Laws of an append: when each answer is given.
-use mathlib.Core.Path.{_≡_, refl, ap, sym, _∙_}
+use mathlib.Core.Path.{_≡_, ap, sym, _∙_}
 use mathlib.Core.List.{List}
 use mathlib.Core.Bool.{true, false}
-use Prim.Native.Nat.{ℕ, suc, _+_, _/_, _%_, _≤_, _<_}
+use Prim.Native.Nat.{ℕ, suc, _+_, _/_, _%_}
 use native.Mathlib.Omega.{arith}
-use native.Mathlib.Decide.{ℕ-discrete}
 use lib.IntN.{ℤ}
 use lib.ListN.{length}
 use lib.Dec.{leb}
-use borrow.Author.Tests.{eq-eqb, ne-eqb, le-leb, leb-false}
+use borrow.Author.Tests.{eq-eqb, ne-eqb, leb-false}
 use Rattle.code.specs.RefusalLaws.{number-above}
 use Rattle.code.specs.declared.Code.{Code}
 use Rattle.code.specs.declared.Refusal.{Refusal}
 use Rattle.code.specs.declared.Refusal.the-variants.{OutputLength}
 use Rattle.code.specs.declared.Admitted.{Admitted}
 use Rattle.code.specs.declared.Admitted.the-variants as admission
-use Rattle.record.specs.declared.Written.{Written}
 use Rattle.record.specs.declared.Written.the-variants as writer
 use Rattle.record.specs.Writing as Writing
 use Rattle.record.specs.Writing.{WrittenOutcome, writable, writtenBy, writing}
 use Rattle.index.specs.declared.Index.{Index}
 use Rattle.index.specs.declared.Indexed.the-variants.{Done, Refused}
 use Rattle.index.specs.Making.{Room, indexOf, withEntry}
-use Rattle.index.specs.Appending.{AppendOutcome, toldAppend, largestCount, full, appended, appendedBy, appending, Fitting}
+use Rattle.index.specs.Appending.{toldAppend, largestCount, full, appended, appendedBy, appending, Fitting}
 
 -- ---- room for the entry and for the count
 module _ (index : Index) (entries : ℕ) (free : full index entries ≡ false) where

@@ -13,7 +13,6 @@ use Rattle.numbers.specs.Front.{front, front-suc}
 use Rattle.code.specs.declared.Refusal.{Refusal}
 use Rattle.code.specs.declared.Refusal.the-variants.{OutputLength}
 use Rattle.index.specs.declared.Indexed.the-variants.{Done, Refused}
-use Rattle.index.specs.declared.Counted.{Counted}
 use Rattle.index.specs.declared.Counted.the-variants as count
 use Rattle.index.specs.declared.Place.the-variants as place
 use Rattle.index.specs.Steps.{bytesAt, stepped, Starts, these, refused, andThese, startsAt, startsOf}

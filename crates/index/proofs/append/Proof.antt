@@ -17,12 +17,16 @@ full-requires c κs = search needs
 returns : tie.Need-returns
 returns c =
     let g = c .before .before .before .before .before .before .before .args in
-    append-full (g .index) (g .r) (g .m) (g .readings .now) (g .capture .now) (g .table .now) _ (sym (c .before .before .enum-told .given .1) ∙ c .before .before .before .before .writable .ensures) (sym (c .before .full .ensures) ∙ c .if1 .taken)
+    append-full (g .index) (g .r) (g .m) (g .readings .now) (g .capture .now) (g .table .now) _
+    (sym (c .before .before .enum-told .given .1) ∙ c .before .before .before .before .writable .ensures)
+    (sym (c .before .full .ensures) ∙ c .if1 .taken)
 
 append-fitting-requires : tie.Need-append-fitting-requires
 append-fitting-requires c κs =
     let g = c .before .before .before .before .before .before .before .before .before .args in
-    append-fits (g .index) (g .r) (g .m) (g .readings .now) (g .capture .now) (g .table .now) _ (sym (c .before .before .before .before .enum-told .given .1) ∙ c .before .before .before .before .before .before .writable .ensures) (sym (c .before .before .before .full .ensures) ∙ c .before .before .if1 .left)
+    append-fits (g .index) (g .r) (g .m) (g .readings .now) (g .capture .now) (g .table .now) _
+    (sym (c .before .before .before .before .enum-told .given .1) ∙ c .before .before .before .before .before .before .writable .ensures)
+    (sym (c .before .before .before .full .ensures) ∙ c .before .before .if1 .left)
 
 enum-known-why : tie.Need-enum-known-why
 enum-known-why c = search needs
@@ -36,12 +40,18 @@ same-length-2 c = search needs
 returns-2 : tie.Need-returns-2
 returns-2 c =
     let g = c .before .before .before .before .before .before .before .before .before .before .before .before .before .before .args in
-    c .before .before .before .before .append-fitting .ensures ∙ append-done (g .index) (g .r) (g .m) (g .readings .now) (g .capture .now) (g .table .now) _ (sym (c .before .before .before .before .before .before .before .before .before .enum-told .given .1) ∙ c .before .before .before .before .before .before .before .before .before .before .before .writable .ensures) (sym (c .before .before .before .before .before .before .before .before .full .ensures) ∙ c .before .before .before .before .before .before .before .if1 .left)
+    let allowed = c .before .before .before .before .before .before .before .before .before .enum-told .given .1 in
+    let tested = c .before .before .before .before .before .before .before .before .before .before .before .writable .ensures in
+    let room = c .before .before .before .before .before .before .before .before .full .ensures in
+    c .before .before .before .before .append-fitting .ensures
+    ∙ append-done (g .index) (g .r) (g .m) (g .readings .now) (g .capture .now) (g .table .now) _ (sym allowed ∙ tested)
+    (sym room ∙ c .before .before .before .before .before .before .before .if1 .left)
 
 returns-3 : tie.Need-returns-3
 returns-3 c =
     let g = c .before .before .before .before .before .before .args in
-    append-refused (g .index) (g .r) (g .m) (g .readings .now) (g .capture .now) (g .table .now) _ (sym (c .before .why .given .1) ∙ c .before .before .before .writable .ensures)
+    append-refused (g .index) (g .r) (g .m) (g .readings .now) (g .capture .now) (g .table .now) _
+    (sym (c .before .why .given .1) ∙ c .before .before .before .writable .ensures)
 
 pub append-spec : {M : Type 1} → statement M
 append-spec =

@@ -15,10 +15,12 @@ enum-known-next : tie.Need-enum-known-next
 enum-known-next c = search needs
 
 put-entry-requires : tie.Need-put-entry-requires
-put-entry-requires c κs = let g = c .before .before .before .before .before .before .before .before .before .before in free-room (g .args .index) _ (g .pre .room)
+put-entry-requires c κs = let g = c .before .before .before .before .before .before .before .before .before .before in
+    free-room (g .args .index) _ (g .pre .room)
 
 add-t16 : tie.Need-add-t16
-add-t16 c = let g = c .before .before .before .before .before .before .before .before .before .before .before .before .before .before in omega (arith, few-records (g .args .index) _ (g .pre .room))
+add-t16 c = let g = c .before .before .before .before .before .before .before .before .before .before .before .before .before .before in
+    omega (arith, few-records (g .args .index) _ (g .pre .room))
 
 enum-known-why : tie.Need-enum-known-why
 enum-known-why c = search needs
@@ -35,7 +37,8 @@ returns c =
     let wrote = c .before .before .before .before .before .before .before .before .before .before .write in
     let left = wrote .last .1 .1 .1 .0 in
     append-wrote (g .index) (g .r) (g .m) (g .readings .now) (g .capture .now) (g .table .now) _ left _
-    (ap (λ (a : Written). told a left) (sym (c .before .before .before .before .before .before .next .given .1)) ∙ wrote .ensures) (c .before .before .before .put-entry .ensures)
+    (ap (λ (a : Written). told a left) (sym (c .before .before .before .before .before .before .next .given .1)) ∙ wrote .ensures)
+    (c .before .before .before .put-entry .ensures)
 
 same-length-3 : tie.Need-same-length-3
 same-length-3 c = search needs
@@ -45,7 +48,8 @@ returns-2 c =
     let g = c .before .before .before .before .before .before .before .before .before .args in
     let wrote = c .before .before .before .before .before .write in
     let left = wrote .last .1 .1 .1 .0 in
-    append-writes (g .index) (g .r) (g .m) (g .readings .now) (g .capture .now) (g .table .now) (c .before .why .given .0 .0) left _ (c .before .before .before .before .before .before .before .before .before .pre)
+    append-writes (g .index) (g .r) (g .m) (g .readings .now) (g .capture .now) (g .table .now) (c .before .why .given .0 .0) left _
+    (c .before .before .before .before .before .before .before .before .before .pre)
     (ap (λ (a : Written). told a left) (sym (c .before .why .given .1)) ∙ wrote .ensures)
 
 pub append-fitting-spec : {M : Type 1} → statement M

@@ -44,7 +44,8 @@ returns c =
     let s = c .before .before .before .before .before .before .before .before .args .capture .now in
     c .header-of .ensures
     ∙ ap (λ (x : List ℕ). told (headerOf x)) (lent-on s (c .before .before .before .start .given .0 .0))
-    ∙ ap (λ (p : Place). told (headerAt s p)) (sym (c .before .before .before .start .given .1) ∙ c .before .before .before .before .before .start-of .ensures)
+    ∙ ap (λ (p : Place). told (headerAt s p))
+    (sym (c .before .before .before .start .given .1) ∙ c .before .before .before .before .before .start-of .ensures)
 
 returns-2 : tie.Need-returns-2
 returns-2 c =

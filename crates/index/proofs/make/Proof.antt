@@ -21,12 +21,18 @@ entries-for-requires c κs = search needs
 returns : tie.Need-returns
 returns c =
     let g = c .before .before .before .before .before .before .before .before .args in
-    make-short (g .capture .now) (g .table .now) _ (counted-whole (g .capture .now) (g .table .now) _ (sym (c .before .before .before .records .given .1) ∙ c .before .before .before .before .before .count .ensures)) (omega (arith, c .before .entries-for .ensures))
+    make-short (g .capture .now) (g .table .now) _
+    (counted-whole (g .capture .now) (g .table .now) _
+    (sym (c .before .before .before .records .given .1) ∙ c .before .before .before .before .before .count .ensures))
+    (omega (arith, c .before .entries-for .ensures))
 
 put-entries-requires : tie.Need-put-entries-requires
 put-entries-requires c κs =
     let g = c .before .before .before .before .before .before .before .before .before .args in
-    make-room (g .capture .now) (g .table .now) _ (counted-whole (g .capture .now) (g .table .now) _ (sym (c .before .before .before .before .records .given .1) ∙ c .before .before .before .before .before .before .count .ensures)) (omega (arith, c .before .before .entries-for .ensures))
+    make-room (g .capture .now) (g .table .now) _
+    (counted-whole (g .capture .now) (g .table .now) _
+    (sym (c .before .before .before .before .records .given .1) ∙ c .before .before .before .before .before .before .count .ensures))
+    (omega (arith, c .before .before .entries-for .ensures))
 
 enum-known-why : tie.Need-enum-known-why
 enum-known-why c = search needs
@@ -37,8 +43,12 @@ same-length c = search needs
 returns-2 : tie.Need-returns-2
 returns-2 c =
     let g = c .before .before .before .before .before .before .before .before .before .before .before .before .args in
-    ap (told (Done (indexOf (c .before .before .before .before .before .before .before .records .given .0 .0) (length (g .capture .now))))) (c .before .before .put-entries .ensures)
-    ∙ make-done (g .capture .now) (g .table .now) _ (counted-whole (g .capture .now) (g .table .now) _ (sym (c .before .before .before .before .before .before .before .records .given .1) ∙ c .before .before .before .before .before .before .before .before .before .count .ensures)) (omega (arith, c .before .before .before .before .before .entries-for .ensures))
+    ap (told (Done (indexOf (c .before .before .before .before .before .before .before .records .given .0 .0) (length (g .capture .now)))))
+    (c .before .before .put-entries .ensures)
+    ∙ make-done (g .capture .now) (g .table .now) _
+    (counted-whole (g .capture .now) (g .table .now) _
+    (sym (c .before .before .before .before .before .before .before .records .given .1) ∙ c .before .before .before .before .before .before .before .before .before .count .ensures))
+    (omega (arith, c .before .before .before .before .before .entries-for .ensures))
 
 returns-3 : tie.Need-returns-3
 returns-3 c =

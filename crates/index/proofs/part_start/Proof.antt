@@ -55,7 +55,8 @@ returns c =
     ∙ ap (partStartAt s) (sym (c .before .before .before .before .start .given .1) ∙ c .before .before .before .before .before .before .start-of .ensures)
 
 returns-2 : tie.Need-returns-2
-returns-2 c = let s = c .before .before .before .before .before .args .capture .now in ap (partStartAt s) (sym (c .enum-told .given .1) ∙ c .before .before .start-of .ensures)
+returns-2 c = let s = c .before .before .before .before .before .args .capture .now in
+    ap (partStartAt s) (sym (c .enum-told .given .1) ∙ c .before .before .start-of .ensures)
 
 pub part-start-spec : {M : Type 1} → statement M
 part-start-spec =

@@ -27,7 +27,8 @@ enum-known-start c = search needs
 returns-3 : tie.Need-returns-3
 returns-3 c =
     let g = c .before .before .before .before .before .before .before .before .before .before .args in
-    start-end (g .capture .now) (g .table .now) (g .w) (omega arith) (omega arith) _ (sym (c .before .before .before .before .pass .ensures) ∙ c .before .before .start .given .1) (c .if3 .taken)
+    start-end (g .capture .now) (g .table .now) (g .w) (omega arith) (omega arith) _
+    (sym (c .before .before .before .before .pass .ensures) ∙ c .before .before .start .given .1) (c .if3 .taken)
 
 enum-known-why : tie.Need-enum-known-why
 enum-known-why c = search needs
@@ -35,12 +36,14 @@ enum-known-why c = search needs
 returns-4 : tie.Need-returns-4
 returns-4 c =
     let g = c .before .before .before .before .before .before .before .before .before .before .args in
-    start-found (g .capture .now) (g .table .now) (g .w) (omega arith) (omega arith) _ (sym (c .before .before .before .before .pass .ensures) ∙ c .before .before .start .given .1) (c .if3 .left)
+    start-found (g .capture .now) (g .table .now) (g .w) (omega arith) (omega arith) _
+    (sym (c .before .before .before .before .pass .ensures) ∙ c .before .before .start .given .1) (c .if3 .left)
 
 returns-5 : tie.Need-returns-5
 returns-5 c =
     let g = c .before .before .before .before .before .before .before .before .before .args in
-    start-refused (g .capture .now) (g .table .now) (g .w) (omega arith) (omega arith) _ (sym (c .before .before .before .pass .ensures) ∙ c .before .why .given .1)
+    start-refused (g .capture .now) (g .table .now) (g .w) (omega arith) (omega arith) _
+    (sym (c .before .before .before .pass .ensures) ∙ c .before .why .given .1)
 
 pub start-of-spec : {M : Type 1} → statement M
 start-of-spec =
