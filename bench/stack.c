@@ -165,7 +165,7 @@ int main(void) {
     bounded("quick reading, shortened", quick_shortened, 0, 3000);
     bounded("search, shortened", search_shortened, CINORBIS_OUT_OF_VISITS, 46000);
     bounded("search of a record", search_record, 0, 46000);
-    bounded("search of floats", search_float, 0, 64000);
+    bounded("search of floats", search_float, 0, 68000);
     bounded("early answer", early, 0, 46000);
     /* two words of RM(1,8) share the least penalty */
     bounded("first-order words", first_order, CINORBIS_TIED, 2000);
