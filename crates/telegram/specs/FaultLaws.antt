@@ -1,8 +1,8 @@
 -- Laws of the faults: which telegrams have none, and that a fault is known by what it carries.
 use mathlib.Core.Path.{_≡_, refl, ap, sym, _∙_}
 use mathlib.Core.Bool.{_&&_}
-use mathlib.Core.Logic.{⊎-elim}
-use Prim.Native.Nat.{ℕ, zero, suc, _+_, _-_, _≤_, _<_}
+use mathlib.Core.Logic.{_⊎_, inl, inr, ⊎-elim}
+use Prim.Native.Nat.{ℕ, zero, suc, _-_, _≤_, _<_}
 use native.Mathlib.Omega.{arith}
 use native.Mathlib.Decide.{ℕ-discrete}
 use lib.Dec.{ltb, eqb}
@@ -23,7 +23,7 @@ use Rattle.telegram.specs.TelegramLaws.{Fits}
 
 -- ---- a fault by what it carries
 -- the decoder's numbers stay below the telegram's own
-number-below : (why : Refusal) → carried why .number < 13
+pub number-below : (why : Refusal) → carried why .number < 13
 number-below Parameters = omega arith
 number-below InputLength = omega arith
 number-below OutputLength = omega arith
@@ -114,7 +114,24 @@ pub record TiltGood (t : Telegram) : Type 0 where
   pub zero-level : t .tilt ≡ 0 → t .direction ≡ 1 → ⊥
 
 module _ (t : Telegram) where
-  tilt-good : TiltGood t → tiltFault t ≡ Good
+  -- each test where it finds its fault
+  pub tilt-high : largestTilt < t .tilt → tiltFault t ≡ Bad Tilt
+  tilt-high h = rw (lt-ltb largestTilt (t .tilt) h)
+
+  pub tilt-level : t .tilt ≡ 0 → t .direction ≡ 1 → tiltFault t ≡ Bad ZeroTilt
+  tilt-level z d = rw (le-ltb largestTilt (t .tilt) (omega arith), eq-eqb (t .tilt) 0 z, eq-eqb (t .direction) 1 d)
+
+  pub field-beyond : (largestCylinder < t .cylinder) ⊎ (largestDirection < t .direction) → fieldFault t ≡ Bad Field
+  field-beyond x =
+      ⊎-elim
+      (λ h. rw (lt-ltb largestCylinder (t .cylinder) h))
+      (λ h. ⊎-elim
+      (λ k. rw (lt-ltb largestCylinder (t .cylinder) k))
+      (λ k. rw (le-ltb largestCylinder (t .cylinder) k, lt-ltb largestDirection (t .direction) h))
+      (lt-or-le largestCylinder (t .cylinder)))
+      x
+
+  pub tilt-good : TiltGood t → tiltFault t ≡ Good
   tilt-good g =
       elim (ℕ-discrete (t .tilt) 0) [
         | yes z ↦ rw (le-ltb largestTilt (t .tilt) (g .small), eq-eqb (t .tilt) 0 z, ne-eqb (t .direction) 1 (g .zero-level z))
@@ -124,25 +141,21 @@ module _ (t : Telegram) where
   good-tilt : tiltFault t ≡ Good → TiltGood t
   good-tilt e =
       ⊎-elim
-      (λ h. let bad : tiltFault t ≡ Bad Tilt = rw (lt-ltb largestTilt (t .tilt) h) in absurd (omega (arith, ap testNumber (sym bad ∙ e))))
+      (λ h. absurd (omega (arith, ap testNumber (sym (tilt-high h) ∙ e))))
       (λ h.
       record {
         small = h;
-        zero-level = λ z d.
-            let bad : tiltFault t ≡ Bad ZeroTilt = rw (le-ltb largestTilt (t .tilt) h, eq-eqb (t .tilt) 0 z, eq-eqb (t .direction) 1 d) in
-            omega (arith, ap testNumber (sym bad ∙ e));
+        zero-level = λ z d. omega (arith, ap testNumber (sym (tilt-level z d) ∙ e));
       })
       (lt-or-le largestTilt (t .tilt))
 
   good-field : fieldFault t ≡ Good → (t .cylinder ≤ largestCylinder) × (t .direction ≤ largestDirection)
   good-field e =
       ⊎-elim
-      (λ h. let bad : fieldFault t ≡ Bad Field = rw (lt-ltb largestCylinder (t .cylinder) h) in absurd (omega (arith, ap testNumber (sym bad ∙ e))))
+      (λ h. absurd (omega (arith, ap testNumber (sym (field-beyond (inl h)) ∙ e))))
       (λ h.
       ⊎-elim
-      (λ k.
-      let bad : fieldFault t ≡ Bad Field = rw (le-ltb largestCylinder (t .cylinder) h, lt-ltb largestDirection (t .direction) k) in
-      absurd (omega (arith, ap testNumber (sym bad ∙ e))))
+      (λ k. absurd (omega (arith, ap testNumber (sym (field-beyond (inr k)) ∙ e))))
       (λ k. (h, k))
       (lt-or-le largestDirection (t .direction)))
       (lt-or-le largestCylinder (t .cylinder))

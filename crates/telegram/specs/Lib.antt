@@ -5,6 +5,8 @@ pub mod Outcome
 -- What is stated over them, and that it holds
 pub mod Theorems
 pub mod TheoremsMet
+pub mod Demand1
+pub mod Demand1Met
 pub mod Examples
 -- Laws
 pub mod TelegramLaws

@@ -34,7 +34,7 @@ use Rattle.telegram.specs.declared.Fault.the-variants.{Link}
 use Rattle.telegram.specs.Telegram.{binary, telegramBits, wordOf}
 use Rattle.telegram.specs.TelegramLaws.{length-bits, bits-bits}
 use Rattle.telegram.specs.Faults.{writerFault}
-use Rattle.telegram.specs.Outcome.{refused, writtenIf, writingTelegram, faulted, judged, heard, linkSearch, readingTelegram}
+use Rattle.telegram.specs.Outcome.{refused, writtenIf, writingTelegram, faulted, judged, passedOn, heard, linkSearch, readingTelegram}
 
 -- ---- RM(2,5)
 pub dimension-25 : dimension 2 5 ≡ 16
@@ -106,6 +106,10 @@ module _ (allowed : ℕ) (l : List ℤ) where
       → readingTelegram allowed l ≡ (let o = linkSearch allowed l in judged (o .bits) (o .penalty) (o .gap) (o .visits))
   unfolding readingTelegram
   reading-found e = rw (eq-eqb (linkSearch allowed l .number) 0 e)
+
+  pub reading-other : (linkSearch allowed l .number ≡ 0 → ⊥) → readingTelegram allowed l ≡ passedOn (linkSearch allowed l)
+  unfolding readingTelegram
+  reading-other n = rw (ne-eqb (linkSearch allowed l .number) 0 n)
 
   pub reading-refused : (why : Refusal) (b w : List ℕ) → linkSearch allowed l ≡ Search.refused why b w → readingTelegram allowed l ≡ faulted (Link why)
   unfolding readingTelegram

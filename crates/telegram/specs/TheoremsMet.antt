@@ -1,14 +1,12 @@
 -- The theorems on telegrams are met: by what the encoder and the search promise, and by the demands.
 use mathlib.Core.Path.{_≡_, refl, ap, ap₂, sym, _∙_}
 use mathlib.Core.Logic.{_⊎_, inl, inr, ⊎-elim}
-use mathlib.Core.Bool.{cond}
 use mathlib.Core.List.{List, [], _∷_, _++_}
 use Prim.Native.Nat.{ℕ, _+_, _-_, _*_, _/_, _%_, _≤_, _<_}
 use native.Mathlib.Omega.{arith}
 use native.Mathlib.Decide.{ℕ-discrete}
 use lib.IntN.{ℤ}
 use lib.ListN.{length, replicate}
-use borrow.Author.Tests.{ne-eqb}
 use Rattle.numbers.specs.Choice.{lt-or-le}
 use Rattle.numbers.specs.Sums.{total, tabulate, sum}
 use Rattle.words.specs.Bits.{Bits, xors, digit, ones}
@@ -32,8 +30,8 @@ use Rattle.telegram.specs.Telegram.{binary, bitsWith, telegramBits, tele
 use Rattle.telegram.specs.TelegramLaws.{length-bits, bits-bits, marker-bits, telegram-bits, fits-telegram, bits-telegram}
 use Rattle.telegram.specs.Faults.{Writable, writerFault, readerFault}
 use Rattle.telegram.specs.FaultLaws.{fault-above, Own, own-reader, writer-good, good-writer, reader-good, good-reader, writable-fits, read-writable}
-use Rattle.telegram.specs.Outcome.{WriteOutcome, done, writtenIf, writingTelegram, ReadOutcome, showing, faulted, shownIf, judged, passedOn, linkSearch, readingTelegram}
-use Rattle.telegram.specs.OutcomeLaws.{dimension-25, sum-25, writing-tested, reading-found, reading-refused}
+use Rattle.telegram.specs.Outcome.{WriteOutcome, done, writtenIf, writingTelegram, ReadOutcome, showing, faulted, shownIf, judged, linkSearch, readingTelegram}
+use Rattle.telegram.specs.OutcomeLaws.{dimension-25, sum-25, writing-tested, reading-found, reading-other, reading-refused}
 use Rattle.telegram.specs.OutcomeLaws.{Passed, tests, passed, stopped, FoundBest, found-all, found-again, out-of-visits, found-long, found-bits}
 use Rattle.telegram.specs.Theorems.{Finds, turned, WriteTheorems, ReadTheorems, TurnedTheorems, NeverShown, telegrams, ordinal, Counted, Theorems}
 
@@ -173,10 +171,6 @@ never-shown t w l allowed allowed′ h =
     (lt-or-le allowed′ (needed 5 (kinds 2 5) (turned l)))
 
 -- ---- what is read
-reading-other : (allowed : ℕ) (l : List ℤ) → (linkSearch allowed l .number ≡ 0 → ⊥) → readingTelegram allowed l ≡ passedOn (linkSearch allowed l)
-unfolding readingTelegram
-reading-other allowed l n = rw (ne-eqb (linkSearch allowed l .number) 0 n)
-
 shown-good : (x : Tested) (t : Telegram) (p g v : ℕ) → shownIf x t p g v .carry .number ≡ 0 → x ≡ Good
 shown-good Good t p g v e = refl
 shown-good (Bad why) t p g v e = absurd (omega (arith, fault-above why))
