@@ -1,6 +1,5 @@
 -- What the exports of the early answer tell: its outcome, as C sees it.
-use mathlib.Core.List.{List, [], _∷_}
-use Prim.Native.Nat.{ℕ}
+use mathlib.Core.List.{[], _∷_}
 use Rattle.search.specs.Outcome.{Outcome}
 use Rattle.answers.specs.Told.{Told, numbers, told}
 

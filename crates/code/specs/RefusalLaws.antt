@@ -1,7 +1,7 @@
 -- A refusal is known by its number and the values that it carries. Only 6 and 7 carry more than a place.
 use mathlib.Core.Path.{_≡_, refl, ap, sym, _∙_}
 use mathlib.Core.Bool.{cond}
-use Prim.Native.Nat.{ℕ, _<_}
+use Prim.Native.Nat.{_<_}
 use native.Mathlib.Omega.{arith}
 use lib.Dec.{eqb}
 use Rattle.code.specs.declared.Refusal.{Refusal}

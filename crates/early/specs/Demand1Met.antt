@@ -1,5 +1,5 @@
 -- The outcomes of the early answer meet demand 1.
-use mathlib.Core.Path.{_≡_, refl, ap, sym, _∙_}
+use mathlib.Core.Path.{_≡_, refl, ap, _∙_}
 use mathlib.Core.Logic.{inl, inr, ⊎-elim}
 use mathlib.Core.Bool.{true, false}
 use mathlib.Core.List.{List, [], _∷_}
@@ -20,7 +20,6 @@ use Rattle.code.specs.declared.Admitted.the-variants.{Refused}
 use Rattle.code.specs.Admitted.{admitted}
 use Rattle.code.specs.Demand1.{refusedAs}
 use Rattle.code.specs.Demand1Laws.{Decides, demand-1, decides-readings}
-use Rattle.search.specs.Outcome.{byAnswer}
 use Rattle.search.specs.Demands.{SoundSearch, view}
 use Rattle.search.specs.DemandsMet.{sound-answered}
 use Rattle.early.specs.Outcome.{wordOnly, answering}

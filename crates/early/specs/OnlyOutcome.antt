@@ -1,12 +1,10 @@
 -- No second answer and no second contents of the lent buffers meet the promise of `early_within`.
-use mathlib.Core.Path.{_≡_, refl, ap, sym, _∙_}
+use mathlib.Core.Path.{_≡_, ap, sym, _∙_}
 use mathlib.Core.List.{List}
 use Prim.Native.Nat.{ℕ}
-use Rattle.search.specs.declared.Searched.{Searched}
 use Rattle.search.specs.Outcome.{Outcome}
 use Rattle.search.specs.OnlyOutcome.{search-only}
 use Rattle.early.specs.declared.Answered.{Answered}
-use Rattle.early.specs.declared.Answered.the-variants.{Best, Refused}
 use Rattle.early.specs.Outcome.{asSearched, told}
 use Rattle.early.specs.OutcomeLaws.{shortened, shortened-again}
 

@@ -3,7 +3,7 @@
 use mathlib.Core.Path.{_≡_, refl}
 use mathlib.Core.List.{List, [], _∷_, map}
 use Prim.Native.Nat.{ℕ}
-use lib.IntN.{ℤ, pos, negsuc, negℤ}
+use lib.IntN.{pos, negℤ}
 use Rattle.numbers.specs.Sums.{total, tabulate, sum}
 use Rattle.numbers.specs.Least.{least, without, next, firstWith}
 use Rattle.words.specs.Bits.{digit, ones}

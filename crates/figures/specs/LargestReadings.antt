@@ -1,6 +1,6 @@
 -- The range of readings, by what the search tells: 32,767 is taken either way, -32,768 is refused as 4 at its place.
 use mathlib.Core.Path.{_≡_, refl}
-use mathlib.Core.List.{List, [], _∷_, map}
+use mathlib.Core.List.{[], _∷_}
 use Prim.Native.Nat.{ℕ}
 use lib.IntN.{pos, negsuc}
 use Rattle.numbers.specs.Sums.{total, tabulate, sum}

@@ -1,6 +1,6 @@
 -- The float search gives what the search gives: for floats that are whole numbers, and its demands for any floats.
-use mathlib.Core.Path.{_≡_, ap}
-use mathlib.Core.Logic.{_↔_, ⊎-elim}
+use mathlib.Core.Path.{ap}
+use mathlib.Core.Logic.{⊎-elim}
 use mathlib.Core.List.{List, [], _∷_}
 use Prim.Native.Nat.{ℕ, zero, suc, _≤_}
 use native.Mathlib.Omega.{arith}

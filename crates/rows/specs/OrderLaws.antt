@@ -1,7 +1,7 @@
 -- The lesser and the greater by a test, and the combining step for the lower half by the order of the two alone.
 use mathlib.Core.Path.{_≡_, refl, ap, _∙_}
 use mathlib.Core.Bool.{true, false, true≢false, false≢true}
-use Prim.Native.Nat.{ℕ, zero, suc, _^_, _<_, min, max}
+use Prim.Native.Nat.{ℕ, zero, suc, _<_, min, max}
 use native.Mathlib.Omega.{arith}
 use lib.IntN.{ℤ, pos, negsuc, natAbs, _-ℤ_, negℤ, +ℤ-idl}
 use lib.Signed.{ltZ}

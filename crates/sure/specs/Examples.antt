@@ -2,9 +2,9 @@
 -- what none of them was asked.
 use mathlib.Core.Path.{_≡_, refl}
 use mathlib.Core.List.{List, [], _∷_, map}
-use Prim.Native.Nat.{ℕ, _*_, _^_, max}
+use Prim.Native.Nat.{ℕ, _*_, _^_}
 use native.Mathlib.Omega.{arith}
-use lib.IntN.{ℤ, pos, negsuc, natAbs}
+use lib.IntN.{ℤ, pos, negsuc}
 use Rattle.numbers.specs.Sums.{total, tabulate, sum}
 use Rattle.numbers.specs.Least.{least, without, next, firstWith}
 use Rattle.words.specs.Bits.{digit, ones}
@@ -17,7 +17,7 @@ use Rattle.decoding.specs.Best.{penalties, leastPenalty, gap, bestBits, bestWor
 use Rattle.decoding.specs.Walk.{value, walk, walked}
 use Rattle.decoding.specs.Answer.{found, tied, answer}
 use Rattle.decoding.specs.Examples.{sample}
-use Rattle.sure.specs.Sure.{largest, doubt, Sure, SurelyRight}
+use Rattle.sure.specs.Sure.{largest, doubt, SurelyRight}
 use Rattle.sure.specs.LargestLaws.{within-largest}
 use Rattle.sure.specs.SureLaws.{inside-code, quick-sure}
 

@@ -6,10 +6,10 @@ use native.Mathlib.Omega.{arith}
 use native.Mathlib.Nat.{add-mul, mul-comm, mul-le-mul-left}
 use lib.ListN.{length}
 use lib.Pow.{pow-mono}
-use lib.IntN.{ℤ, natAbs}
+use lib.IntN.{ℤ}
 use Rattle.decoding.specs.Readings.{penalty, sizes, Within}
 use Rattle.decoding.specs.StepLaws.{sizes-within}
-use Rattle.sure.specs.Sure.{largest, doubt, Sure}
+use Rattle.sure.specs.Sure.{largest, Sure}
 use Rattle.sure.specs.MarginLaws.{doubt-penalty}
 
 pub within-largest : (l : List ℤ) → Within (largest l) l

@@ -10,7 +10,6 @@ use lib.ListN.{length}
 use lib.IntN.{ℤ}
 use borrow.Author.Tests.{lt-ltb, ltb-true}
 use Rattle.words.specs.Bits.{xors}
-use Rattle.words.specs.Word.{transform}
 use Rattle.words.specs.Kinds.{Word}
 use Rattle.words.specs.TransformLaws.{length-xors, bits-xors}
 use Rattle.words.specs.InverseLaws.{word-length, word-bits, encoded-xors}
@@ -21,7 +20,7 @@ use Rattle.decoding.specs.TurnLaws.{length-turns, penalty-turns}
 use Rattle.sure.specs.Sure.{largest, doubt, Sure, Inside, SurelyRight}
 use Rattle.sure.specs.Test.{isSure, passes, SomeSure}
 use Rattle.sure.specs.LargestLaws.{within-largest, largest-sure}
-use Rattle.sure.specs.TurnedLaws.{largest-turned, sure-turned, turns-twice}
+use Rattle.sure.specs.TurnedLaws.{sure-turned, turns-twice}
 use Rattle.sure.specs.SureLaws.{surely-right, quick-sure}
 
 not-below-zero : (M n d : ℕ) → n < M * d → 1 ≤ M

@@ -5,7 +5,7 @@ use Prim.Native.Nat.{ℕ, zero, suc, _+_, _%_, _^_, _<_, max}
 use native.Mathlib.Omega.{arith}
 use native.Mathlib.Nat.{suc-inj, suc-ne-zero}
 use lib.ListN.{length}
-use lib.IntN.{ℤ, natAbs, negℤ, negℤ-negℤ}
+use lib.IntN.{ℤ, negℤ-negℤ}
 use Rattle.numbers.specs.PartsLaws.{negated}
 use Rattle.words.specs.Bits.{Bits, xors}
 use Rattle.decoding.specs.Readings.{turn, turns}

@@ -6,10 +6,10 @@ use Prim.Native.Nat.{ℕ, _+_, _-_, _*_, _/_, _%_, _≤_, _<_}
 use native.Mathlib.Omega.{arith}
 use native.Mathlib.Decide.{ℕ-discrete}
 use lib.IntN.{ℤ}
-use lib.ListN.{length, replicate}
+use lib.ListN.{replicate}
 use Rattle.numbers.specs.Choice.{lt-or-le}
 use Rattle.numbers.specs.Sums.{total, tabulate, sum}
-use Rattle.words.specs.Bits.{Bits, xors, digit, ones}
+use Rattle.words.specs.Bits.{xors, digit, ones}
 use Rattle.words.specs.Word.{transform}
 use Rattle.words.specs.Kinds.{kind, kinds, encoded, InformationBits, Word, allOnes}
 use Rattle.words.specs.Inverse.{TakenBack, taken, frozenOne, takenBack}
@@ -26,11 +26,11 @@ use Rattle.telegram.specs.declared.Telegram.{Telegram}
 use Rattle.telegram.specs.declared.Fault.the-variants.{Link, Marker}
 use Rattle.telegram.specs.declared.Tested.{Tested}
 use Rattle.telegram.specs.declared.Tested.the-variants.{Good, Bad}
-use Rattle.telegram.specs.Telegram.{binary, bitsWith, telegramBits, telegramOf, markerOf, wordOf}
+use Rattle.telegram.specs.Telegram.{binary, bitsWith, telegramBits, telegramOf, markerOf}
 use Rattle.telegram.specs.TelegramLaws.{length-bits, bits-bits, marker-bits, telegram-bits, fits-telegram, bits-telegram}
 use Rattle.telegram.specs.Faults.{Writable, writerFault, readerFault}
 use Rattle.telegram.specs.FaultLaws.{fault-above, Own, own-reader, writer-good, good-writer, reader-good, good-reader, writable-fits, read-writable}
-use Rattle.telegram.specs.Outcome.{WriteOutcome, done, writtenIf, writingTelegram, ReadOutcome, showing, faulted, shownIf, judged, linkSearch, readingTelegram}
+use Rattle.telegram.specs.Outcome.{WriteOutcome, writtenIf, ReadOutcome, showing, faulted, shownIf, judged, linkSearch, readingTelegram}
 use Rattle.telegram.specs.OutcomeLaws.{dimension-25, sum-25, writing-tested, reading-found, reading-other, reading-refused}
 use Rattle.telegram.specs.OutcomeLaws.{Passed, tests, passed, stopped, FoundBest, found-all, found-again, out-of-visits, found-long, found-bits}
 use Rattle.telegram.specs.Theorems.{Finds, turned, WriteTheorems, ReadTheorems, TurnedTheorems, NeverShown, telegrams, ordinal, Counted, Theorems}

@@ -1,6 +1,6 @@
 -- `admit_for`: each return is what the tests that led there show.
 use borrow.Author.Needs.{needs}
-use mathlib.Core.Path.{_≡_, ap, sym, _∙_}
+use mathlib.Core.Path.{ap, sym, _∙_}
 use Prim.Native.Nat.{ℕ}
 use native.Mathlib.Omega.{arith}
 use Rattle.code.specs.declared.Admitted.the-variants.{Refused}

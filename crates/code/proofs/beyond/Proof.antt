@@ -1,6 +1,4 @@
 -- `beyond`: the two signed tests are one on the size.
-use mathlib.Core.Path.{_≡_}
-use mir.Syntax.{w16}
 use mir.Facts.{toZ-ofZ}
 use Rattle.code.specs.EntriesLaws.{low-fits, beyond-below, beyond-above}
 use Rattle.code.proofs.beyond.Statement.{statement}

@@ -1,6 +1,5 @@
 -- One of the two parts is 0.
 use borrow.Author.Needs.{needs}
-use mathlib.Core.Path.{_≡_}
 use native.Mathlib.Omega.{arith}
 use mir.Facts.{toZ-ofZ}
 use Rattle.numbers.specs.PartsLaws.{parts}

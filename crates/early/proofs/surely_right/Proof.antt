@@ -1,8 +1,7 @@
 -- The test, with numbers that fit in 32 bits.
 use borrow.Author.Needs.{needs}
-use mathlib.Core.Path.{_≡_, ap, ap₂, _∙_}
-use Prim.Native.Nat.{ℕ, _-_, _*_, _^_, _%_}
-use native.Mathlib.Omega.{arith}
+use mathlib.Core.Path.{ap, ap₂, _∙_}
+use Prim.Native.Nat.{ℕ, _-_, _*_, _^_}
 use lib.Dec.{ltb}
 use Rattle.sure.specs.Sure.{doubt}
 use Rattle.sure.specs.Test.{isSure}

@@ -1,6 +1,6 @@
 -- The quick reading stands in the two lent rows; by its test it is copied, or the search answers.
 use borrow.Author.Needs.{needs}
-use mathlib.Core.Path.{_≡_, ap, sym, _∙_}
+use mathlib.Core.Path.{ap, sym, _∙_}
 use native.Mathlib.Omega.{arith}
 use Rattle.search.specs.RunnerUp.{WholeOutcome}
 use Rattle.early.specs.declared.Answered.{Answered}

@@ -6,7 +6,6 @@ use native.Mathlib.Omega.{arith}
 use lib.ListN.{replicate}
 use lib.Pow.{pow-mono}
 use Rattle.words.specs.KindLaws.{sum-kinds}
-use Rattle.half.specs.EightKinds.{Fillable}
 use Rattle.encode.specs.WorkLaws.{still-within, fill-asked, filled-row}
 use Rattle.encode.proofs.put_row.Statement.{statement}
 use Rattle.encode.proofs.put_row.Tie as tie

@@ -1,6 +1,5 @@
 -- Each return is the outcome after the tests.
-use mathlib.Core.Path.{_≡_, ap, sym, _∙_, subst}
-use Prim.Native.Nat.{ℕ}
+use mathlib.Core.Path.{ap, sym, _∙_, subst}
 use lib.ListN.{length}
 use Rattle.code.specs.declared.Code.{Code}
 use Rattle.code.specs.SoundInput.{SoundReadings}

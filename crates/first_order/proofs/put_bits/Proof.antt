@@ -1,7 +1,7 @@
 -- The bits are the digits as far as the loop has come; then comes the last.
 use mathlib.Core.Path.{_≡_, refl, ap, ap₂, sym, _∙_}
 use mathlib.Core.List.{List}
-use Prim.Native.Nat.{ℕ, suc, _+_, _-_, _^_, _%_, _/_, _≤_}
+use Prim.Native.Nat.{ℕ, suc, _-_, _^_, _%_, _/_, _≤_}
 use native.Mathlib.Omega.{arith}
 use native.Mathlib.Numerals.{add-one}
 use lib.ListN.{length, getD, set, length-set, drop-of-length-le}

@@ -1,6 +1,6 @@
 -- After j turns the largest of the first j sizes is held.
 use mathlib.Core.Path.{_≡_, ap, _∙_, subst}
-use Prim.Native.Nat.{ℕ, _+_, _*_, _-_, _≤_, max}
+use Prim.Native.Nat.{ℕ, _-_, _≤_, max}
 use native.Mathlib.Omega.{arith}
 use lib.IntN.{pos, natAbs}
 use lib.ListN.{length, getD}

@@ -1,8 +1,6 @@
 -- The loop's invariant is `Blockwise`: the blocks before at are transformed.
-use mathlib.Core.Path.{_≡_}
 use Prim.Native.Nat.{_-_}
 use native.Mathlib.Omega.{arith}
-use lib.ListN.{length}
 use Rattle.words.specs.Word.{transform}
 use Rattle.half.specs.BlockLaws.{Blockwise, first-turn, part-asked, next-turn, last-turn, keeps-transform}
 use Rattle.half.proofs.eights.Statement.{statement}

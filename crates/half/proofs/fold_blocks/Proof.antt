@@ -1,8 +1,6 @@
 -- The loop's invariant is `Blockwise`: the blocks before start are folded.
-use mathlib.Core.Path.{_≡_}
 use Prim.Native.Nat.{_-_, _+_}
 use native.Mathlib.Omega.{arith}
-use lib.ListN.{length}
 use Rattle.half.specs.Fold.{folded}
 use Rattle.half.specs.BlockLaws.{Blockwise, first-turn, part-asked, next-turn, last-turn, keeps-folded}
 use Rattle.half.proofs.fold_blocks.Statement.{statement}

@@ -4,7 +4,6 @@ use Prim.Native.Nat.{_+_, _-_, _*_, _/_, _%_, _≤_, _<_}
 use native.Mathlib.Omega.{arith}
 use lib.IntN.{pos}
 use lib.ListN.{length, length-set, getD, set}
-use mir.Val.{toZ}
 use mir.Facts.{toZ-ofZ}
 use Rattle.numbers.specs.Front.{front}
 use Rattle.packing.specs.Layout.{field, packed}

@@ -8,7 +8,7 @@ use mir.Syntax.{w16}
 use mir.Val.{toZ, ofZ}
 use mir.Facts.{toZ-ofZ}
 use Rattle.numbers.specs.Front.{front}
-use Rattle.packing.specs.Layout.{reading, unpacked}
+use Rattle.packing.specs.Layout.{unpacked}
 use Rattle.packing.specs.LayoutLaws.{length-unpacked, reading-even, reading-odd}
 use Rattle.packing.specs.PairLaws.{front-two}
 use Rattle.packing.proofs.put_reading_pairs.Statement.{statement}

@@ -1,5 +1,5 @@
 -- `judge`: the tests on what the bits say.
-use mathlib.Core.Path.{_≡_, ap, sym, _∙_}
+use mathlib.Core.Path.{_≡_, sym, _∙_}
 use borrow.Author.Needs.{needs}
 use Rattle.telegram.specs.declared.Tested.the-variants.{Good, Bad}
 use Rattle.telegram.specs.Telegram.{telegramOf, markerOf}

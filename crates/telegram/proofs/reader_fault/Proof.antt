@@ -1,5 +1,4 @@
 -- `reader_fault`: the marker's test, then those of the tilt.
-use mathlib.Core.Path.{_∙_}
 use borrow.Author.Needs.{needs}
 use borrow.Author.Tests.{eq-eqb, ne-eqb}
 use Rattle.telegram.proofs.reader_fault.Statement.{statement}

@@ -1,5 +1,5 @@
 -- `write`: the length, then the writer's tests.
-use mathlib.Core.Path.{_≡_, ap, sym, _∙_}
+use mathlib.Core.Path.{ap, sym, _∙_}
 use borrow.Author.Needs.{needs}
 use Rattle.telegram.specs.declared.Tested.{Tested}
 use Rattle.telegram.specs.Outcome.{done, writtenIf}

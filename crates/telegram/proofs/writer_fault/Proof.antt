@@ -1,5 +1,5 @@
 -- `writer_fault`: the tests of the tilt, then that of the other fields.
-use mathlib.Core.Path.{_≡_, ap, sym, _∙_}
+use mathlib.Core.Path.{ap, sym, _∙_}
 use borrow.Author.Needs.{needs}
 use Rattle.telegram.specs.declared.Tested.{Tested}
 use Rattle.telegram.specs.Faults.{before, fieldFault}

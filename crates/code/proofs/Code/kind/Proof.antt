@@ -1,6 +1,5 @@
 -- `Code::kind`: the machine's count of ones is the number of ones of the definition.
 use borrow.Author.Needs.{needs}
-use native.Mathlib.Omega.{arith}
 use Rattle.code.specs.SoundLaws.{kind-one, kind-zero}
 use Rattle.code.proofs.Code.kind.Statement.{statement}
 use Rattle.code.proofs.Code.kind.Tie as tie
