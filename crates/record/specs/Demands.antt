@@ -1,5 +1,5 @@
--- Demand 1 of the search of a record, the checks 1, 8, 9, 3, 6 and 7, and of the writer, the checks 1, 2, 4 and 3, in these orders. That it is met is
--- proved in DemandsMet and WritingDemandMet.
+-- Demand 1 of a record's header, the checks 1, 8 and 9, of its search, these and then 3, 6 and 7, and of the writer, the checks 1, 2, 4 and 3, in these
+-- orders. That it is met is proved in DemandsMet and WritingDemandMet.
 use mathlib.Core.Path.{_≡_}
 use mathlib.Core.Logic.{_⊎_}
 use mathlib.Core.List.{List, [], _∷_}
@@ -13,19 +13,48 @@ use Rattle.code.specs.Entries.{firstBadReading}
 use Rattle.code.specs.Demand1.{View, Checks, passed, check, LowestBad, Demand1}
 use Rattle.search.specs.Demands.{view, walkChecks}
 use Rattle.packing.specs.Layout.{recordOf, partLength, padOf}
-use Rattle.record.specs.Reader.{partOf, readingsOf, headerOf, told}
+use Rattle.record.specs.Reader.{partOf, readingsOf, HeaderOutcome, headerOf, told}
 use Rattle.record.specs.Searching.{searchingRecord}
 use Rattle.record.specs.Writing.{WrittenOutcome, writing}
 
 -- r and m stand in the first byte; with no byte at all both read as 0, so that it is 8
-abbrev pub recordChecks : ℕ → List ℕ → List ℕ → List ℕ → Checks
-recordChecks allowed s bits word =
-    let r = getD s 0 0 % 16 in
-    let m = getD s 0 0 / 16 in
+abbrev pub saidR : List ℕ → ℕ
+saidR s = getD s 0 0 % 16
+
+abbrev pub saidM : List ℕ → ℕ
+saidM s = getD s 0 0 / 16
+
+-- the checks on the bytes, and what comes after them
+abbrev pub headerChecks : List ℕ → Checks → Checks
+headerChecks s rest =
+    let r = saidR s in
+    let m = saidM s in
     check Parameters ((largestM < m) ⊎ (m < r))
     (check Torn (length s < suc (partLength m))
-    (check Pad (padOf m (partOf (rm r m) s) ≡ 0 → ⊥)
-    (check OutputLength ((length bits ≡ dimension r m) × (length word ≡ 2 ^ m) → ⊥) (walkChecks r m allowed (readingsOf (rm r m) s)))))
+    (check Pad (padOf m (partOf (rm r m) s) ≡ 0 → ⊥) rest))
+
+-- ---- the header, to which no buffer is lent
+abbrev pub headerView : HeaderOutcome → View
+headerView o =
+    let c = o .carry in
+    record { number = c .number; place = c .place; penalty = c .penalty; gap = 0; visits = c .visits; buffers = [] }
+
+pub record HeaderMeets (s : List ℕ) (o : HeaderOutcome) : Type 0 where
+  pub checked : Demand1 (headerChecks s passed) [] (headerView o)
+  -- r and m of a record are those of its first byte, and 0 under every refusal
+  pub said : o .carry .number ≡ 0 → (o .r ≡ saidR s) × (o .m ≡ saidM s)
+  pub refused : 0 < o .carry .number → (o .r ≡ 0) × (o .m ≡ 0)
+
+abbrev pub HeaderDemand1 : List ℕ → Type 0
+HeaderDemand1 s = HeaderMeets s (told (headerOf s))
+
+-- ---- the search
+abbrev pub recordChecks : ℕ → List ℕ → List ℕ → List ℕ → Checks
+recordChecks allowed s bits word =
+    let r = saidR s in
+    let m = saidM s in
+    headerChecks s
+    (check OutputLength ((length bits ≡ dimension r m) × (length word ≡ 2 ^ m) → ⊥) (walkChecks r m allowed (readingsOf (rm r m) s)))
 
 abbrev pub RecordDemand1 : ℕ → List ℕ → List ℕ → List ℕ → Type 0
 RecordDemand1 allowed s bits word = Demand1 (recordChecks allowed s bits word) (bits ∷ word ∷ []) (view (searchingRecord allowed s bits word))
