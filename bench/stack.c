@@ -14,6 +14,9 @@ static float floats[256];
 static uint8_t bits[256], word[256], runner_up[256], record[CINORBIS_LARGEST_RECORD];
 static cinorbis_telegram shown;
 static cinorbis_written written;
+static cinorbis_index made;
+static cinorbis_entry entry;
+static size_t entries[1];
 static uint8_t table[64], row[8], named[256];
 static int16_t moved[256];
 static cinorbis_numbers numbers;
@@ -75,6 +78,23 @@ static void *write_record(void *a) {
 
 static void *unpack(void *a) {
     refusal = cinorbis_unpack(record + 1, sizeof record - 1, moved, 256, &numbers);
+    return a;
+}
+
+/* a capture of the one record */
+static void *index_make(void *a) {
+    refusal = cinorbis_index_make(record, sizeof record, entries, 1, &made);
+    return a;
+}
+
+static void *index_find(void *a) {
+    refusal = cinorbis_index_find(0, record, sizeof record, entries, 1, &entry);
+    return a;
+}
+
+static void *index_append(void *a) {
+    made.records = made.used = 0;
+    refusal = cinorbis_index_append(8, 8, readings, 256, record, sizeof record, entries, 1, &made, &written);
     return a;
 }
 
@@ -174,6 +194,9 @@ int main(void) {
     bounded("product of maps", product_map, 0, 800);
     bounded("writing a record", write_record, 0, 500);
     bounded("unpacking", unpack, 0, 500);
+    bounded("making an index", index_make, 0, 500);
+    bounded("finding a record", index_find, 0, 500);
+    bounded("appending a record", index_append, 0, 1000);
     bounded("writing a telegram", write_telegram, 0, 500);
     /* readings of no telegram: the word found has the marker set */
     bounded("reading a telegram", telegram, CINORBIS_MARKER, 7000);
