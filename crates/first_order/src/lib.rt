@@ -11,7 +11,7 @@ ghost use Rattle.words.specs.Bits.{Bits};
 ghost use Rattle.decoding.specs.Readings.{sizes, Within};
 ghost use Rattle.decoding.specs.Quick.{hard};
 ghost use Rattle.hadamard.specs.Hadamard.{hadamard, firstOrder, bitsOf};
-ghost use Rattle.code.specs.Sound.{rm};
+ghost use Rattle.code.specs.Sound.{largestM, rm};
 ghost use Rattle.code.specs.SoundInput.{SoundReadings};
 ghost use Rattle.search.specs.Outcome.{told};
 ghost use Rattle.first_order.specs.Outcome.{asSearch, firstOrdering};
@@ -65,7 +65,7 @@ fn decode(m: usize, readings: &[i16], bits: &mut [u8], word: &mut [u8]) -> Searc
 
 // The largest entries of the transform, which is made in the lent row.
 fn find(readings: &[i16], row: &mut [i32], m: usize) -> Seen
-    requires { ⌜ (0 < m) × (m ≤ 8) × (length (now readings) ≡ 2 ^ m)
+    requires { ⌜ (0 < m) × (m ≤ largestM) × (length (now readings) ≡ 2 ^ m)
         × (length (now row) ≡ 2 ^ m) × (sizes (now readings) < largestEntry) ⌝ }
     ensures { λ seen. ⌜ Looked (hadamard m (now (readings .entry))) seen ⌝ }
 {
@@ -239,7 +239,7 @@ fn double(word: &mut [u8], h: usize, bit: u8)
 
 // The word of the place: it starts with the sign and is doubled by each digit, the lowest first.
 fn put_word(word: &mut [u8], m: usize, place: usize, sign: u8)
-    requires { ⌜ (length (now word) ≡ 2 ^ m) × (m ≤ 8) × (sign < 2) ⌝ }
+    requires { ⌜ (length (now word) ≡ 2 ^ m) × (m ≤ largestM) × (sign < 2) ⌝ }
     ensures { λ _. ⌜ now (word .exit) ≡ firstOrder m place sign ⌝ }
 {
     word[0] = sign;
@@ -255,7 +255,7 @@ fn put_word(word: &mut [u8], m: usize, place: usize, sign: u8)
 
 // The digits of the place, the highest first; then the sign plus their number of ones, modulo 2.
 fn put_bits(bits: &mut [u8], m: usize, place: usize, sign: u32)
-    requires { ⌜ (length (now bits) ≡ m + 1) × (m ≤ 8) × (place < 2 ^ m) × (sign < 2) ⌝ }
+    requires { ⌜ (length (now bits) ≡ m + 1) × (m ≤ largestM) × (place < 2 ^ m) × (sign < 2) ⌝ }
     ensures { λ _. ⌜ now (bits .exit) ≡ bitsOf m place sign ⌝ }
 {
     let mut i = 0;
