@@ -4,6 +4,7 @@ pub mod Finding
 pub mod Making
 pub mod Appending
 pub mod Own
+pub mod Demands
 -- Their laws, and that the promises are met
 pub mod StepsLaws
 pub mod FindingLaws
@@ -11,4 +12,5 @@ pub mod MakingLaws
 pub mod AppendingLaws
 pub mod OwnMet
 pub mod AppendMet
+pub mod DemandsMet
 pub mod OnlyIndex

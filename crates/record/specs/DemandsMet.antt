@@ -66,7 +66,7 @@ module _ (before : List (List ℕ)) (o : View) (rest : Checks) where
       (lt-or-le largestM m)
 
 -- ---- the header
-header-decides : (s : List ℕ) → Decides [] (headerView (told (headerOf s))) (headerChecks s passed)
+pub header-decides : (s : List ℕ) → Decides [] (headerView (told (headerOf s))) (headerChecks s passed)
 header-decides s =
     decides-header [] (headerView (told (headerOf s))) passed s
     (λ why e. ap (λ (h : Header). headerView (told h)) e)
@@ -78,7 +78,7 @@ header-said s (Record c) is e =
     let same = made-of (saidR s) (saidM s) c (framed-record s c is .said) .same in
     (ap (λ (d : Code). d .r) same, ap (λ (d : Code). d .m) same)
 
-header-none : (h : Header) → 0 < told h .carry .number → (told h .r ≡ 0) × (told h .m ≡ 0)
+pub header-none : (h : Header) → 0 < told h .carry .number → (told h .r ≡ 0) × (told h .m ≡ 0)
 header-none (Refused why) h = (refl, refl)
 header-none (Record c) h = absurd (omega arith)
 
