@@ -1,41 +1,20 @@
 /* Times the library beside plain C (plain.h) and C written for vector code (vector.c) in one run: each figure is the least of several
  * alternating rounds, and what counts is the ratio. All sides must agree in every result, or the bench fails. `bench grow` prints visits
  * and time per word over all codes and three noise levels instead. */
-#define _POSIX_C_SOURCE 199309L
+#include "draw.h"
 #include "../include/cinorbis.h"
 #include "plain.h"
 #include "vector.h"
 #include <math.h>
 #include <stdio.h>
 #include <stdlib.h>
-#include <time.h>
 
 #define SETS 64
 #define ROUNDS 9
 
 static int16_t readings[SETS][256];
 static uint8_t information[SETS][256];
-static uint64_t state = 0x2545f4914f6cdd1du, sum_library, sum_plain, sum_vector;
-
-static uint64_t random64(void) {
-    state ^= state << 13;
-    state ^= state >> 7;
-    state ^= state << 17;
-    return state;
-}
-
-/* a normal number from twelve uniform ones */
-static double normal(void) {
-    double s = -6;
-    for (int i = 0; i < 12; i++) s += (double)(random64() >> 11) / 9007199254740992.0;
-    return s;
-}
-
-static double now(void) {
-    struct timespec t;
-    clock_gettime(CLOCK_PROCESS_CPUTIME_ID, &t);
-    return (double)t.tv_sec * 1e9 + (double)t.tv_nsec;
-}
+static uint64_t sum_library, sum_plain, sum_vector;
 
 static size_t dimension(uint32_t r, uint32_t m) {
     uint8_t kinds[256];

@@ -1,39 +1,17 @@
 /* The early answer beside the search, in one process: the share of words that it answers at once, and the time of both per word, for four codes at three
  * noise levels, with readings clipped at the word's size and not clipped. Each time is the least of several alternating rounds; both calls must agree
  * wherever the search answers. */
-#define _POSIX_C_SOURCE 199309L
+#include "draw.h"
 #include "../include/cinorbis.h"
 #include <math.h>
 #include <stdio.h>
 #include <string.h>
-#include <time.h>
 
 #define WORDS 256
 #define ROUNDS 7
 #define SIZE 400.0
 
 static int16_t readings[WORDS][256];
-static uint64_t state = 0x2545f4914f6cdd1du;
-
-static uint64_t random64(void) {
-    state ^= state << 13;
-    state ^= state >> 7;
-    state ^= state << 17;
-    return state;
-}
-
-/* a normal number from twelve uniform ones */
-static double normal(void) {
-    double s = -6;
-    for (int i = 0; i < 12; i++) s += (double)(random64() >> 11) / 9007199254740992.0;
-    return s;
-}
-
-static double now(void) {
-    struct timespec t;
-    clock_gettime(CLOCK_PROCESS_CPUTIME_ID, &t);
-    return (double)t.tv_sec * 1e9 + (double)t.tv_nsec;
-}
 
 static size_t dimension(uint32_t r, uint32_t m) {
     size_t k = 0;

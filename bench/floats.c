@@ -1,9 +1,8 @@
 /* The search of floats beside the search of whole numbers and beside plain C whose readings and sums are floats (plain.h with other types), in one run: each
  * figure is the least of several alternating rounds. All sides must agree in every result, or the bench fails. */
-#define _POSIX_C_SOURCE 199309L
+#include "draw.h"
 #include "../include/cinorbis.h"
 #include <stdio.h>
-#include <time.h>
 
 #define int16_t float
 #define int32_t float
@@ -16,20 +15,6 @@
 
 static int16_t whole[SETS][256];
 static float floats[SETS][256];
-static uint64_t state = 0x2545f4914f6cdd1du;
-
-static uint64_t random64(void) {
-    state ^= state << 13;
-    state ^= state >> 7;
-    state ^= state << 17;
-    return state;
-}
-
-static double now(void) {
-    struct timespec t;
-    clock_gettime(CLOCK_PROCESS_CPUTIME_ID, &t);
-    return (double)t.tv_sec * 1e9 + (double)t.tv_nsec;
-}
 
 static void make(size_t n) {
     for (int t = 0; t < SETS; t++)

@@ -1,19 +1,12 @@
 /* Finding a record by the index beside stepping from the beginning, in one process: records 40,000 and the last of a capture of a million. Each time is the
  * least of several alternating rounds; both must give the same place. */
-#define _POSIX_C_SOURCE 199309L
+#include "draw.h"
 #include "../include/cinorbis.h"
 #include <stdio.h>
 #include <stdlib.h>
-#include <time.h>
 
 #define RECORDS 1000000u
 #define ROUNDS 7
-
-static double now(void) {
-    struct timespec t;
-    clock_gettime(CLOCK_PROCESS_CPUTIME_ID, &t);
-    return (double)t.tv_sec * 1e9 + (double)t.tv_nsec;
-}
 
 /* without the index: by each record's first byte */
 static size_t stepped(const uint8_t *capture, size_t w) {
