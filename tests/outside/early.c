@@ -78,9 +78,8 @@ static void against_brute_force(int r, int m, const int16_t *l) {
 /* a word's signs: of one size with some bits wrong; with noise, clipped at the word's size; with noise, not clipped; small; all rims; zeros */
 static void make_readings(int r, int m, int kind, int16_t *l) {
     int n = 1 << m, size = random_between(1, random_below(2) ? 300 : LARGEST / 3 * 2);
-    uint8_t bits[256], x[256];
-    for (int i = 0; i < 256; i++) bits[i] = (uint8_t)random_below(2);
-    ref_encode(r, m, bits, x);
+    uint8_t x[256];
+    random_word(r, m, x);
     int wrong = random_below((1 << (m - r)) / 2 + 2);
     for (int j = 0; j < n; j++) {
         int sign = x[j] ? -1 : 1, noisy = size + random_between(-size, size / 2);

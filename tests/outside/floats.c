@@ -82,9 +82,8 @@ static answer beside(int r, int m, uint32_t allowed, const int16_t *l) {
 
 /* full range; small with zeros; near a word with noise; rims */
 static void make_readings(int r, int m, int kind, int16_t *l) {
-    uint8_t bits[256], x[256];
-    for (int i = 0; i < 256; i++) bits[i] = (uint8_t)random_below(2);
-    ref_encode(r, m, bits, x);
+    uint8_t x[256];
+    random_word(r, m, x);
     for (int j = 0; j < 1 << m; j++) {
         switch (kind) {
         case 0: l[j] = random_reading(); break;

@@ -3,6 +3,7 @@
 #ifndef REFERENCE_H
 #define REFERENCE_H
 
+#include "check.h"
 #include <stdint.h>
 #include <string.h>
 
@@ -52,6 +53,12 @@ static inline void ref_encode(int r, int m, const uint8_t *bits, uint8_t *x) {
     uint8_t u[REF_N];
     ref_fill(r, m, bits, u);
     ref_word(m, u, x);
+}
+
+static inline void random_word(int r, int m, uint8_t *x) {
+    uint8_t bits[REF_N];
+    for (int i = 0; i < REF_N; i++) bits[i] = (uint8_t)random_below(2);
+    ref_encode(r, m, bits, x);
 }
 
 static inline long ref_penalty(int n, const int16_t *l, const uint8_t *x) {

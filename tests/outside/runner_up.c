@@ -116,9 +116,8 @@ static void of_a_record(int r, int m, const int16_t *l) {
 
 /* near a word with noise; small, with zeros; one size */
 static void make_readings(int r, int m, int kind, int16_t *l) {
-    uint8_t bits[256], x[256];
-    for (int i = 0; i < 256; i++) bits[i] = (uint8_t)random_below(2);
-    ref_encode(r, m, bits, x);
+    uint8_t x[256];
+    random_word(r, m, x);
     for (int j = 0; j < 1 << m; j++) {
         switch (kind) {
         case 0: l[j] = (int16_t)((x[j] ? -60 : 60) + random_between(-75, 75)); break;

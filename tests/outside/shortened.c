@@ -47,9 +47,8 @@ static void some_readings(int m, int noise, int16_t *l) {
 
 /* readings of a word of the set with noise */
 static void near_word(int r, int m, int16_t *l) {
-    uint8_t bits[256], word[256];
-    for (int i = 0; i < 256; i++) bits[i] = (uint8_t)random_below(2);
-    ref_encode(r, m, bits, word);
+    uint8_t word[256];
+    random_word(r, m, word);
     for (int j = 0; j < 1 << m; j++) l[j] = (int16_t)((word[j] ? -100 : 100) + random_between(-90, 90));
 }
 

@@ -15,10 +15,11 @@ use Rattle.code.specs.declared.Code.{Code}
 use Rattle.code.specs.declared.Refusal.{Refusal}
 use Rattle.code.specs.declared.Refusal.the-variants.{OutOfVisits, Tied}
 use Rattle.code.specs.declared.Admitted.the-variants as admission
-use Rattle.code.specs.Sound.{numberOf, rm}
+use Rattle.code.specs.Sound.{numberOf}
 use Rattle.code.specs.RefusalLaws.{number-above}
 use Rattle.code.specs.Admitted.{admitted}
-use Rattle.code.specs.AdmittedLaws.{allows, refuses, decided}
+use Rattle.code.specs.SoundInput.{dimensionOf}
+use Rattle.code.specs.AdmittedLaws.{allowed-sound-for}
 use Rattle.search.specs.declared.Searched.the-variants.{Refused}
 use Rattle.search.specs.Outcome.{foundWith, refused, byAnswer}
 use Rattle.search.specs.OutcomeLaws.{searching-refused, searching-answered}
@@ -56,14 +57,6 @@ second-shown n k ks second b p long is =
     rw (sub-zero, is, zeros-left k (p .few)) (ap (λ (j : ℕ). pick ks (take n second) ++ replicate {A = ℕ} (256 - j) 0) (sym e))
 
 module _ (r m allowed : ℕ) (l : List ℤ) (bits word : List ℕ) where
-  -- only RM(r,m) is allowed
-  allowed-is : (c : Code) → admission.Allowed c ≡ admitted r m l (length bits) (length word) → c ≡ rm r m
-  allowed-is c e =
-      elim (decided r m l (length bits) (length word)) [
-        | allows d f is a ↦ let same : c ≡ d = cc in same ∙ is
-        | refuses why f h ↦ let z : _≡_ {A = ℕ} 0 1 = cc in absurd (omega arith)
-      ]
-
   pub whole-refused : (why : Refusal) → admission.Refused why ≡ admitted r m l (length bits) (length word)
       → searchingWhole r m allowed l bits word ≡ toldWhole (withNone (Refused why)) bits word
   whole-refused why e =
@@ -73,4 +66,5 @@ module _ (r m allowed : ℕ) (l : List ℤ) (bits word : List ℕ) where
       → searchingWhole r m allowed l bits word ≡ wholeBy (c .m) (kinds (c .r) (c .m)) l allowed bits word
   whole-answered c e =
       ap (shownWith (runnerUp m (kinds r m) l)) (searching-answered r m allowed l bits word c e)
-      ∙ ap (λ (d : Code). shownWith (runnerUp (d .m) (kinds (d .r) (d .m)) l) (byAnswer allowed bits word (answer (c .m) (kinds (c .r) (c .m)) l allowed))) (sym (allowed-is c e))
+      ∙ ap (λ (d : Code). shownWith (runnerUp (d .m) (kinds (d .r) (d .m)) l) (byAnswer allowed bits word (answer (c .m) (kinds (c .r) (c .m)) l allowed)))
+      (sym (allowed-sound-for dimensionOf r m l (length bits) (length word) c e .0))

@@ -110,7 +110,9 @@ module _ (allowed : ℕ) (l : List ℤ) (t : Telegram) (w : Writable t) (h : Fin
   same-visits = demands-code 2 5 l (sent .passes .entries .long) .demand-3-all-ones ones-word .same-visits
 
   turned-passed : Passed (turned l)
-  turned-passed = outcome-demands (replicate 16 0) (replicate 32 0) (sent .passes) .demand-3-all-ones ones-word (replicate 16 0) (replicate 32 0) (sym dimension-25) refl .sound
+  turned-passed =
+      outcome-demands (replicate 16 0) (replicate 32 0) (sent .passes) .demand-3-all-ones ones-word (replicate 16 0) (replicate 32 0)
+      (sym dimension-25) refl .sound
 
   module _ (allowed′ : ℕ) where
     module _ (k : needed 5 (kinds 2 5) (turned l) ≤ allowed′) where
@@ -128,7 +130,9 @@ module _ (allowed : ℕ) (l : List ℤ) (t : Telegram) (w : Writable t) (h : Fin
       unfolding ones-word
       marked =
           let o = linkSearch allowed′ (turned l) in
-          let plus = outcome-demands (replicate 16 0) (replicate 32 0) (sent .passes) .demand-3-all-ones ones-word (replicate 16 0) (replicate 32 0) (sym dimension-25) refl .same-search allowed′ .0 in
+          let plus =
+          outcome-demands (replicate 16 0) (replicate 32 0) (sent .passes) .demand-3-all-ones ones-word (replicate 16 0) (replicate 32 0)
+          (sym dimension-25) refl .same-search allowed′ .0 in
           let bits : o .bits ≡ xors (telegramBits t) markerAlone =
           plus .bits-added (still-finds .answers) ∙ ap (λ (b : List ℕ). xors b markerAlone) (ap (λ (s : Search.Outcome). s .bits) again ∙ sent-bits) in
           reading-found allowed′ (turned l) (plus .same-number ∙ still-finds .answers)
@@ -184,7 +188,8 @@ module _ (allowed : ℕ) (l : List ℤ) (n : linkSearch allowed l .number ≡ 0)
   abbrev b : List ℕ
   b = linkSearch allowed l .bits
 
-  read-found : readingTelegram allowed l .carry .number ≡ 0 → Writable (readingTelegram allowed l .telegram) × Finds allowed l (readingTelegram allowed l .telegram)
+  read-found : readingTelegram allowed l .carry .number ≡ 0
+      → Writable (readingTelegram allowed l .telegram) × Finds allowed l (readingTelegram allowed l .telegram)
   read-found z =
       let o = linkSearch allowed l in
       let f = found-all allowed l n in

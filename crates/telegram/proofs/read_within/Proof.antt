@@ -28,13 +28,16 @@ judge-requires : tie.Need-judge-requires
 judge-requires c κs =
     let s = c .before .before .before .before .before .before .before .before .before .args in
     let found = c .before .before .result2 .given in
-    judged-bits (s .allowed) (s .readings .now) (found .0 .0) (found .0 .1 .0) (found .0 .1 .1 .0) _ _ (rw (found .1) at (ap (λ (o : WholeOutcome). o .outcome) (c .before .before .before .before .before .before .search-within .ensures)))
+    judged-bits (s .allowed) (s .readings .now) (found .0 .0) (found .0 .1 .0) (found .0 .1 .1 .0) _ _
+    (rw (found .1) at (ap (λ (o : WholeOutcome). o .outcome) (c .before .before .before .before .before .before .search-within .ensures)))
 
 returns : tie.Need-returns
 returns c =
     let s = c .before .before .before .before .before .before .before .before .args in
     let why = c .before .result .given in
-    sym (reading-refused (s .allowed) (s .readings .now) (why .0 .0) _ _ (sym (rw (why .1) at (ap (λ (o : WholeOutcome). o .outcome) (c .before .before .before .before .before .search-within .ensures)))))
+    sym
+    (reading-refused (s .allowed) (s .readings .now) (why .0 .0) _ _
+    (sym (rw (why .1) at (ap (λ (o : WholeOutcome). o .outcome) (c .before .before .before .before .before .search-within .ensures)))))
 
 returns-2 : tie.Need-returns-2
 returns-2 c =

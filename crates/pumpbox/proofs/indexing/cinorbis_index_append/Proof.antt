@@ -27,8 +27,9 @@ returns c =
     let g = c .before .before .before .before .before .before .before .before .before .before .before .before .before .before .args in
     let e = c .before .before .before .before .before .before .before .append in
     let p = c .put-appended in
+    let index = c .before .before .before .before .before .before .before .before .before .before .taken .ensures in
     told-appended (g .index .now) (e .result) (e .last .1 .1 .1 .1 .0) (e .last .1 .1 .1 .1 .1 .0) _ (p .result) (p .last .1 .1 .0) (p .last .1 .0)
-    (e .ensures ∙ ap (λ (i : Index). appending i (g .r) (g .m) (g .readings .now) (g .capture .now) (g .table .now)) (c .before .before .before .before .before .before .before .before .before .before .taken .ensures))
+    (e .ensures ∙ ap (λ (i : Index). appending i (g .r) (g .m) (g .readings .now) (g .capture .now) (g .table .now)) index)
     (p .ensures .0) (p .ensures .2) (p .ensures .1)
 
 pub cinorbis-index-append-spec : {M : Type 1} → statement M

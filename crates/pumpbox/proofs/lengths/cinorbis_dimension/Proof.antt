@@ -13,7 +13,9 @@ enum-known-code : tie.Need-enum-known-code
 enum-known-code c = search needs
 
 dimension-requires : tie.Need-dimension-requires
-dimension-requires c κs = made-of (c .before .before .before .before .args .r) (c .before .before .before .before .args .m) _ (sym (c .before .before .before .new .ensures) ∙ c .before .code .given .1) .sound
+dimension-requires c κs =
+    let g = c .before .before .before .before .args in
+    made-of (g .r) (g .m) _ (sym (c .before .before .before .new .ensures) ∙ c .before .code .given .1) .sound
 
 enum-told : tie.Need-enum-told
 enum-told c = search needs
