@@ -111,12 +111,13 @@ impl Code {
         row[r] as usize
     }
 
-    // 1 at an information index, 0 at a frozen one.
+    // 1 at an information index, 0 at a frozen one. An index has eight bits, and the compiler counts
+    // the ones of many bytes at once.
     pub fn kind(self, i: usize) -> u8
         requires { ⌜ Sound self × (i < 2 ^ (self .m)) ⌝ }
         ensures { λ k. ⌜ k ≡ kind (self .r) (self .m) i ⌝ }
     {
-        if self.m - self.r <= usize::count_ones(i) {
+        if self.m - self.r <= u8::count_ones(i as u8) {
             1
         } else {
             0
