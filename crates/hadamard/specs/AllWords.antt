@@ -8,10 +8,10 @@ use lib.ListN.{length, getD}
 use lib.IntN.{ℤ, pos, negℤ}
 use Rattle.numbers.specs.Sums.{sum, total}
 use Rattle.numbers.specs.SumsLaws.{sum-append, total-split, total-same, total-add}
-use Rattle.words.specs.Bits.{ones}
+use Rattle.words.specs.Bits.{digits, ones}
 use Rattle.words.specs.Kinds.{kinds, encoded, allBits}
 use Rattle.decoding.specs.Readings.{turn, correlation}
-use Rattle.hadamard.specs.Hadamard.{hadamard, entry, digits, bitsOf, correlations, SameEntries}
+use Rattle.hadamard.specs.Hadamard.{hadamard, entry, bitsOf, correlations, SameEntries}
 use Rattle.hadamard.specs.HadamardLaws.{length-hadamard}
 use Rattle.hadamard.specs.FirstOrderLaws.{correlation-word}
 use Rattle.hadamard.specs.EncodedLaws.{bits-first, bits-second, sum-first-order, encoded-bitsOf}

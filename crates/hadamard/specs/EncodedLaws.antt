@@ -9,24 +9,20 @@ use lib.ListN.{length, getD, replicate, length-append, List·getD-append, length
 use lib.Seq.{take-at, drop-at, getD-at}
 use Rattle.numbers.specs.Sums.{sum, tabulate}
 use Rattle.numbers.specs.SumsLaws.{sum-append, sum-zeros, tabulate-same}
-use Rattle.words.specs.Bits.{Bits, xors, digit, ones}
+use Rattle.words.specs.Bits.{Bits, xors, digit, digits, ones}
 use Rattle.words.specs.Word.{transform}
 use Rattle.words.specs.Kinds.{kinds, fill, encoded, InformationBits, Word}
-use Rattle.words.specs.BitLaws.{Alike, digit-bit, digit-first, digit-second, second-alike, by-halves, ones-first, ones-second}
+use Rattle.words.specs.BitLaws.{digit-bit, digit-first, digit-second, second-alike, by-halves, ones-first, ones-second}
+use Rattle.words.specs.BitLaws.{digits-alike, length-digits, bits-digits, digits-at}
 use Rattle.words.specs.KindLaws.{length-kinds, bits-kinds, kinds-one, kinds-zero, kinds-suc, sum-kinds, dimension-zero, dimension-one, dimension-suc}
 use Rattle.words.specs.TransformLaws.{xors-comm, xors-zeros, bits-append, bits-zeros, transform-zeros}
 use Rattle.words.specs.Inverse.{taken, takenBack}
 use Rattle.words.specs.InverseLaws.{word-taken}
 use Rattle.words.specs.FillLaws.{length-fill, fill-zeros}
-use Rattle.hadamard.specs.Hadamard.{common, firstOrder, digits, bitsOf, placeNamed}
+use Rattle.hadamard.specs.Hadamard.{common, firstOrder, bitsOf, placeNamed}
 use Rattle.hadamard.specs.FirstOrderLaws.{word-first, word-second}
 
 -- ---- the bits by halves
-digits-alike : (m s t : ℕ) → Alike m s t → digits m s ≡ digits m t
-unfolding digits
-digits-alike zero s t h = refl
-digits-alike (suc m) s t h = ap₂ _∷_ (h m (le-refl (suc m))) (digits-alike m s t (λ p l. h p (omega arith)))
-
 module _ (m s e : ℕ) (h : s < 2 ^ m) where
   pub bits-first : bitsOf (suc m) s e ≡ 0 ∷ bitsOf m s e
   unfolding bitsOf digits
@@ -44,24 +40,7 @@ unfolding sum digits ones
 sum-digits zero s = refl
 sum-digits (suc m) s = omega (arith, sum-digits m s)
 
-pub length-digits : (m s : ℕ) → length (digits m s) ≡ m
-unfolding digits
-length-digits zero s = refl
-length-digits (suc m) s = ap suc (length-digits m s)
-
-bits-digits : (m s : ℕ) → Bits (digits m s)
-unfolding digits
-bits-digits zero s i = omega arith
-bits-digits (suc m) s zero = digit-bit m s
-bits-digits (suc m) s (suc i) = bits-digits m s i
-
 -- the bits one by one
-digits-at : (m s i : ℕ) → i < m → getD (digits m s) i 0 ≡ digit (m - suc i) s
-unfolding digits
-digits-at zero s i h = absurd (omega arith)
-digits-at (suc m) s zero h = ap (λ (p : ℕ). digit p s) (omega arith)
-digits-at (suc m) s (suc i) h = digits-at m s i (omega arith) ∙ ap (λ (p : ℕ). digit p s) (sym (suc-sub-suc m (suc i)))
-
 pub bitsOf-at : (m s e i : ℕ) → i < m → getD (bitsOf m s e) i 0 ≡ digit (m - suc i) s
 unfolding bitsOf
 bitsOf-at m s e i h = List·getD-append (digits m s) ((ones m s + e) % 2 ∷ []) 0 i (omega (arith, length-digits m s)) ∙ digits-at m s i h

@@ -6,13 +6,13 @@ use native.Mathlib.Omega.{arith}
 use lib.IntN.{pos, negsuc, natAbs}
 use lib.ListN.{getD}
 use Rattle.numbers.specs.Sums.{tabulate}
-use Rattle.words.specs.Bits.{digit, ones}
+use Rattle.words.specs.Bits.{digit, digits, ones}
 use Rattle.words.specs.Word.{transform}
 use Rattle.words.specs.Kinds.{kind, kinds, encoded}
 use Rattle.decoding.specs.Readings.{sizes}
 use Rattle.decoding.specs.Answer.{found, tied}
 use Rattle.decoding.specs.Examples.{sample}
-use Rattle.hadamard.specs.Hadamard.{hadamard, common, firstOrder, digits, bitsOf, LargestTwo, byPlace}
+use Rattle.hadamard.specs.Hadamard.{hadamard, common, firstOrder, bitsOf, LargestTwo, byPlace}
 
 pub record Examples : Type 0 where
   -- bits 0001 give the row of ones, place 0 with bit 1; bits 1000 give 11110000, place 4 with bit 1

@@ -8,7 +8,7 @@ use lib.IntN.{ℤ, pos, natAbs, _+ℤ_, _*ℤ_}
 use lib.Dec.{eqb}
 use lib.ListN.{length, getD, take, drop}
 use Rattle.numbers.specs.Sums.{sum, tabulate}
-use Rattle.words.specs.Bits.{digit, ones}
+use Rattle.words.specs.Bits.{digit, digits, ones}
 use Rattle.words.specs.Kinds.{kinds, encoded, allBits}
 use Rattle.decoding.specs.Readings.{turn, correlation, sizes}
 use Rattle.decoding.specs.Quick.{hard}
@@ -50,12 +50,7 @@ common (suc m) s j = common m s j + digit m s * digit m j
 unfoldable pub firstOrder : ℕ → ℕ → ℕ → List ℕ
 firstOrder m s e = tabulate (λ j. (common m s j + e) % 2) (2 ^ m)
 
--- the lowest m bits of s, the highest of them first
-unfoldable pub digits : ℕ → ℕ → List ℕ
-digits zero s = []
-digits (suc m) s = digit m s ∷ digits m s
-
--- the information bits of that word
+-- the information bits of that word: the digits of s, and a bit that makes their sum e, modulo 2
 unfoldable pub bitsOf : ℕ → ℕ → ℕ → List ℕ
 bitsOf m s e = digits m s ++ (ones m s + e) % 2 ∷ []
 

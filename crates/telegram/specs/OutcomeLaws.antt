@@ -7,7 +7,7 @@ use lib.IntN.{ℤ}
 use lib.ListN.{length, take, drop, replicate}
 use borrow.Author.Tests.{eq-eqb, ne-eqb}
 use Rattle.numbers.specs.Sums.{total, sum}
-use Rattle.words.specs.Bits.{Bits}
+use Rattle.words.specs.Bits.{Bits, digits}
 use Rattle.words.specs.Kinds.{kinds, choose, dimension}
 use Rattle.words.specs.KindLaws.{sum-kinds}
 use Rattle.decoding.specs.Answer.{Answer, found, tied, outOfVisits, answer}
@@ -31,7 +31,7 @@ use Rattle.search.specs.Demands.{SoundSearch}
 use Rattle.search.specs.DemandsMet.{sound-answered, outcome-demands}
 use Rattle.telegram.specs.declared.Telegram.{Telegram}
 use Rattle.telegram.specs.declared.Fault.the-variants.{Link}
-use Rattle.telegram.specs.Telegram.{binary, telegramBits, wordOf}
+use Rattle.telegram.specs.Telegram.{telegramBits, wordOf}
 use Rattle.telegram.specs.TelegramLaws.{length-bits, bits-bits}
 use Rattle.telegram.specs.Faults.{writerFault}
 use Rattle.telegram.specs.Outcome.{refused, writtenIf, writingTelegram, faulted, judged, passedOn, heard, linkSearch, readingTelegram}
@@ -46,28 +46,28 @@ sum-25 = sum-kinds 2 5 ∙ dimension-25
 
 -- ---- the writer
 -- the bits as the three numbers are put into them, one after the other
-module _ (t : Telegram) (x : List ℕ) (cylinder : x ≡ binary 3 (t .cylinder)) where
+module _ (t : Telegram) (x : List ℕ) (cylinder : x ≡ digits 3 (t .cylinder)) where
   abbrev first : List ℕ
   first = x ++ replicate 13 0
 
   pub length-first : length first ≡ 16
-  unfolding binary
+  unfolding digits
   length-first = rw cylinder
 
-  module _ (y : List ℕ) (direction : y ≡ binary (length (take 1 (drop 3 first))) (t .direction)) where
+  module _ (y : List ℕ) (direction : y ≡ digits (length (take 1 (drop 3 first))) (t .direction)) where
     abbrev second : List ℕ
     second = take 3 first ++ (y ++ drop 1 (drop 3 first))
 
     pub length-second : length second ≡ 16
-    unfolding binary
+    unfolding digits
     length-second = rw (direction, cylinder)
 
-    module _ (z : List ℕ) (tilt : z ≡ binary (length (take 11 (drop 4 second))) (t .tilt)) where
+    module _ (z : List ℕ) (tilt : z ≡ digits (length (take 11 (drop 4 second))) (t .tilt)) where
       abbrev third : List ℕ
       third = take 4 second ++ (z ++ drop 11 (drop 4 second))
 
       pub bits-put : third ≡ telegramBits t
-      unfolding binary
+      unfolding digits
       bits-put = rw (tilt, direction, cylinder)
 
 -- the encoder writes the telegram's word

@@ -1,24 +1,19 @@
 -- The telegram's 16 information bits: cylinder 3, direction 1, tilt 11, each most significant bit first, and the marker, which is 0 and comes last.
 use mathlib.Core.List.{List, [], _∷_, _++_}
-use Prim.Native.Nat.{ℕ, zero, suc, _+_, _*_, _^_}
+use Prim.Native.Nat.{ℕ, _+_, _*_, _^_}
 use lib.ListN.{length, getD, take, drop}
-use Rattle.words.specs.Bits.{digit}
+use Rattle.words.specs.Bits.{digits}
 use Rattle.words.specs.Kinds.{kinds, encoded}
 use Rattle.telegram.specs.declared.Telegram.{Telegram}
 
--- the lowest binary digits of a number, as many as the width says, most significant first
-unfoldable pub binary : ℕ → ℕ → List ℕ
-binary zero x = []
-binary (suc width) x = digit width x ∷ binary width x
-
--- and back: the number whose binary digits these are
-unfoldable pub ofBinary : List ℕ → ℕ
-ofBinary [] = 0
-ofBinary (b ∷ l) = b * 2 ^ length l + ofBinary l
+-- the number whose binary digits these are, most significant first
+unfoldable pub ofDigits : List ℕ → ℕ
+ofDigits [] = 0
+ofDigits (b ∷ l) = b * 2 ^ length l + ofDigits l
 
 -- with any marker
 abbrev pub bitsWith : ℕ → Telegram → List ℕ
-bitsWith marker t = binary 3 (t .cylinder) ++ binary 1 (t .direction) ++ binary 11 (t .tilt) ++ marker ∷ []
+bitsWith marker t = digits 3 (t .cylinder) ++ digits 1 (t .direction) ++ digits 11 (t .tilt) ++ marker ∷ []
 
 -- the bits that are written, and that are read as this telegram
 abbrev pub telegramBits : Telegram → List ℕ
@@ -26,7 +21,7 @@ telegramBits t = bitsWith 0 t
 
 -- and back: what 16 bits say
 abbrev pub telegramOf : List ℕ → Telegram
-telegramOf b = record { cylinder = ofBinary (take 3 b); direction = ofBinary (take 1 (drop 3 b)); tilt = ofBinary (take 11 (drop 4 b)) }
+telegramOf b = record { cylinder = ofDigits (take 3 b); direction = ofDigits (take 1 (drop 3 b)); tilt = ofDigits (take 11 (drop 4 b)) }
 
 abbrev pub markerOf : List ℕ → ℕ
 markerOf b = getD b 15 0

@@ -9,7 +9,7 @@ use lib.IntN.{ℤ}
 use lib.ListN.{replicate}
 use Rattle.numbers.specs.Choice.{lt-or-le}
 use Rattle.numbers.specs.Sums.{total, tabulate, sum}
-use Rattle.words.specs.Bits.{xors, digit, ones}
+use Rattle.words.specs.Bits.{xors, digit, digits, ones}
 use Rattle.words.specs.Word.{transform}
 use Rattle.words.specs.Kinds.{kind, kinds, encoded, InformationBits, Word, allOnes}
 use Rattle.words.specs.Inverse.{TakenBack, taken, frozenOne, takenBack}
@@ -26,7 +26,7 @@ use Rattle.telegram.specs.declared.Telegram.{Telegram}
 use Rattle.telegram.specs.declared.Fault.the-variants.{Link, Marker}
 use Rattle.telegram.specs.declared.Tested.{Tested}
 use Rattle.telegram.specs.declared.Tested.the-variants.{Good, Bad}
-use Rattle.telegram.specs.Telegram.{binary, bitsWith, telegramBits, telegramOf, markerOf}
+use Rattle.telegram.specs.Telegram.{bitsWith, telegramBits, telegramOf, markerOf}
 use Rattle.telegram.specs.TelegramLaws.{length-bits, bits-bits, marker-bits, telegram-bits, fits-telegram, bits-telegram}
 use Rattle.telegram.specs.Faults.{Writable, writerFault, readerFault}
 use Rattle.telegram.specs.FaultLaws.{fault-above, Own, own-reader, writer-good, good-writer, reader-good, good-reader, writable-fits, read-writable}
@@ -86,7 +86,7 @@ judged-upright t w p g v =
     ∙ ap (λ (x : Tested). shownIf x t p g v) (reader-good t w)
 
 judged-turned : (t : Telegram) (p g v : ℕ) → judged (xors (telegramBits t) markerAlone) p g v ≡ faulted Marker
-unfolding binary
+unfolding digits
 judged-turned t p g v = refl
 
 -- the bits that the search found are the telegram's

@@ -6,8 +6,8 @@ ghost use mathlib.Core.Path.{_≡_};
 ghost use Prim.Native.Nat.{_≤_};
 ghost use lib.ListN.{length};
 ghost use Rattle.code.specs.Sound.{defaultAllowance};
-ghost use Rattle.words.specs.Bits.{Bits};
-ghost use Rattle.telegram.specs.Telegram.{binary, ofBinary, telegramOf, wordOf};
+ghost use Rattle.words.specs.Bits.{Bits, digits};
+ghost use Rattle.telegram.specs.Telegram.{ofDigits, telegramOf, wordOf};
 ghost use Rattle.telegram.specs.Faults.{tiltFault, fieldFault, writerFault, readerFault};
 ghost use Rattle.telegram.specs.Faults.{faultCarries};
 ghost use Rattle.telegram.specs.Outcome.{toldWritten, writingTelegram};
@@ -166,7 +166,7 @@ fn reader_fault(marker: u8, telegram: Telegram) -> Tested
 // The number's lowest binary digits, as many as there are places, most significant first.
 fn put_number(number: u32, bits: &mut [u8])
     requires { ⌜ length (now bits) ≤ 16 ⌝ }
-    ensures { λ _. ⌜ now (bits .exit) ≡ binary (length (now (bits .entry))) number ⌝ }
+    ensures { λ _. ⌜ now (bits .exit) ≡ digits (length (now (bits .entry))) number ⌝ }
 {
     let n = bits.len();
     let mut i = 0;
@@ -180,7 +180,7 @@ fn put_number(number: u32, bits: &mut [u8])
 // The number whose binary digits these are, most significant first.
 fn number_of(bits: &[u8]) -> u32
     requires { ⌜ Bits (now bits) × (length (now bits) ≤ 16) ⌝ }
-    ensures { λ n. ⌜ n ≡ ofBinary (now (bits .entry)) ⌝ }
+    ensures { λ n. ⌜ n ≡ ofDigits (now (bits .entry)) ⌝ }
 {
     let mut n = 0;
     let mut i = 0;

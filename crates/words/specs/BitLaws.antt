@@ -1,13 +1,15 @@
 -- Laws of the binary digits of an index: of an index in the first half 0, 1, .. below 2^m, and of one in the second half, 2^m further on.
 use mathlib.Core.Path.{_≡_, refl, ap, ap₂, sym, subst, _∙_}
 use mathlib.Core.Logic.{⊎-elim}
+use mathlib.Core.List.{_∷_}
 use Prim.Native.Nat.{ℕ, zero, suc, _+_, _-_, _*_, _^_, _≤_, _<_}
 use native.Mathlib.Omega.{arith}
-use native.Mathlib.Nat.{two-pow-succ, mul-add-div-right, add-div-left, div-eq-of-lt, le-refl}
+use native.Mathlib.Nat.{two-pow-succ, mul-add-div-right, add-div-left, div-eq-of-lt, suc-sub-suc, le-refl}
 use lib.Pow.{pow-pos, pow-add}
 use lib.Count as Count
+use lib.ListN.{length, getD}
 use Rattle.numbers.specs.Choice.{lt-or-le}
-use Rattle.words.specs.Bits.{digit, ones}
+use Rattle.words.specs.Bits.{Bits, digit, digits, ones}
 
 pub digit-bit : (p i : ℕ) → digit p i < 2
 unfolding digit
@@ -44,6 +46,28 @@ ones-alike : (m i k : ℕ) → Alike m i k → ones m i ≡ ones m k
 unfolding ones
 ones-alike zero i k h = refl
 ones-alike (suc m) i k h = ap₂ _+_ (ones-alike m i k (λ p l. h p (omega arith))) (h m (le-refl (suc m)))
+
+pub digits-alike : (m i k : ℕ) → Alike m i k → digits m i ≡ digits m k
+unfolding digits
+digits-alike zero i k h = refl
+digits-alike (suc m) i k h = ap₂ _∷_ (h m (le-refl (suc m))) (digits-alike m i k (λ p l. h p (omega arith)))
+
+pub length-digits : (m i : ℕ) → length (digits m i) ≡ m
+unfolding digits
+length-digits zero i = refl
+length-digits (suc m) i = ap suc (length-digits m i)
+
+pub bits-digits : (m i : ℕ) → Bits (digits m i)
+unfolding digits
+bits-digits zero i j = omega arith
+bits-digits (suc m) i zero = digit-bit m i
+bits-digits (suc m) i (suc j) = bits-digits m i j
+
+pub digits-at : (m i j : ℕ) → j < m → getD (digits m i) j 0 ≡ digit (m - suc j) i
+unfolding digits
+digits-at zero i j h = absurd (omega arith)
+digits-at (suc m) i zero h = ap (λ (p : ℕ). digit p i) (omega arith)
+digits-at (suc m) i (suc j) h = digits-at m i j (omega arith) ∙ ap (λ (p : ℕ). digit p i) (sym (suc-sub-suc m (suc j)))
 
 pub ones-first : (m i : ℕ) → i < 2 ^ m → ones (suc m) i ≡ ones m i
 unfolding ones

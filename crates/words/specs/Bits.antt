@@ -17,7 +17,12 @@ xors (a ∷ x) (b ∷ y) = (a + b) % 2 ∷ xors x y
 unfoldable pub digit : ℕ → ℕ → ℕ
 digit p i = i / 2 ^ p % 2
 
--- the number of ones among the lowest m bits of i
+-- the lowest m bits of i, the highest of them first
+unfoldable pub digits : ℕ → ℕ → List ℕ
+digits zero i = []
+digits (suc m) i = digit m i ∷ digits m i
+
+-- the number of ones among them
 unfoldable pub ones : ℕ → ℕ → ℕ
 ones zero i = 0
 ones (suc m) i = ones m i + digit m i

@@ -115,7 +115,7 @@ unfolding dimension total choose
 sum-kinds-pos r m = omega (arith, sum-kinds r m)
 
 -- k is at most n
-sum-most : (l : List ℕ) → Bits l → sum l ≤ length l
+pub sum-most : (l : List ℕ) → Bits l → sum l ≤ length l
 unfolding sum
 sum-most [] h = omega arith
 sum-most (x ∷ l) h = omega (arith, h 0, sum-most l (λ i. h (suc i)))

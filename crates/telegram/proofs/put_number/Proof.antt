@@ -1,20 +1,19 @@
 -- `put_number`: the bits are the digits as far as the loop has come.
-use Prim.Native.Nat.{_-_, _^_, _%_, _/_, _≤_}
+use Prim.Native.Nat.{suc, _-_, _^_, _%_, _/_, _≤_}
 use mathlib.Core.Path.{_≡_, refl, sym, _∙_}
 use native.Mathlib.Omega.{arith}
 use native.Mathlib.Numerals.{add-one}
 use lib.ListN.{length, getD, length-set, drop-of-length-le}
 use borrow.Author.Needs.{needs}
 use Rattle.numbers.specs.Front.{front, front-suc, front-done}
-use Rattle.words.specs.Bits.{digit}
-use Rattle.telegram.specs.Telegram.{binary}
-use Rattle.telegram.specs.TelegramLaws.{length-binary, binary-at}
+use Rattle.words.specs.Bits.{digit, digits}
+use Rattle.words.specs.BitLaws.{length-digits, digits-at}
 use Rattle.telegram.proofs.put_number.Statement.{statement}
 use Rattle.telegram.proofs.put_number.Tie as tie
 
 abbrev Inv-loop : tie.InvT-loop
 Inv-loop number bits₀ n i₀ bits i =
-    (i ≤ length bits₀) × (bits ≡ front bits₀ (binary (length bits₀) number) i) × (length bits ≡ length bits₀)
+    (i ≤ length bits₀) × (bits ≡ front bits₀ (digits (length bits₀) number) i) × (length bits ≡ length bits₀)
 
 abbrev μ-loop : tie.MeasureT-loop
 μ-loop number bits₀ n i₀ bits i = n - i
@@ -53,10 +52,11 @@ loop-again c =
     let l = c .before .loop in
     let d = s .args .bits .now in
     let w = length d in
-    let x = binary w (s .args .number) in
-    let is : s .args .number / 2 ^ (w - 1 - l .i) % 2 ≡ getD x (l .i) 0 = sym (binary-at w (s .args .number) (l .i) (omega arith)) in (
+    let x = digits w (s .args .number) in
+    let e : w - 1 - l .i ≡ w - suc (l .i) = omega arith in
+    let is : s .args .number / 2 ^ (w - 1 - l .i) % 2 ≡ getD x (l .i) 0 = rw e (sym (digits-at w (s .args .number) (l .i) (omega arith))) in (
       omega arith,
-      rw (add-one (l .i), is, l .inv .1) (front-suc d x (l .i) 0 (omega arith) (omega (arith, length-binary w (s .args .number)))),
+      rw (add-one (l .i), is, l .inv .1) (front-suc d x (l .i) 0 (omega arith) (omega (arith, length-digits w (s .args .number)))),
       simp length-set (l .inv .2),
     )
 
@@ -68,9 +68,9 @@ returns c =
     let s = c .before .before in
     let l = c .before .loop in
     let d = s .args .bits .now in
-    let x = binary (length d) (s .args .number) in
+    let x = digits (length d) (s .args .number) in
     l .inv .1
-    ∙ front-done d x (l .i) (omega arith) (drop-of-length-le x {i = l .i} (omega (arith, length-binary (length d) (s .args .number))))
+    ∙ front-done d x (l .i) (omega arith) (drop-of-length-le x {i = l .i} (omega (arith, length-digits (length d) (s .args .number))))
 
 pub put-number-spec : {M : Type 1} → statement M
 put-number-spec =
