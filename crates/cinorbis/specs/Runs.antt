@@ -37,7 +37,8 @@ withRead p (pos zero) fresh = record { came = p .came; over = true; told = p .to
 withRead p (pos (suc k)) fresh = record { came = p .came ++ take (suc k) fresh; over = p .over; told = p .told }
 
 -- what a turn adds: all of the text that waits is handed over, and each byte that a read gave came
-abbrev pub passing : (s : Situation) (input output : List ℕ) (t : Situation) (input′ output′ : List ℕ) → Turned s input output t input′ output′ → Passed → Passed
+abbrev pub passing : (s : Situation) (input output : List ℕ) (t : Situation) (input′ output′ : List ℕ)
+    → Turned s input output t input′ output′ → Passed → Passed
 passing s input output t input′ output′ (writes next f i o) p = withText p (textOf s output)
 passing s input output t input′ output′ (takes next f i) p = p
 passing s input output t input′ output′ (totals next f i) p = p

@@ -23,7 +23,8 @@ use Rattle.code.specs.Entries.{firstAbove, firstBadReading}
 use Rattle.code.specs.EntriesLaws.{good-readings}
 use Rattle.code.specs.Admitted.{admittedFor, admitted}
 use Rattle.code.specs.AdmittedLaws.{refused-parameters, tested-made, refused-input, refused-bits, refused-word, refused-entry}
-use Rattle.code.specs.Demand1.{View, refusedAs, Checks, passed, check, First, NoneApplies, Demand1, LowestBad, firstChecks, readingChecksFor, readingChecks}
+use Rattle.code.specs.Demand1.{View, refusedAs, Checks, passed, check, First, NoneApplies, Demand1, LowestBad, firstChecks, readingChecksFor}
+use Rattle.code.specs.Demand1.{readingChecks}
 
 module _ (before : List (List ℕ)) (o : View) where
   -- the first check that applies refuses; where none does, nothing is refused
@@ -93,7 +94,11 @@ module _ {A : Type 0} (d : A) (size : A → ℕ) (limit : ℕ) where
       (λ k. rw (lt-ltb limit (size x) k) (record { below = omega arith; bad = k; lowest = λ j i. absurd (not-suc-le-zero i) }))
       (λ k.
       let rest = first-lowest l (le-of-suc-le-suc (rw (le-ltb limit (size x) k) at h)) in
-      rw (le-ltb limit (size x) k) (record { below = omega (arith, rest .below); bad = rest .bad; lowest = good-more x l (firstAbove size limit l) k (rest .lowest) }))
+      rw (le-ltb limit (size x) k) (record {
+        below = omega (arith, rest .below);
+        bad = rest .bad;
+        lowest = good-more x l (firstAbove size limit l) k (rest .lowest);
+      }))
       (lt-or-le limit (size x))
 
   -- each check by the call, on what the checks before it leave

@@ -171,7 +171,8 @@ module _ (index : Index) (r m : ℕ) (l : List ℤ) (d t : List ℕ) where
 
     bytes-new : bytesAt new (index .used) ≡ suc (partLength m)
     bytes-new =
-        let same : getD new (index .used) 0 ≡ getD (wrote .buffer) (index .used) 0 = getD-take (wrote .next) (wrote .buffer) (index .used) 0 (omega (arith, next-is)) in
+        let same : getD new (index .used) 0 ≡ getD (wrote .buffer) (index .used) 0 =
+        getD-take (wrote .next) (wrote .buffer) (index .used) 0 (omega (arith, next-is)) in
         ap (λ (x : ℕ). lengthBy (codeOf x)) same ∙ omega (arith, back .next, next-is)
 
     last-start : startsAt new (length old) ≡ these (length old ∷ [])

@@ -29,7 +29,8 @@ module _ (index : Index) (entries : ℕ) (free : full index entries ≡ false) w
 
   pub free-room : Room entries (index .records)
   free-room z =
-      let e : full index entries ≡ leb entries (index .records / 16) = rw (ne-eqb (index .records) largestCount few-records, eq-eqb (index .records % 16) 0 z) in
+      let e : full index entries ≡ leb entries (index .records / 16) =
+      rw (ne-eqb (index .records) largestCount few-records, eq-eqb (index .records % 16) 0 z) in
       omega (arith, leb-false entries (index .records / 16) (sym e ∙ free))
 
 module _ (index : Index) (r m : ℕ) (l : List ℤ) (d t : List ℕ) where
@@ -57,7 +58,8 @@ module _ (index : Index) (r m : ℕ) (l : List ℤ) (d t : List ℕ) where
       → toldAppend (Done (indexOf (index .records + 1) next)) d′ t′ ≡ appended index r m l d t
   append-wrote next d′ t′ e f =
       let one : index .records + 1 ≡ suc (index .records) = omega arith in
-      rw (one, f) (ap (λ (o : WrittenOutcome). toldAppend (Done (indexOf (suc (index .records)) (o .next))) (o .buffer) (withEntry (index .records) (index .used) t)) e)
+      rw (one, f) (ap (λ (o : WrittenOutcome). toldAppend (Done (indexOf (suc (index .records)) (o .next)))
+      (o .buffer) (withEntry (index .records) (index .used) t)) e)
 
   -- the writer does not refuse where none of the tests applies
   pub append-writes : {A : Type 0} (why : Refusal) (d′ : List ℕ) (entries : ℕ) → Fitting index r m l d entries

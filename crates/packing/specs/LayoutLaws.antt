@@ -13,7 +13,8 @@ use Rattle.numbers.specs.Choice.{lt-or-le}
 use Rattle.decoding.specs.Readings.{Within}
 use Rattle.code.specs.Sound.{largestRecordReading}
 use Rattle.numbers.specs.PartsLaws.{parts, by-parts, sum-parts}
-use Rattle.packing.specs.Layout.{bytes, nibbles, field, bottomRail, reading, NoRail, spread, gathered, recordOf, packed, unpacked, partLength, padOf, readingsIn}
+use Rattle.packing.specs.Layout.{bytes, nibbles, field, bottomRail, reading, NoRail, spread, gathered, recordOf, packed, unpacked, partLength}
+use Rattle.packing.specs.Layout.{padOf, readingsIn}
 
 -- every entry is below b
 abbrev pub Below : ℕ → List ℕ → Type 0

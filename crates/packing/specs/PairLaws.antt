@@ -30,7 +30,8 @@ module _ {A : Type 0} (d x : List A) (z : A) where
       let f : 3 * k + 2 + 1 ≡ 3 * (k + 1) = omega arith in
       ap (λ (l : List A). set (set l (3 * k + 1) (getD x (3 * k + 1) z)) (3 * k + 2) (getD x (3 * k + 2) z))
       (store (3 * k) (3 * k) (omega arith) (omega arith) (omega arith))
-      ∙ ap (λ (l : List A). set l (3 * k + 2) (getD x (3 * k + 2) z)) (store (3 * k + 1) (3 * k + 1) (omega arith) (omega arith) (omega arith) ∙ ap (front d x) e)
+      ∙ ap (λ (l : List A). set l (3 * k + 2) (getD x (3 * k + 2) z))
+      (store (3 * k + 1) (3 * k + 1) (omega arith) (omega arith) (omega arith) ∙ ap (front d x) e)
       ∙ store (3 * k + 2) (3 * k + 2) (omega arith) h g
       ∙ ap (front d x) f
 

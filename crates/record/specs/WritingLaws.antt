@@ -80,7 +80,13 @@ module _ (r m : ℕ) (l : List ℤ) (bytes place : ℕ) where
         | yes e ↦ ⊎-elim (λ h. refuses (Entry bad) (not-good r m l bytes place c good e h))
             (λ h. ⊎-elim (λ g. refuses OutputLength (no-room r m l bytes place c good e h g))
             (λ g. allows c (may-write r m l bytes place c good e h g)
-            (record { same = made-of r m c good .same; sound = made-of r m c good .sound; long = e; within = good-readings largestRecordReading l h; room = g }))
+            (record {
+              same = made-of r m c good .same;
+              sound = made-of r m c good .sound;
+              long = e;
+              within = good-readings largestRecordReading l h;
+              room = g;
+            }))
             (lt-or-le (bytes - place) k))
             (lt-or-le bad (length l))
       ]

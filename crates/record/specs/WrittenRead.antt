@@ -112,7 +112,8 @@ module _ (r m : ℕ) (l : List ℤ) (d : List ℕ) (place : ℕ) where
       let s = drop place (laidAt place x d) in
       let after = drop (place + length x) d in
       let b : Begins s (rm r m) l after = record { sound = a .sound; count = a .long; within = a .within; whole = laid-there place x d (a .room) } in
-      let first : getD (laidAt place x d) place 0 ≡ getD s 0 0 = sym (getD-drop place (laidAt place x d) 0 0 ∙ ap (λ (i : ℕ). getD (laidAt place x d) i 0) (omega arith)) in
+      let first : getD (laidAt place x d) place 0 ≡ getD s 0 0 =
+      sym (getD-drop place (laidAt place x d) 0 0 ∙ ap (λ (i : ℕ). getD (laidAt place x d) i 0) (omega arith)) in
       record {
         accepted = begins-accepted s (rm r m) l after b;
         readings = begins-readings s (rm r m) l after b;

@@ -38,7 +38,12 @@ pub map-exactly : (m : ℕ) (A b : List ℕ) → Mapped m A b → (isMap m A b �
 map-exactly m A b long = (
   λ e.
       let bits = bits-map m A b e in
-      let map : Maps.Map m A b = record { table-long = long .table-long; row-long = long .row-long; table-bits = bits .table-bits; row-bits = bits .row-bits } in
+      let map : Maps.Map m A b = record {
+        table-long = long .table-long;
+        row-long = long .row-long;
+        table-bits = bits .table-bits;
+        row-bits = bits .row-bits;
+      } in
       (map, can-undo m A b .0 (bits .can)),
   λ g. both-good m A b (all-bits A (g .0 .table-bits)) (all-bits b (g .0 .row-bits)) ∙ can-undo m A b .1 (g .1),
 )
@@ -59,7 +64,8 @@ sized-zero lent rest m inputs outputs e =
     (λ h. by-lengths lent rest m inputs outputs h (rw (le-ltb largestM m h) at e))
     (lt-or-le largestM m)
 
-pub map-zero : {B : Type 0} (lent : B) (rest : Outcome B) (maps : Bool) → mapTested lent maps rest .carry .number ≡ 0 → (maps ≡ true) × (rest .carry .number ≡ 0)
+pub map-zero : {B : Type 0} (lent : B) (rest : Outcome B) (maps : Bool) → mapTested lent maps rest .carry .number ≡ 0
+    → (maps ≡ true) × (rest .carry .number ≡ 0)
 map-zero lent rest true e = (refl, e)
 map-zero lent rest false e = absurd (omega arith)
 

@@ -74,7 +74,11 @@ module _ (r m allowed : ℕ) (l : List ℤ) (bits word : List ℕ) where
   found-sound n =
       elim (decided r m l (length bits) (length word)) [
         | allows c f is a ↦ rw is at a
-        | refuses why f h ↦ absurd (omega (arith, number-above why, ap (λ (o : Outcome). o .number) (sym (searching-refused r m allowed l bits word why f)) ∙ n))
+        | refuses why f h ↦ absurd (omega (
+          arith,
+          number-above why,
+          ap (λ (o : Outcome). o .number) (sym (searching-refused r m allowed l bits word why f)) ∙ n,
+        ))
       ]
 
   pub runner-up-demand : RunnerUpDemand r m allowed l bits word

@@ -38,7 +38,8 @@ doubt-turned M (a ∷ c) (r ∷ l) [] e f h k = absurd (suc-ne-zero (length l) (
 doubt-turned M (a ∷ c) (r ∷ l) (b ∷ x) e f h k =
     ap₂ _+_ (doubtAt-turned M a b r (h 0) (k 0)) (doubt-turned M c l x (suc-inj e) (suc-inj f) (λ i. h (suc i)) (λ i. k (suc i)))
 
-pub sure-turned : (M r m : ℕ) (l : List ℤ) (x c : List ℕ) → length x ≡ 2 ^ m → length c ≡ 2 ^ m → Bits x → Bits c → Sure M r m l x → Sure M r m (turns c l) (xors x c)
+pub sure-turned : (M r m : ℕ) (l : List ℤ) (x c : List ℕ) → length x ≡ 2 ^ m → length c ≡ 2 ^ m → Bits x → Bits c
+    → Sure M r m l x → Sure M r m (turns c l) (xors x c)
 sure-turned M r m l x c e f h k s =
     let same = f ∙ sym (s .long) in
     record {

@@ -59,7 +59,8 @@ after-text s (answered bits penalty gap visits) text at = refl
 after-text s (refused why) text at = cond-by (λ (t : Situation). t .text ≡ text) (stops (refused why)) _ _ (λ z. refl) (λ z. refl)
 
 pub took : (s : Situation) (input output : List ℕ) (step : Step) (t : Situation) (output′ : List ℕ)
-    → Stepped (s .read + s .refused) (unread s input) (resultOf (unread s input)) output (s .text) step output′ → t ≡ countedBy s step → Took s input output t output′
+    → Stepped (s .read + s .refused) (unread s input) (resultOf (unread s input)) output (s .text) step output′
+    → t ≡ countedBy s step → Took s input output t output′
 took s input output step t output′ o e =
     let result = resultOf (unread s input) in
     let is : t ≡ after s result (step .«end») (s .at + step .taken) = e ∙ counted-after s result step (o .is-answered) (o .is-last) in

@@ -36,7 +36,8 @@ returns-2 : tie.Need-returns-2
 returns-2 c =
     let p = c .before .put-part2 in
     let g = c .before .before .before .before .before .before .before .args in
-    handed headerNumber (λ h. headerNumbers h (g .length)) _ _ (c .number .result) (p .last .0) (c .before .before .before .before .before .header2 .given .1) (c .number .ensures)
+    handed headerNumber (λ h. headerNumbers h (g .length)) _ _ (c .number .result) (p .last .0)
+    (c .before .before .before .before .before .header2 .given .1) (c .number .ensures)
     (p .ensures ∙ ap (λ (k : ℕ). numbers 0 0 (g .length) k) (c .before .before .place .ensures))
 
 pub put-header-spec : {M : Type 1} → statement M

@@ -35,7 +35,8 @@ returns c = search needs
 returns-2 : tie.Need-returns-2
 returns-2 c =
     let p = c .before .put-numbers2 in
-    handed readNumber readNumbers _ _ (c .number .result) (p .last .0) (c .before .before .before .before .before .before .answer2 .given .1) (c .number .ensures)
+    handed readNumber readNumbers _ _ (c .number .result) (p .last .0) (c .before .before .before .before .before .before .answer2 .given .1)
+    (c .number .ensures)
     (p .ensures ∙ ap₂ (λ (p q : ℕ). numbers p 0 0 q) (c .before .before .before .penalty .ensures) (c .before .before .place .ensures))
 
 pub put-read-spec : {M : Type 1} → statement M

@@ -30,7 +30,8 @@ returns c =
 returns-2 : tie.Need-returns-2
 returns-2 c =
     let p = c .put-place in
-    handed (λ a. answerCarries a .number) (λ a. numbers 0 0 0 (answerCarries a .place)) _ _ (p .result) (p .last .1 .0) (c .before .before .before .answer .given .1)
+    handed (λ a. answerCarries a .number) (λ a. numbers 0 0 0 (answerCarries a .place)) _ _ (p .result)
+    (p .last .1 .0) (c .before .before .before .answer .given .1)
     (p .ensures .0) (p .ensures .1)
 
 pub put-reordered-spec : {M : Type 1} → statement M

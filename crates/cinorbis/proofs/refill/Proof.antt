@@ -58,7 +58,8 @@ returns c =
           c .after-read .ensures
           ∙ rw (
             toZ-ofZ (record { sfits = r .ok }),
-            length-behind (s .«end» - s .at) (length (g .args .input .now)) (m .last .0) (r .last .1 .0) (m .kept .0) (omega (arith, g .pre .1)) (r .kept .1 .0),
+            length-behind (s .«end» - s .at) (length (g .args .input .now)) (m .last .0) (r .last .1 .0)
+                (m .kept .0) (omega (arith, g .pre .1)) (r .kept .1 .0),
           );
     }
 

@@ -44,7 +44,8 @@ returns-2 : tie.Need-returns-2 Inv-loop μ-loop
 returns-2 c =
     let s = c .before .before .before .before .before .before .before in
     let l = c .before .before .before .before .loop in
-    let found = rw (toZ-ofZ (s .fits .largest), toZ-ofZ (record { sfits = c .before .before .beyond-arg .given })) at (sym (c .before .beyond .ensures) ∙ c .if2 .taken) in
+    let found = rw (toZ-ofZ (s .fits .largest), toZ-ofZ (record { sfits = c .before .before .beyond-arg .given }))
+    at (sym (c .before .beyond .ensures) ∙ c .if2 .taken) in
     let before = rw (toZ-ofZ (s .fits .largest)) at (l .inv .1) in
     first-here (pos 0) natAbs (up (s .args .largest)) (s .args .readings .now) (l .i) before (omega arith) (ltb-true _ _ found)
 
@@ -58,9 +59,13 @@ loop-again : tie.Need-loop-again Inv-loop μ-loop
 loop-again c =
     let s = c .before .before .before .before .before .before .before in
     let l = c .before .before .before .before .loop in
-    let passed = rw (toZ-ofZ (s .fits .largest), toZ-ofZ (record { sfits = c .before .before .beyond-arg .given })) at (sym (c .before .beyond .ensures) ∙ c .if2 .left) in
-    let before = rw (toZ-ofZ (s .fits .largest)) at (l .inv .1) in
-    (omega arith, rw (toZ-ofZ (s .fits .largest)) (good-more (pos 0) natAbs (up (s .args .largest)) (s .args .readings .now) (l .i) before (ltb-false _ _ passed)))
+    let passed = rw (toZ-ofZ (s .fits .largest), toZ-ofZ (record { sfits = c .before .before .beyond-arg .given }))
+    at (sym (c .before .beyond .ensures) ∙ c .if2 .left) in
+    let before = rw (toZ-ofZ (s .fits .largest)) at (l .inv .1) in (
+      omega arith,
+      rw (toZ-ofZ (s .fits .largest))
+          (good-more (pos 0) natAbs (up (s .args .largest)) (s .args .readings .now) (l .i) before (ltb-false _ _ passed)),
+    )
 
 returns-3 : tie.Need-returns-3 Inv-loop μ-loop
 returns-3 c =

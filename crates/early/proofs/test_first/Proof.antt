@@ -91,7 +91,8 @@ returns-2 c =
     let word = searched .last .1 .1 .1 .1 .0 in
     ap (λ (a : Answered). told a bits word) (c .shortened .ensures)
     ∙ by-search (s .code) (s .allowed) (s .readings .now) (s .bits .now) (s .word .now) (quick .result) (quick .last .1 .1 .0) (quick .last .1 .1 .1 .0)
-    (quick .ensures) (sym (test .surely-right .ensures) ∙ else .if1 .left) (searched .result .result) bits word (ap (λ (o : WholeOutcome). o .outcome) (searched .ensures))
+    (quick .ensures) (sym (test .surely-right .ensures) ∙ else .if1 .left) (searched .result .result) bits word
+    (ap (λ (o : WholeOutcome). o .outcome) (searched .ensures))
 
 pub test-first-spec : {M : Type 1} → statement M
 test-first-spec =

@@ -47,7 +47,8 @@ returns-2 c =
     (c .before .before .put-entries .ensures)
     ∙ make-done (g .capture .now) (g .table .now) _
     (counted-whole (g .capture .now) (g .table .now) _
-    (sym (c .before .before .before .before .before .before .before .records .given .1) ∙ c .before .before .before .before .before .before .before .before .before .count .ensures))
+    (sym (c .before .before .before .before .before .before .before .records .given .1)
+    ∙ c .before .before .before .before .before .before .before .before .before .count .ensures))
     (omega (arith, c .before .before .before .before .before .entries-for .ensures))
 
 returns-3 : tie.Need-returns-3

@@ -47,7 +47,8 @@ loop-again c =
     let t = map digitByte (g .bits .now) in
     let long = length-map (g .bits .now) digitByte in (
       omega arith,
-      rw (c .digit-of .ensures, o .inv .1, add-one, ← List·getD-map digitByte (g .bits .now) (o .i) 0) (paste-suc (g .out .now) (g .at) t (o .i) 48 (omega arith) (omega arith)),
+      rw (c .digit-of .ensures, o .inv .1, add-one, ← List·getD-map digitByte (g .bits .now) (o .i) 0)
+          (paste-suc (g .out .now) (g .at) t (o .i) 48 (omega arith) (omega arith)),
       length-set (o .out) _ _ ∙ o .inv .2,
     )
 

@@ -26,7 +26,8 @@ returns-2 c =
     let if1 = c .before .before in
     let s = if1 .before .before .before .args in
     let long = if1 .if1 .left ∙ if1 .before .length .ensures ∙ sym (length-kinds (s .code .r) (s .code .m)) in
-    wrong-byte (s .named .now) (kinds (s .code .r) (s .code .m)) (bits-kinds (s .code .r) (s .code .m)) long (omega (arith, c .before .first-bad-bit .ensures, c .if2 .taken))
+    wrong-byte (s .named .now) (kinds (s .code .r) (s .code .m)) (bits-kinds (s .code .r) (s .code .m)) long
+    (omega (arith, c .before .first-bad-bit .ensures, c .if2 .taken))
 
 names-frozen-requires : tie.Need-names-frozen-requires
 names-frozen-requires c κs = search needs

@@ -38,7 +38,8 @@ asked c =
     let start = c .before .before .before .before .before .before in
     let s = start .args in
     c .named-frozen .ensures
-    ∙ ap (namedFrozen (getD (s .named .now) (l .i) 0)) (c .before .kind .ensures ∙ sym (kinds-at (s .code .r) (s .code .m) (l .i) (omega (arith, start .pre .1))))
+    ∙ ap (namedFrozen (getD (s .named .now) (l .i) 0))
+    (c .before .kind .ensures ∙ sym (kinds-at (s .code .r) (s .code .m) (l .i) (omega (arith, start .pre .1))))
 
 long : (s : tie.Start Inv-loop μ-loop) → length (s .args .named .now) ≡ length (kinds (s .args .code .r) (s .args .code .m))
 long s = s .pre .1 ∙ sym (length-kinds (s .args .code .r) (s .args .code .m))

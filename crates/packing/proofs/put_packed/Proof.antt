@@ -40,7 +40,13 @@ mul-part c = search needs
 slice-write-part : tie.Need-slice-write-part
 slice-write-part c =
     let g = c .before .before .before .before .before .before .before .before in
-    omega (arith, length-packed-any (g .args .readings .now), c .before .before .before .before .before .put-packed-pairs .kept .1 .0, g .pre .1, c .before .before .if1 .taken)
+    omega (
+      arith,
+      length-packed-any (g .args .readings .now),
+      c .before .before .before .before .before .put-packed-pairs .kept .1 .0,
+      g .pre .1,
+      c .before .before .if1 .taken,
+    )
 
 mul-part-2 : tie.Need-mul-part-2
 mul-part-2 c = search needs
@@ -83,7 +89,8 @@ returns c =
     rw (toZ-ofZ (record { sfits = c .before .field-of-arg .given })) at (c .field-of .ensures .0) in
     let first : c .field-of .result / 16 ≡ getD x (3 * k) 0 = rw a (sym (byte-first k l (omega arith))) in
     let second : 16 * (c .field-of .result % 16) ≡ getD x (3 * k + 1) 0 = rw a (sym (byte-pad k l odd)) in
-    ap (λ (y : List ℕ). set (set y (3 * k) (c .field-of .result / 16)) (3 * k + 1) (16 * (c .field-of .result % 16))) (c .before .before .before .before .before .put-packed-pairs .ensures)
+    ap (λ (y : List ℕ). set (set y (3 * k) (c .field-of .result / 16)) (3 * k + 1) (16 * (c .field-of .result % 16)))
+    (c .before .before .before .before .before .put-packed-pairs .ensures)
     ∙ ap₂ (λ (u v : ℕ). set (set (front d x (3 * k)) (3 * k) u) (3 * k + 1) v) first second
     ∙ front-last-two d x 0 k (omega (arith, length-packed-any l, g .pre .1)) (sym (g .pre .1))
 

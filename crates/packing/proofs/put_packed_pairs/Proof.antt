@@ -47,7 +47,8 @@ shared-slice-copy-out-field-of-2 : tie.Need-shared-slice-copy-out-field-of-2 Inv
 shared-slice-copy-out-field-of-2 c = omega arith
 
 field-of-requires-2 : tie.Need-field-of-requires-2 Inv-loop μ-loop
-field-of-requires-2 c κs = rw (toZ-ofZ (record { sfits = c .field-of-arg2 .given })) (c .before .before .before .before .before .before .pre .0 (2 * c .before .before .before .before .loop .j + 1))
+field-of-requires-2 c κs = rw (toZ-ofZ (record { sfits = c .field-of-arg2 .given }))
+    (c .before .before .before .before .before .before .pre .0 (2 * c .before .before .before .before .loop .j + 1))
 
 cast-part : tie.Need-cast-part Inv-loop μ-loop
 cast-part c = omega arith
@@ -78,7 +79,11 @@ add-part-2 c = omega arith
 slice-write-part-2 : tie.Need-slice-write-part-2 Inv-loop μ-loop
 slice-write-part-2 c =
     let o = c .before .before .before .before .before .loop in
-    omega (arith, length-packed-any (c .before .before .before .before .before .before .before .args .readings .now), length-set (o .part) (3 * o .j) (c .before .before .field-of .result / 16))
+    omega (
+      arith,
+      length-packed-any (c .before .before .before .before .before .before .before .args .readings .now),
+      length-set (o .part) (3 * o .j) (c .before .before .field-of .result / 16),
+    )
 
 cast-part-3 : tie.Need-cast-part-3 Inv-loop μ-loop
 cast-part-3 c = omega arith
@@ -96,7 +101,8 @@ slice-write-part-3 c =
       arith,
       length-packed-any (c .before .before .before .before .before .before .before .args .readings .now),
       length-set (o .part) (3 * o .j) (c .before .before .field-of .result / 16),
-      length-set (set (o .part) (3 * o .j) (c .before .before .field-of .result / 16)) (3 * o .j + 1) (16 * (c .before .before .field-of .result % 16) + c .field-of2 .result / 256),
+      length-set (set (o .part) (3 * o .j) (c .before .before .field-of .result / 16)) (3 * o .j + 1)
+          (16 * (c .before .before .field-of .result % 16) + c .field-of2 .result / 256),
     )
 
 add-j : tie.Need-add-j Inv-loop μ-loop

@@ -114,7 +114,8 @@ loop-again c =
     let first : toZ w16 (ofZ w16 (c .before .reading-of .result)) ≡ getD x (2 * o .j) (pos 0) =
     toZ-ofZ (record { sfits = c .before .reading-of .ok })
     ∙ c .before .reading-of .ensures
-    ∙ rw (c .before .before .before .before .before .before .wide .ensures .0, c .before .before .before .before .wide2 .ensures .0) (sym (reading-even (o .j) p (omega arith))) in
+    ∙ rw (c .before .before .before .before .before .before .wide .ensures .0, c .before .before .before .before .wide2 .ensures .0)
+    (sym (reading-even (o .j) p (omega arith))) in
     let second : toZ w16 (ofZ w16 (c .reading-of2 .result)) ≡ getD x (2 * o .j + 1) (pos 0) =
     toZ-ofZ (record { sfits = c .reading-of2 .ok })
     ∙ c .reading-of2 .ensures

@@ -33,7 +33,8 @@ returns : tie.Need-returns Inv-loop μ-loop
 returns c =
     let m = c .before .before .before .before .loop .m in
     let k = c .before .before .before .before .before .args .bytes in
-    c .length .ensures ∙ sym (c .before .before .before .before .loop .inv .1 ∙ readings-here m k (omega arith) (c .before .if1 .taken ∙ c .before .before .part-length .ensures))
+    c .length .ensures ∙ sym (c .before .before .before .before .loop .inv .1
+    ∙ readings-here m k (omega arith) (c .before .if1 .taken ∙ c .before .before .part-length .ensures))
 
 loop-less : tie.Need-loop-less Inv-loop μ-loop
 loop-less c = omega arith

@@ -12,7 +12,8 @@ readings-in-requires : tie.Need-readings-in-requires
 readings-in-requires c κs = search needs
 
 returns : tie.Need-returns
-returns c = sym (no-part (c .before .before .before .args .part .now) (c .before .before .before .args .readings .now) (sym (c .before .readings-in .ensures) ∙ c .if1 .taken))
+returns c = sym (no-part (c .before .before .before .args .part .now) (c .before .before .before .args .readings .now)
+    (sym (c .before .readings-in .ensures) ∙ c .if1 .taken))
 
 returns-2 : tie.Need-returns-2
 returns-2 c =
@@ -33,7 +34,8 @@ returns-3 c =
     let g = c .before .before .before .before .before .before .before .args in
     let is = c .before .before .before .before .before .readings-in .ensures in
     ap (told Done) (c .before .put-readings .ensures)
-    ∙ sym (all-unpacked (g .part .now) (g .readings .now) (λ z. c .before .before .before .before .if1 .left (is ∙ z)) (c .before .before .before .if2 .left ∙ is))
+    ∙ sym (all-unpacked (g .part .now) (g .readings .now) (λ z. c .before .before .before .before .if1 .left (is ∙ z))
+    (c .before .before .before .if2 .left ∙ is))
 
 pub unpack-spec : {M : Type 1} → statement M
 unpack-spec =

@@ -22,13 +22,17 @@ cast-bytes : tie.Need-cast-bytes
 cast-bytes c = search needs
 
 slice-write-bytes : tie.Need-slice-write-bytes
-slice-write-bytes c = let g = c .before .before .before in omega (arith, ap length (record-parts (g .args .code .r) (g .args .code .m) (g .args .readings .now)))
+slice-write-bytes c =
+    let g = c .before .before .before in
+    omega (arith, ap length (record-parts (g .args .code .r) (g .args .code .m) (g .args .readings .now)))
 
 sub-put-packed : tie.Need-sub-put-packed
 sub-put-packed c = let g = c .before .before .before in omega (arith, ap length (record-parts (g .args .code .r) (g .args .code .m) (g .args .readings .now)))
 
 part-put-packed-start : tie.Need-part-put-packed-start
-part-put-packed-start c = let g = c .before .before .before in omega (arith, ap length (record-parts (g .args .code .r) (g .args .code .m) (g .args .readings .now)))
+part-put-packed-start c =
+    let g = c .before .before .before in
+    omega (arith, ap length (record-parts (g .args .code .r) (g .args .code .m) (g .args .readings .now)))
 
 part-put-packed-end : tie.Need-part-put-packed-end
 part-put-packed-end c = search needs
@@ -38,7 +42,8 @@ put-packed-requires c κs =
     let g = c .before .before .before .before in
     let b = g .args .bytes .now in
     let v = 16 * g .args .code .m + g .args .code .r in
-    let e : length b - 1 ≡ length (packed (g .args .readings .now)) = omega (arith, g .pre .2, ap length (record-parts (g .args .code .r) (g .args .code .m) (g .args .readings .now))) in
+    let e : length b - 1 ≡ length (packed (g .args .readings .now)) =
+    omega (arith, g .pre .2, ap length (record-parts (g .args .code .r) (g .args .code .m) (g .args .readings .now))) in
     (g .pre .1, mid-len 1 (length b) (set b 0 v) (omega (arith, length-set b 0 v)) ∙ e)
 
 same-length : tie.Need-same-length

@@ -79,7 +79,8 @@ returns c =
     (1 + c .before .before .before .before .part-length .result) (put .ensures)
     (ap length (put .ensures) ∙ size (c .before .before .before .before))
     ∙ ap (λ (a : Admitted). writtenBy a (g .readings .now) (g .buffer .now) (g .place))
-    (sym (c .before .before .before .before .before .before .code .given .1) ∙ c .before .before .before .before .before .before .before .before .writable .ensures)
+    (sym (c .before .before .before .before .before .before .code .given .1)
+    ∙ c .before .before .before .before .before .before .before .before .writable .ensures)
 
 returns-2 : tie.Need-returns-2
 unfolding writing

@@ -27,7 +27,14 @@ cast-result c =
     let v = s .args .value in
     rw (toZ-ofZ (sub-result c), toZ-ofZ (s .fits .value)) (
       non-negative (pos 0 -ℤ v)
-          (omega (arith, parts v, negated v, parts (pos 0 -ℤ v), sum-parts (pos 0) (negℤ v), less-parts v (pos 0) (rw (toZ-ofZ (s .fits .value)) at (c .if2 .taken)))),
+          (omega (
+            arith,
+            parts v,
+            negated v,
+            parts (pos 0 -ℤ v),
+            sum-parts (pos 0) (negℤ v),
+            less-parts v (pos 0) (rw (toZ-ofZ (s .fits .value)) at (c .if2 .taken)),
+          )),
       record { fits = omega (arith, parts v, parts (pos 0 -ℤ v), negated v, sum-parts (pos 0) (negℤ v)) },
     )
 

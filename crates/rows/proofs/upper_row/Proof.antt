@@ -108,7 +108,8 @@ loop-again c =
     let l = rowOf (h + h) d in
     let w = g .args .word .now in (
       omega arith,
-      upper-turn d (o .rows) l h (o .j) _ _ _ (omega arith) (length-rowOf (h + h) d (g .pre .0)) (omega arith) (pair (c .before .before)) w (g .pre .1) (o .inv .1)
+      upper-turn d (o .rows) l h (o .j) _ _ _ (omega arith) (length-rowOf (h + h) d (g .pre .0)) (omega arith)
+          (pair (c .before .before)) w (g .pre .1) (o .inv .1)
           (toZ-ofZ {w = w32} (record { sfits = c .upper .ok }) ∙ c .upper .ensures),
       length-set (o .rows) _ _ ∙ o .inv .2,
     )

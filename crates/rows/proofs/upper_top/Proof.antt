@@ -34,7 +34,8 @@ shared-slice-copy-out-x : tie.Need-shared-slice-copy-out-x Inv-loop μ-loop
 shared-slice-copy-out-x c = omega arith
 
 cast-x : tie.Need-cast-x Inv-loop μ-loop
-cast-x c = reading-fits {z = getD (c .before .before .before .before .args .readings .now) (c .before .before .loop .j) (pos 0)} (record { sfits = c .x .given })
+cast-x c = reading-fits {z = getD (c .before .before .before .before .args .readings .now) (c .before .before .loop .j) (pos 0)}
+    (record { sfits = c .x .given })
 
 add-y : tie.Need-add-y Inv-loop μ-loop
 add-y c = omega arith

@@ -26,7 +26,8 @@ returns c =
 returns-2 : tie.Need-returns-2
 returns-2 c =
     let t = c .before .before .before .before .args .telegram in
-    c .field-fault .ensures ∙ ap (λ (x : Tested). before x (fieldFault t)) (sym (c .before .enum-told .given .1) ∙ c .before .before .before .tilt-fault .ensures)
+    c .field-fault .ensures ∙ ap (λ (x : Tested). before x (fieldFault t))
+    (sym (c .before .enum-told .given .1) ∙ c .before .before .before .tilt-fault .ensures)
 
 pub writer-fault-spec : {M : Type 1} → statement M
 writer-fault-spec =

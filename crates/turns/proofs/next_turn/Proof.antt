@@ -39,14 +39,26 @@ returns-5 c =
     let g = c .before .before .before .before .before .before .before .before .before .args in
     let absent : isThere (g .s) (g .input .now) ≡ false = sym (c .before .before .before .before .is-there .ensures) ∙ c .before .before .before .if3 .left in
     let fits = c .before .before .before .before .before .if2 .left in
-    rw (c .before .before .before .before .before .before .before .if1 .left, le-ltb (g .output - g .s .text) 512 fits, absent, c .before .before .if4 .left, lt-ltb 0 (g .s .text) (c .if5 .taken))
+    rw (
+      c .before .before .before .before .before .before .before .if1 .left,
+      le-ltb (g .output - g .s .text) 512 fits,
+      absent,
+      c .before .before .if4 .left,
+      lt-ltb 0 (g .s .text) (c .if5 .taken),
+    )
 
 returns-6 : tie.Need-returns-6
 returns-6 c =
     let g = c .before .before .before .before .before .before .before .before .before .args in
     let absent : isThere (g .s) (g .input .now) ≡ false = sym (c .before .before .before .before .is-there .ensures) ∙ c .before .before .before .if3 .left in
     let fits = c .before .before .before .before .before .if2 .left in
-    rw (c .before .before .before .before .before .before .before .if1 .left, le-ltb (g .output - g .s .text) 512 fits, absent, c .before .before .if4 .left, le-ltb 0 (g .s .text) (c .if5 .left))
+    rw (
+      c .before .before .before .before .before .before .before .if1 .left,
+      le-ltb (g .output - g .s .text) 512 fits,
+      absent,
+      c .before .before .if4 .left,
+      le-ltb 0 (g .s .text) (c .if5 .left),
+    )
 
 pub next-turn-spec : {M : Type 1} → statement M
 next-turn-spec =

@@ -13,7 +13,8 @@ enum-known-code : tie.Need-enum-known-code
 enum-known-code c = search needs
 
 length-requires : tie.Need-length-requires
-length-requires c κs = made-of 0 (c .before .before .before .before .args .m) _ (sym (c .before .before .before .new .ensures) ∙ c .before .code .given .1) .sound
+length-requires c κs = made-of 0 (c .before .before .before .before .args .m) _
+    (sym (c .before .before .before .new .ensures) ∙ c .before .code .given .1) .sound
 
 enum-told : tie.Need-enum-told
 enum-told c = search needs
