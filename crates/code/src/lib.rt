@@ -42,7 +42,7 @@ pub enum Refusal {
     NoEntry,
     // a map of positions that is not of bits, or that nothing undoes
     Map,
-    // a row that does not name some of the information indices, but not all
+    // a row that is no choice of information indices that leaves one
     Named,
 }
 
@@ -111,8 +111,8 @@ impl Code {
         row[r] as usize
     }
 
-    // 1 at an information index, 0 at a frozen one. An index has eight bits, and the compiler counts
-    // the ones of many bytes at once.
+    // 1 at an information index, 0 at a frozen one. An index fits a byte, and the compiler counts the
+    // ones of many bytes at once.
     pub fn kind(self, i: usize) -> u8
         requires { ⌜ Sound self × (i < 2 ^ (self .m)) ⌝ }
         ensures { λ k. ⌜ k ≡ kind (self .r) (self .m) i ⌝ }

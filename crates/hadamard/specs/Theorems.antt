@@ -32,7 +32,7 @@ pub record TransformTheorems (m : ℕ) : Type 0 where
   pub in-range : (largest : ℕ) (l : List ℤ) → length l ≡ 2 ^ m → Within largest l → sizes l ≤ 2 ^ m * largest
   pub twice-in-range : (largest : ℕ) (l : List ℤ) → length l ≡ 2 ^ m → Within largest l → sizes (hadamard m l) ≤ 2 ^ m * (2 ^ m * largest)
   pub sum-in-range : (k l : List ℤ) → sizes (sums k l) ≤ sizes k + sizes l
-  -- No sum on the way to an entry, and no entry, is above the sum of sizes.
+  -- No entry is above the sum of sizes.
   pub within-sizes : (l : List ℤ) → Within (sizes l) (hadamard m l)
 
 -- Of 256 readings up to 32,767, transformed twice, it still is: 2,147,418,112.

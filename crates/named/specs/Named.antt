@@ -28,7 +28,7 @@ left [] ks = ks
 left (a ∷ named) [] = []
 left (a ∷ named) (k ∷ ks) = kindLeft a k ∷ left named ks
 
--- a row that names some of the information indices, but not all
+-- a row that names information indices only, possibly none, and leaves one
 pub record GoodRow (named ks : List ℕ) : Type 0 where
   pub long : length named ≡ length ks
   pub are-bits : Bits named

@@ -1,5 +1,6 @@
--- The published definition of the code in source documents 000 and 003: value tables of polynomials of degree at most r in m variables.
--- A polynomial over the numbers modulo 2 is its row of 2^m coefficients; monomial i has the variables at the one-bits of i.
+-- The textbooks' definition of the code: value tables of polynomials of degree at most r in m variables (docs/RULES.md, §1).
+-- A polynomial over the numbers modulo 2 is its row of 2^m coefficients; monomial i has the variables at the one-bits of i. These are not the
+-- bits of the row u: u_i goes with the product of 1 + x_p over the bits p where i has 0.
 use mathlib.Core.List.{List}
 use mathlib.Core.Path.{_≡_}
 use mathlib.Core.Bool.{cond}
