@@ -8,6 +8,10 @@
  * Readings: one signed number for each bit. A positive reading speaks for bit 0, a negative one for bit 1; its size says how sure it is.
  * Bits stand one per byte, 0 or 1.
  *
+ * Order: bits[0] goes to the lowest information index, that is the lowest i below n with at least m - r ones among its binary digits, and so on upwards;
+ * this is the row u, 0 at all other indices. word[j] is the sum modulo 2 of all u[i] where i has a one wherever j has one, and readings[j] belongs to
+ * word[j]. RM(1,3): bits 1000 are the word 11110000, bits 0001 the word 11111111 ([0] is leftmost). Two words differ in 2^(m-r) places or more.
+ *
  * Arguments: the code r, m first; then an allowance where there is one; then the inputs; then the outputs. Each buffer is a pointer and, right
  * after it, its length in elements. Lengths must be exact: a longer buffer is refused like a shorter one. A pointer is never null, also where
  * the length is 0, and what a call writes overlaps nothing else that it is given: these two are not tested. All else is: any numbers may be
@@ -57,9 +61,9 @@ extern "C" {
 /* Why a call refused (§6). Where several apply a call gives the one that it checks first: the order beside each call. */
 enum cinorbis_refusal {
     CINORBIS_DONE = 0,
-    CINORBIS_PARAMETERS = 1,    /* m > 8 or r > m (maps of positions: only m > 8) */
-    CINORBIS_INPUT_LENGTH = 2,  /* an input's length is not n (information bits: k) */
-    CINORBIS_OUTPUT_LENGTH = 3, /* an output's length is not n (information bits: k) */
+    CINORBIS_PARAMETERS = 1,    /* m > 8 or r > m (maps of positions: only m > 8; first-order words: also r other than 1) */
+    CINORBIS_INPUT_LENGTH = 2,  /* an input's length is not n (information bits: k), or what its call says */
+    CINORBIS_OUTPUT_LENGTH = 3, /* an output's length is not n (information bits: k), or too little room */
     CINORBIS_ENTRY = 4,         /* a reading beyond the largest, a float that is no whole number, or a bit byte above 1; place: the lowest such entry */
     CINORBIS_NOT_A_WORD = 5,    /* inverse: no information bits give the word; place: the lowest frozen index that is 1 */
     CINORBIS_OUT_OF_VISITS = 6, /* search: the walk needs more visits than allowed; visits: the allowance */
@@ -79,10 +83,10 @@ enum cinorbis_refusal {
 static inline const char *cinorbis_refusal_text(uint32_t refusal) {
     switch (refusal) {
     case CINORBIS_DONE: return "done";
-    case CINORBIS_PARAMETERS: return "no such code: m is above 8, or r above m";
+    case CINORBIS_PARAMETERS: return "no such code: m is above 8, or r above m, or the call takes no such r";
     case CINORBIS_INPUT_LENGTH: return "an input has the wrong length";
     case CINORBIS_OUTPUT_LENGTH: return "an output has the wrong length";
-    case CINORBIS_ENTRY: return "a reading is beyond the largest, or a bit above 1";
+    case CINORBIS_ENTRY: return "a reading is beyond the largest or no whole number, or a bit is above 1";
     case CINORBIS_NOT_A_WORD: return "no information bits give this word";
     case CINORBIS_OUT_OF_VISITS: return "out of visits";
     case CINORBIS_TIED: return "tied: two words share the least penalty";
@@ -90,8 +94,8 @@ static inline const char *cinorbis_refusal_text(uint32_t refusal) {
     case CINORBIS_PAD: return "a pad bit of the record is 1";
     case CINORBIS_NO_ENTRY: return "the index has no entry for this record, or the capture ends before it";
     case CINORBIS_MAP: return "no map of positions: a byte is above 1, or nothing undoes it";
-    case CINORBIS_NAMED: return "the row names no part of the information indices";
-    case CINORBIS_MARKER: return "the telegram's marker is set: the link is turned over";
+    case CINORBIS_NAMED: return "the row of named indices has a wrong length or byte, names a frozen index, or leaves none";
+    case CINORBIS_MARKER: return "the telegram's marker is set, as when the link is turned over";
     case CINORBIS_TILT: return "the telegram's tilt is above 15.00 degrees";
     case CINORBIS_ZERO_TILT: return "the telegram has a direction and no tilt";
     case CINORBIS_FIELD: return "a field of the telegram is too large";
@@ -205,7 +209,7 @@ CINORBIS_CALL uint32_t cinorbis_first_order(uint32_t r, uint32_t m, const int16_
  * A row of n bytes names information indices that are to be 0 as well: 1 where named, 0 where not. These calls do what the plain ones do with a named
  * index frozen: k counts the indices that are left, and the inverse gives 5 at a named index that is 1. A row of n zero bytes names none, and all is as
  * without it. The row is refused as 12, after 1 and before 2. Where the last index, n - 1, is named, the all-ones word is not in the set: a link that is
- * turned over is then seen as distance, as a large penalty or a tie, and not as a word. */
+ * turned over then gives some other word of the set with a larger penalty, or a tie. No call refuses for it (§15). */
 
 /* In: the row, and the information bits that are left. Out: word, n bits. Refuses 1, 12, 2, 3, 4. Promise: shortened::encode_shortened. */
 CINORBIS_CALL uint32_t cinorbis_encode_shortened(uint32_t r, uint32_t m, const uint8_t *named, size_t named_length, const uint8_t *bits,
@@ -234,7 +238,8 @@ CINORBIS_CALL uint32_t cinorbis_search_within_shortened(uint32_t r, uint32_t m, 
 
 /* The float board (§16): the search of readings that are floats. In: n floats. Out: all that cinorbis_search gives for the whole numbers that they are,
  * runner-up and numbers too; no step is rounded. A float is a reading exactly if it is a whole number from -32767 to 32767; minus zero is 0. Any other
- * entry, a fraction, a number beyond, a NaN or an infinity, is refused as 4. Refuses 1, 2, 3, 4, then 6 or 7. Promise: float_search::search_float. */
+ * entry, a fraction, a number beyond, a NaN or an infinity, is refused as 4. The float mode has to be the default one: where numbers are flushed to zero, a
+ * fraction below 2^-126 is taken for 0. Refuses 1, 2, 3, 4, then 6 or 7. Promise: float_search::search_float. */
 CINORBIS_CALL uint32_t cinorbis_search_float(uint32_t r, uint32_t m, const float *readings, size_t readings_length, uint8_t *bits,
                                              size_t bits_length, uint8_t *word, size_t word_length, uint8_t runner_up[256],
                                              cinorbis_numbers *numbers);
@@ -273,8 +278,9 @@ CINORBIS_CALL uint32_t cinorbis_search_record(uint32_t allowed, const uint8_t *b
  * / 16 entries are enough. Refuses 1 or 8, whichever is met first, then 3 where the table has too few entries. Promise: index::make. */
 CINORBIS_CALL uint32_t cinorbis_index_make(const uint8_t *capture, size_t capture_length, size_t *table, size_t entries, cinorbis_index *index);
 
-/* Record w, counted from 0, by the table's entry for its block. Out: its code and where its packed part stands. Refuses 10, 1 and 8 as met in stepping, 10,
- * then 1, 8, 9 of the record itself. With a table of another capture it still only refuses or gives some part of the capture.
+/* Record w, counted from 0, by the table's entry for its block. In: the part that is in use, index.used bytes and (index.records + 15) / 16 entries; an entry
+ * past those is taken as it stands. Out: its code and where its packed part stands. Refuses 10 with no entry, 8 for an entry at or past the end, 1 and 8 as
+ * met in stepping, 10 where the capture ends right before w, then 1, 8, 9 of the record itself. With a table of another capture it still only refuses or gives some part of the capture.
  * Promise: index::header_of, index::find, index::part_start. */
 CINORBIS_CALL uint32_t cinorbis_index_find(size_t w, const uint8_t *capture, size_t capture_length, const size_t *table, size_t entries,
                                            cinorbis_entry *entry);
@@ -315,8 +321,8 @@ CINORBIS_CALL uint32_t cinorbis_product_map(uint32_t m, const uint8_t *table1, s
                                             uint8_t *table_out, size_t table_out_length, uint8_t *row_out, size_t row_out_length,
                                             cinorbis_numbers *numbers);
 
-/* ---- Tilt telegrams (§11): a word of RM(2,5) that carries cylinder, direction and tilt, and a marker. If the link is turned over, so that every
- * reading is negated, the reader never shows a tilt: it gives 13 exactly where it would have shown the telegram. */
+/* ---- Tilt telegrams (§11): a word of RM(2,5) that carries cylinder, direction and tilt, and a marker. Readings that show a telegram, all negated as on a
+ * link that is turned over, give 13: no readings show a tilt both ways. (Noise that the code cannot correct may show a wrong telegram, on either link.) */
 
 /* Out: word, 32 bits. Refuses 3, 14, 15, 16; the numbers are 0. Promise: telegram::write. */
 CINORBIS_CALL uint32_t cinorbis_telegram_write(uint32_t cylinder, uint32_t direction, uint32_t tilt, uint8_t *word, size_t word_length,
