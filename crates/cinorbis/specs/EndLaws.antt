@@ -135,13 +135,10 @@ module _ (left : ℕ) (s : Situation) (input output : List ℕ) (a : Along left 
         line = omega (arith, a .line);
       }
 
-  pub along-ran : (s .going ≡ false) ⊎ (left ≡ 0) → Ran
+  pub along-ran : (s .going ≡ false) ⊎ (left ≡ 0) → Ran s input output
   along-ran e =
       record {
         turns = a .turns;
-        situation = s;
-        input = input;
-        output = output;
         passed = a .passed;
         chain = a .chain;
         ends =

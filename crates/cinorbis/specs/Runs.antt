@@ -51,15 +51,12 @@ pub data Chain : ℕ → Situation → List ℕ → List ℕ → Passed → Type
       → Chain n s input output p → s .going ≡ true → length input′ ≡ length input → length output′ ≡ length output
       → (w : Turned s input output t input′ output′) → Chain (suc n) t input′ output′ (passing s input output t input′ output′ w p)
 
--- The program has ended, unless more than 2^62 bytes came.
-pub record Ran : Type 0 where
+-- A run that leaves this situation and these buffers is a chain of turns from the start on. It has ended, unless more than 2^62 bytes came.
+pub record Ran (s : Situation) (input output : List ℕ) : Type 0 where
   pub turns : ℕ
-  pub situation : Situation
-  pub input : List ℕ
-  pub output : List ℕ
   pub passed : Passed
-  pub chain : Chain turns situation input output passed
-  pub ends : (situation .going ≡ false) ⊎ (2 ^ 62 < length (passed .came))
+  pub chain : Chain turns s input output passed
+  pub ends : (s .going ≡ false) ⊎ (2 ^ 62 < length (passed .came))
 
 -- What was told is what the definition says of all bytes of the input: those that came, and whatever was not read, which is nothing where a read returned 0.
 pub record Tells (p : Passed) : Type 0 where

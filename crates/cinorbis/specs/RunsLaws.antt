@@ -315,5 +315,5 @@ chain-tells n s input output₁ p c g f =
     record { tells = λ rest z. sym (append-nil (p .told)) ∙ (rw (d .0, d .1, append-nil) at (h .tells rest z)) }
 
 -- and so has a run of the program
-pub ran-tells : (x : Ran) → x .situation .going ≡ false → x .situation .failed ≡ false → Tells (x .passed)
-ran-tells x = chain-tells (x .turns) (x .situation) (x .input) (x .output) (x .passed) (x .chain)
+pub ran-tells : (s : Situation) (input output₁ : List ℕ) (x : Ran s input output₁) → s .going ≡ false → s .failed ≡ false → Tells (x .passed)
+ran-tells s input output₁ x = chain-tells (x .turns) s input output₁ (x .passed) (x .chain)

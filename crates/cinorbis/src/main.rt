@@ -57,9 +57,9 @@ fn turn(input: &mut [u8], output: &mut [u8], s: Situation) -> Situation
 
 // Nothing says that the input ends, so the turns are counted down, from a number that only more than
 // 2^62 bytes use up.
-fn run(input: &mut [u8], output: &mut [u8])
+fn run(input: &mut [u8], output: &mut [u8]) -> Situation
     requires { ⌜ (longest ≤ length (now input)) × (room ≤ length (now output)) ⌝ }
-    ensures { λ _. ⌜ Ran ⌝ }
+    ensures { λ s. ⌜ Ran s (now (input .exit)) (now (output .exit)) ⌝ }
 {
     let mut s = turns::start();
     let mut left = u64::MAX;
@@ -67,6 +67,7 @@ fn run(input: &mut [u8], output: &mut [u8])
         s = turn(input, output, s);
         left -= 1;
     }
+    s
 }
 
 fn main() {
