@@ -1,6 +1,6 @@
 -- Laws of the lowest bad place: where it stands, and what holds of all entries where there is none.
 use mathlib.Core.Path.{_≡_, refl, ap, sym, _∙_}
-use mathlib.Core.Bool.{Bool, true, false, true≢false, _||_}
+use mathlib.Core.Bool.{Bool, true, false, true≢false, _||_, or-false}
 use mathlib.Core.List.{List, [], _∷_}
 use mathlib.Core.Logic.{⊎-elim}
 use Prim.Native.Nat.{ℕ, zero, suc, _+_, _^_, _≤_, _<_, zero-le}
@@ -66,10 +66,6 @@ module _ {A : Type 0} (d : A) (number : A → ℕ) (limit : ℕ) where
 or-assoc : (a b c : Bool) → ((a || b) || c) ≡ (a || (b || c))
 or-assoc true b c = refl
 or-assoc false b c = refl
-
-or-false : (a : Bool) → (a || false) ≡ a
-or-false true = refl
-or-false false = refl
 
 module _ {A : Type 0} (d : A) (number : A → ℕ) (limit : ℕ) (l : List A) where
   abbrev pub Asked : ℕ → Bool → Type 0

@@ -1,4 +1,4 @@
--- The demands, sentence by sentence in the user's order, over the definitions that the public contracts cite. That they are met is proved in DemandsMet.
+-- The demands, sentence by sentence in their order, over the definitions that the public contracts cite. That they are met is proved in DemandsMet.
 -- The words of a set are those of any row of kinds; RM(r,m) is the row `kinds r m`.
 use mathlib.Core.Path.{_≡_}
 use mathlib.Core.Logic.{_↔_}

@@ -26,7 +26,7 @@ use Rattle.decoding.specs.BestLaws.{length-best, bits-best, best-attains
 use Rattle.decoding.specs.TurnLaws.{penalty-turns}
 
 -- ---- all rows of k bits, with the bits c added to each, are all rows of k bits
-all-by-first : (f : List ℕ → ℕ) (k : ℕ) → sum (map f (allBits (suc k))) ≡ sum (map (λ b. f (0 ∷ b)) (allBits k)) + sum (map (λ b. f (1 ∷ b)) (allBits k))
+pub all-by-first : (f : List ℕ → ℕ) (k : ℕ) → sum (map f (allBits (suc k))) ≡ sum (map (λ b. f (0 ∷ b)) (allBits k)) + sum (map (λ b. f (1 ∷ b)) (allBits k))
 unfolding allBits
 all-by-first f k =
     let zeros = map (λ b. 0 ∷ b) (allBits k) in

@@ -10,7 +10,7 @@ use lib.Seq.{take-at, drop-at, length-take-le, set-append-left, take-set-le, dro
 use borrow.Rule.Slice.PartMut.{midOf, putMid}
 use Rattle.numbers.specs.Lent.{lent-to, back-to, lent-from, back-from}
 use Rattle.numbers.specs.Front.{front, front-suc, front-after, front-done}
-use Rattle.numbers.specs.Halves.{length-first-half, length-second-half, getD-first, getD-second}
+use Rattle.numbers.specs.Halves.{length-first-half, length-second-half, equal-halves, getD-first, getD-second}
 use Rattle.decoding.specs.Readings.{turn, sizes}
 use Rattle.decoding.specs.StepLaws.{entry-sizes, sizes-append}
 use Rattle.hadamard.specs.Hadamard.{combined, hadamard}
@@ -43,11 +43,8 @@ module _ (d : List ℤ) (h : ℕ) (long : length d ≡ h + h) where
   abbrev part : ℕ → List ℤ
   part e = combined e (take h d) (drop h d)
 
-  halves-alike : length (take h d) ≡ length (drop h d)
-  halves-alike = length-first-half h d long ∙ sym (length-second-half h d long)
-
   length-part : (e : ℕ) → length (part e) ≡ h
-  length-part e = length-combined e (take h d) (drop h d) halves-alike ∙ length-first-half h d long
+  length-part e = length-combined e (take h d) (drop h d) (equal-halves h d long) ∙ length-first-half h d long
 
   -- after j turns
   abbrev pub crossing : ℕ → List ℤ
@@ -65,15 +62,6 @@ module _ (d : List ℤ) (h : ℕ) (long : length d ≡ h + h) where
   length-front : (x y : List ℤ) (j : ℕ) → length x ≡ h → length y ≡ h → j ≤ h → length (front x y j) ≡ h
   length-front x y j ex ey k = length-append (take j y) (drop j x) ∙ omega (arith, length-take-le j y (omega arith), length-drop j x)
 
-  pub length-crossing : (j : ℕ) → j ≤ h → length (crossing j) ≡ length d
-  length-crossing j k =
-      length-append (front (take h d) (part 0) j) (front (drop h d) (part 1) j)
-      ∙ omega (
-        arith,
-        length-front (take h d) (part 0) j (length-first-half h d long) (length-part 0) k,
-        length-front (drop h d) (part 1) j (length-second-half h d long) (length-part 1) k,
-      )
-
   pub pair-small : (j : ℕ) → j < h → natAbs (getD d j (pos 0)) + natAbs (getD d (h + j) (pos 0)) ≤ sizes d
   pair-small j k =
       let e : sizes d ≡ sizes (take h d) + sizes (drop h d) = sym (ap sizes (take-append-drop h d)) ∙ sizes-append (take h d) (drop h d) in
@@ -82,9 +70,6 @@ module _ (d : List ℤ) (h : ℕ) (long : length d ≡ h + h) where
   module _ (s : List ℤ) (j : ℕ) (more : j < h) (is : s ≡ crossing j) where
     first-long : length (front (take h d) (part 0) j) ≡ h
     first-long = length-front (take h d) (part 0) j (length-first-half h d long) (length-part 0) (omega arith)
-
-    second-long : length (front (drop h d) (part 1) j) ≡ h
-    second-long = length-front (drop h d) (part 1) j (length-second-half h d long) (length-part 1) (omega arith)
 
     -- what a turn reads is as it was
     pub read-first : getD s j (pos 0) ≡ getD d j (pos 0)
@@ -103,7 +88,7 @@ module _ (d : List ℤ) (h : ℕ) (long : length d ≡ h + h) where
 
     entry-at : (e : ℕ) → getD (part e) j (pos 0) ≡ getD d j (pos 0) +ℤ turn e (getD d (h + j) (pos 0))
     entry-at e =
-        getD-combined e (take h d) (drop h d) j halves-alike
+        getD-combined e (take h d) (drop h d) j (equal-halves h d long)
         ∙ ap₂ (λ (x y : ℤ). x +ℤ turn e y) (getD-take h d j (pos 0) more) (getD-drop h d j (pos 0))
 
     -- what a turn stores

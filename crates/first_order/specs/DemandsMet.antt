@@ -15,7 +15,7 @@ use Rattle.decoding.specs.Readings.{turns}
 use Rattle.decoding.specs.Best.{leastPenalty, gap, bestBits, bestWord}
 use Rattle.decoding.specs.Walk.{needed, tree}
 use Rattle.decoding.specs.TreeLaws.{needed-most}
-use Rattle.decoding.specs.Answer.{Answer, tied, answer}
+use Rattle.decoding.specs.Answer.{Answer, answer}
 use Rattle.decoding.specs.AnswerLaws.{answer-tied, answer-found}
 use Rattle.decoding.specs.DemandsMet.{demands-code}
 use Rattle.code.specs.declared.Code.{Code}

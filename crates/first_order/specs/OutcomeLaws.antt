@@ -4,7 +4,7 @@ use mathlib.Core.List.{List}
 use Prim.Native.Nat.{ℕ, zero, suc, _-_, _^_, _/_, _≤_, _<_}
 use native.Mathlib.Omega.{arith}
 use native.Mathlib.Nat.{le-refl, two-pow-succ}
-use lib.IntN.{ℤ, pos, negsuc}
+use lib.IntN.{ℤ}
 use lib.ListN.{length}
 use lib.Pow.{pow-pos, pow-mono}
 use borrow.Author.Tests.{eq-eqb, ne-eqb}
@@ -56,10 +56,6 @@ allowed-code r m l k n c e =
       | allows d f is a ↦ let same : c ≡ d = cc in same ∙ is
       | refuses why f h ↦ let z : _≡_ {A = ℕ} 0 1 = cc in absurd (omega arith)
     ]
-
-pub hard-small : (z : ℤ) → hard z < 2
-hard-small (pos n) = omega arith
-hard-small (negsuc n) = omega arith
 
 -- from 2 to 256 readings
 pub two-or-more : (m : ℕ) → 0 < m → 2 ≤ 2 ^ m

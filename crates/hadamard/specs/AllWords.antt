@@ -11,20 +11,13 @@ use Rattle.numbers.specs.SumsLaws.{sum-append, total-split, total-same, total-a
 use Rattle.words.specs.Bits.{digits, ones}
 use Rattle.words.specs.Kinds.{kinds, encoded, allBits}
 use Rattle.decoding.specs.Readings.{turn, correlation}
+use Rattle.decoding.specs.TurnedBest.{all-by-first}
 use Rattle.hadamard.specs.Hadamard.{hadamard, entry, bitsOf, correlations, SameEntries}
 use Rattle.hadamard.specs.HadamardLaws.{length-hadamard}
 use Rattle.hadamard.specs.FirstOrderLaws.{correlation-word}
 use Rattle.hadamard.specs.EncodedLaws.{bits-first, bits-second, sum-first-order, encoded-bitsOf}
 
 -- ---- all information bits
-by-first-bit : (f : List ℕ → ℕ) (k : ℕ) → sum (map f (allBits (suc k))) ≡ sum (map (λ b. f (0 ∷ b)) (allBits k)) + sum (map (λ b. f (1 ∷ b)) (allBits k))
-unfolding allBits
-by-first-bit f k =
-    let zeros = map (λ b. 0 ∷ b) (allBits k) in
-    let ones = map (λ b. 1 ∷ b) (allBits k) in
-    ap sum (map-append f zeros ones) ∙ sum-append (map f zeros) (map f ones)
-    ∙ ap₂ (λ (x y : List ℕ). sum x + sum y) (map-map f (λ b. 0 ∷ b) (allBits k)) (map-map f (λ b. 1 ∷ b) (allBits k))
-
 pub all-places : (f : List ℕ → ℕ) (m : ℕ) → sum (map f (allBits (suc m))) ≡ total (λ s. f (bitsOf m s 0) + f (bitsOf m s 1)) (2 ^ m)
 unfolding allBits total sum bitsOf digits ones
 all-places f zero = omega arith
@@ -40,7 +33,7 @@ all-places f (suc m) =
     ap₂ _+_ (ap f (bits-second m s 0 h (omega arith))) (ap f (bits-second m s 1 h (omega arith)))
     ∙ add-comm (f (1 ∷ bitsOf m s 1)) (f (1 ∷ bitsOf m s 0)))
     ∙ sym (all-places (λ b. f (1 ∷ b)) m) in
-    by-first-bit f (suc m) ∙ sym (ap₂ _+_ first second) ∙ sym (total-split at n n) ∙ ap (total at) (sym (two-pow-succ m))
+    all-by-first f (suc m) ∙ sym (ap₂ _+_ first second) ∙ sym (total-split at n n) ∙ ap (total at) (sym (two-pow-succ m))
 
 -- ---- all correlations
 -- of one word, by its bits

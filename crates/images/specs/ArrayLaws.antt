@@ -24,9 +24,6 @@ use Rattle.images.specs.Images.{Shows, Doubled, Placed, spreadOf}
 use Rattle.images.specs.ImagesLaws.{image-column, image-zero}
 
 -- ---- a table's entry
-pub entry-within : (m width p q : ℕ) → p < m → q < width → p * width + q < m * width
-entry-within m width p q h k = omega (arith, mul-le-mul-right width h)
-
 pub some-side : (m i : ℕ) → i < m * m → 0 < m
 some-side m i h = ⊎-elim (λ k. k) (λ (k : m ≤ 0). absurd (omega (arith, mul-le-mul-right m k))) (lt-or-le 0 m)
 

@@ -1,7 +1,7 @@
--- A list of which a part is lent and comes back: `&mut x[0..h]` and `&mut x[h..]`, in the words of `take` and `drop`; a list lent by halves.
+-- A list of which a part is lent and comes back: `&mut x[0..h]` and `&mut x[h..]`, in the words of `take` and `drop`.
 use mathlib.Core.Path.{_≡_, ap, _∙_}
 use mathlib.Core.List.{List, _++_, append-nil}
-use Prim.Native.Nat.{ℕ, _-_, _/_}
+use Prim.Native.Nat.{ℕ, _-_}
 use native.Mathlib.Omega.{arith}
 use native.Mathlib.Nat.{sub-zero}
 use lib.ListN.{length, take, drop, length-drop, drop-of-length-le}
@@ -26,17 +26,3 @@ module _ {A : Type 0} (h : ℕ) (x : List A) where
   -- what came back of a front is read again
   pub lent-again : (q : List A) → length q ≡ h → midOf 0 (h - 0) (putMid 0 (h - 0) x q) ≡ q
   lent-again q e = rw sub-zero (take-at q (drop h x) h e)
-
--- ---- by halves: the first half of x goes out and comes back as a; then the second half goes out of what x is by then, w, and comes back as b
-module _ {A : Type 0} (x : List A) where
-  abbrev pub firstOut : List A
-  firstOut = midOf 0 (length x / 2 - 0) x
-
-  abbrev pub firstBack : List A → List A
-  firstBack a = putMid 0 (length x / 2 - 0) x a
-
-  abbrev pub secondOut : List A → List A
-  secondOut w = midOf (length x / 2) (length w - length x / 2) w
-
-  abbrev pub secondBack : List A → List A → List A
-  secondBack w b = putMid (length x / 2) (length w - length x / 2) w b

@@ -1,18 +1,22 @@
 -- Laws of the steps on a pair, and of the loops that fill a row: what a turn reads and what it stores, whichever list l of 2h entries it reads.
 use mathlib.Core.Path.{_≡_, refl, ap, ap₂, sym, _∙_}
+use mathlib.Core.Bool.{true, false}
 use mathlib.Core.List.{List}
 use Prim.Native.Nat.{ℕ, zero, suc, _+_, _-_, _^_, _≤_, _<_}
 use native.Mathlib.Omega.{arith}
 use native.Mathlib.Numerals.{add-one}
 use lib.IntN.{ℤ, pos, negsuc, natAbs, _-ℤ_}
 use lib.ListN.{length, getD, set, take, drop, take-append-drop, length-drop}
+use lib.Dec.{T}
+use lib.Signed.{ltZ, nonNeg}
 use lib.Seq.{paste, paste-suc, drop-paste, getD-take, getD-drop, length-take-le}
 use mir.Syntax.{w16, w32}
 use mir.Val.{SFits, toZ, ofZ}
 use mir.Facts.{toZ-ofZ, sfits-widen}
-use Rattle.numbers.specs.Parts.{up}
+use Rattle.numbers.specs.Parts.{up, down}
+use Rattle.numbers.specs.PartsLaws.{less-parts, not-less-parts}
 use Rattle.decoding.specs.Readings.{loss, sizes}
-use Rattle.decoding.specs.Quick.{lower, upper, lowerRow, upperRow}
+use Rattle.decoding.specs.Quick.{hard, lower, upper, lowerRow, upperRow}
 use Rattle.decoding.specs.StepLaws.{entry-sizes, sizes-append, length-lowerRow, length-upperRow, getD-lowerRow, getD-upperRow}
 use Rattle.rows.specs.Rows.{rowOf}
 
@@ -29,6 +33,19 @@ upper-one x y (suc a) h = refl
 pub loss-of-one : (v : ℤ) (b : ℕ) → (b ≡ 0 → ⊥) → loss v b ≡ up v
 loss-of-one v zero h = absurd (h refl)
 loss-of-one v (suc b) h = refl
+
+-- ---- signs, by the machine's test: the bit that a value speaks for, and a value that is not negative
+pub hard-one : (v : ℤ) → ltZ v (pos 0) ≡ true → 1 ≡ hard v
+hard-one (pos n) h = absurd (omega (arith, less-parts (pos n) (pos 0) h))
+hard-one (negsuc n) h = refl
+
+pub hard-zero : (v : ℤ) → ltZ v (pos 0) ≡ false → 0 ≡ hard v
+hard-zero (pos n) h = refl
+hard-zero (negsuc n) h = absurd (omega (arith, not-less-parts (negsuc n) (pos 0) h))
+
+pub non-negative : (v : ℤ) → down v ≡ 0 → T (nonNeg v)
+non-negative (pos n) h = tt
+non-negative (negsuc n) h = absurd (omega arith)
 
 -- ---- sizes
 pub pair-sizes : (h j : ℕ) (l : List ℤ) (x y : ℤ) → Pair h j l x y → j < h → natAbs x + natAbs y ≤ sizes l

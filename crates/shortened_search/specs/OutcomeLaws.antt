@@ -1,11 +1,10 @@
 -- The outcome at each place where the search on a shortened set returns, and what its work asks.
-use mathlib.Core.Path.{_≡_, ap, _∙_}
-use mathlib.Core.List.{List, _++_}
+use mathlib.Core.Path.{_≡_}
+use mathlib.Core.List.{List}
 use Prim.Native.Nat.{ℕ}
 use native.Mathlib.Omega.{arith}
 use lib.IntN.{ℤ}
-use lib.ListN.{length, take}
-use lib.Seq.{take-at}
+use lib.ListN.{length}
 use Rattle.numbers.specs.Sums.{sum}
 use Rattle.words.specs.Kinds.{kinds}
 use Rattle.words.specs.KindLaws.{bits-kinds}
@@ -47,10 +46,6 @@ module _ (ks : List ℕ) (c : Code) (allowed : ℕ) (l : List ℤ) (bits word : 
 -- a good row of a sound code is allowed
 pub good-allowed : (r m : ℕ) (named : List ℕ) → Sound (rm r m) → GoodRow named (kinds r m) → Allowed (rm r m) ≡ rowAdmitted r m named
 good-allowed r m named s g = row-allowed r m named (rm r m) (made-good r m (s .m-small) (s .r-small)) (good-row named (kinds r m) (bits-kinds r m) g)
-
--- the front of an array, once it came back as x
-pub front-is : {A : Type 0} (a rest x : List A) (n : ℕ) → a ≡ x → length x ≡ n → take n (a ++ rest) ≡ x
-front-is a rest x n e f = take-at a rest n (ap length e ∙ f) ∙ e
 
 -- the kinds that are left, and readings x that are l, can be searched
 pub left-searchable : (c : Code) (named ks : List ℕ) (l x : List ℤ) (bits word : List ℕ) → ks ≡ leftOf named c → x ≡ l → GoodRow named (kinds (c .r) (c .m))

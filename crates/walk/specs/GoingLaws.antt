@@ -32,14 +32,6 @@ pub may-not : {σ σ₁ : List ℕ} {k : Bool} → not k ≡ true → Visited σ
 may-not {k = true} e v = true-false (sym e)
 may-not {k = false} e v = v
 
-pub not-true : {k : Bool} → not k ≡ true → k ≡ false
-not-true {k = true} e = true-false (sym e)
-not-true {k = false} e = refl
-
-pub not-false : {k : Bool} → not k ≡ false → k ≡ true
-not-false {k = true} e = refl
-not-false {k = false} e = true-false e
-
 -- ---- one extension that may go on, by the bit b, with the penalty q
 module _ {l : List ℤ} {kinds : List ℕ} {s : List ℤ} {y best second : List ℕ} {i p : ℕ} {w : Progress} (r : Ready l kinds s y best second i p w)
     (inside : i < 2 ^ w .m) {z : Progress} {σ : List ℕ} {s₁ : List ℤ} {y₁ best₁ second₁ : List ℕ} (g : Going l y i w z σ s₁ y₁ best₁ second₁)

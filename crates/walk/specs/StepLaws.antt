@@ -6,13 +6,11 @@ use Prim.Native.Nat.{ℕ, zero, suc, _+_, _-_, _^_, _≤_, _<_}
 use native.Mathlib.Omega.{arith}
 use native.Mathlib.Nat.{lt-of-le-of-lt}
 use native.Mathlib.Numerals.{add-one}
-use lib.IntN.{ℤ, pos, negsuc, natAbs}
+use lib.IntN.{ℤ, natAbs}
 use lib.ListN.{length, getD, set, take, drop, drop-of-length-le, length-set}
 use lib.Seq.{drop-cons, take-take, take-set-le, take-suc-set, length-take-le}
 use lib.Dec.{T, leb}
-use lib.Signed.{ltZ}
 use borrow.Author.Tests.{lt-leb, ltb-false, ltb-true}
-use Rattle.numbers.specs.PartsLaws.{less-parts, not-less-parts}
 use Rattle.numbers.specs.Halves.{length-more}
 use Rattle.words.specs.Bits.{Bits}
 use Rattle.words.specs.TransformLaws.{bits-more, bits-take}
@@ -28,15 +26,6 @@ use Rattle.walk.specs.Progress.{Kept, Ready, Stepped, extension, Extende
 
 pub true-false : {A : Type 0} → true ≡ false → A
 true-false e = absurd (subst T e tt)
-
--- ---- the bit that a value speaks for, by a test
-pub hard-one : (v : ℤ) → ltZ v (pos 0) ≡ true → 1 ≡ hard v
-hard-one (pos n) h = absurd (omega (arith, less-parts (pos n) (pos 0) h))
-hard-one (negsuc n) h = refl
-
-pub hard-zero : (v : ℤ) → ltZ v (pos 0) ≡ false → 0 ≡ hard v
-hard-zero (pos n) h = refl
-hard-zero (negsuc n) h = absurd (omega (arith, not-less-parts (negsuc n) (pos 0) h))
 
 -- ---- the test against the second
 drops-by : (k s q : ℕ) (x y : Full) → y .penalty ≡ s → (k < 2 → s ≡ none-yet) → q < none-yet → leb s q ≡ dropped (heldBy k x y) q

@@ -41,7 +41,7 @@ module _ (m i : ℕ) (h : i < 2 ^ m) where
   second-div : (2 ^ m + i) / 2 ^ m ≡ 1
   second-div = rw (add-div-left i (pow-pos m), div-eq-of-lt)
 
-  second-mod : (2 ^ m + i) % 2 ^ m ≡ i
+  pub second-mod : (2 ^ m + i) % 2 ^ m ≡ i
   second-mod = add-mod-left (2 ^ m) i ∙ mod-eq-of-lt h
 
 pub word-by-matrix : (m : ℕ) (u : List ℕ) → length u ≡ 2 ^ m → Bits u → wordByMatrix m u ≡ transform m u

@@ -12,7 +12,8 @@ use Rattle.hadamard.specs.EncodedLaws.{sum-first-order}
 use Rattle.code.specs.declared.Refusal.the-variants.{Tied}
 use Rattle.code.specs.SoundLaws.{length-most}
 use Rattle.search.specs.Outcome.{foundWith, refused}
-use Rattle.first_order.specs.OutcomeLaws.{sums-small, hard-small, best-most, tied-told, found-told}
+use Rattle.decoding.specs.PathLaws.{hard-bit}
+use Rattle.first_order.specs.OutcomeLaws.{sums-small, best-most, tied-told, found-told}
 use borrow.Author.Needs.{needs}
 use Rattle.first_order.proofs.decode.Statement.{statement}
 use Rattle.first_order.proofs.decode.Tie as tie
@@ -76,21 +77,21 @@ put-bits-requires c κs =
       s .pre .long-bits ∙ sym (sum-kinds 1 m) ∙ sum-first-order m ∙ omega arith,
       s .pre .sound .m-small,
       omega (arith, f .ensures .largest .within, length-hadamard m (s .args .readings .now) (s .pre .entries .long)),
-      omega (arith, f .ensures .sign-is, hard-small z),
+      omega (arith, f .ensures .sign-is, hard-bit z),
     )
 
 cast-put-word : tie.Need-cast-put-word
 cast-put-word c =
     let at = c .before .before .before .before .before .before .before .before .before .before .before in
     let s = at .before .before .before .before in
-    omega (arith, at .find .ensures .sign-is, hard-small (entry (s .args .m) (s .args .readings .now) (at .find .result .place)))
+    omega (arith, at .find .ensures .sign-is, hard-bit (entry (s .args .m) (s .args .readings .now) (at .find .result .place)))
 
 put-word-requires : tie.Need-put-word-requires
 put-word-requires c κs =
     let at = c .before .before .before .before .before .before .before .before .before .before .before in
     let s = at .before .before .before .before in
     let z = entry (s .args .m) (s .args .readings .now) (at .find .result .place) in
-    (s .pre .long-word, s .pre .sound .m-small, omega (arith, at .find .ensures .sign-is, hard-small z))
+    (s .pre .long-word, s .pre .sound .m-small, omega (arith, at .find .ensures .sign-is, hard-bit z))
 
 sub-t14 : tie.Need-sub-t14
 sub-t14 c = search needs

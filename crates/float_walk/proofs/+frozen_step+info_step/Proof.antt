@@ -7,14 +7,14 @@ use Prim.Native.Nat.{ℕ, _+_, _-_, _*_, _^_, _<_}
 use native.Mathlib.Omega.{arith}
 use lib.IntN.{ℤ}
 use lib.ListN.{getD, set, take}
-use borrow.Author.Tests.{eqb-true}
+use borrow.Author.Tests.{eqb-true, not-true, not-false}
 use Rattle.decoding.specs.Readings.{loss, sumLimit}
 use Rattle.decoding.specs.Quick.{hard}
 use Rattle.decoding.specs.Walk.{value}
 use Rattle.decoding.specs.PathLaws.{hard-bit}
 use Rattle.walk.specs.Progress.{seen, front, Kept, Going, Extended}
 use Rattle.walk.specs.StepLaws.{short, value-small, sum-small}
-use Rattle.walk.specs.GoingLaws.{may-visit, may-not, not-true, not-false, not-full, full-step, within, frozen-stop, info-stop}
+use Rattle.walk.specs.GoingLaws.{may-visit, may-not, not-full, full-step, within, frozen-stop, info-stop}
 use Rattle.walk.specs.GoingLaws.{value-asked, value-is, value-going, reached-start, reached-given, frozen-dropped, reached-more}
 use Rattle.walk.specs.GoingLaws.{deeper-m, deeper-asked, deeper-given, deeper-kept, first-adds, first-undropped}
 use Rattle.walk.specs.GoingLaws.{second-stop, second-going, second-dropped, second-given}
@@ -134,7 +134,7 @@ abbrev valued-of : (t : ℕ) → Kept-0 t → Valued t
 valued-of t c = c .before .before .before .before
 
 inside : (t : ℕ) (c : Turn t) → let o = c .before .before .before .loop in o .i < 2 ^ getD (o .state) 6 0
-inside t c = not-full (c .before .before .before .loop .inv .reached .asked) (sym (c .before .full .ensures) ∙ not-true (c .if1 .taken))
+inside t c = not-full (c .before .before .before .loop .inv .reached .asked) (sym (c .before .full .ensures) ∙ not-true _ (c .if1 .taken))
 
 short-turn : (t : ℕ) (c : Turn t) → c .before .before .before .loop .i < 256
 short-turn t c = within (c .before .before .before .loop .inv .reached .asked) (inside t c)
@@ -314,7 +314,7 @@ full-path : (t : ℕ) (c : frozen-step-lts.Else1 (frozen-step-calls t) (frozen-s
     → let o = c .before .before .before .loop in o .i ≡ 2 ^ getD (o .state) 6 0
 full-path t c =
     let o = c .before .before .before .loop in
-    eqb-true (o .i) (2 ^ getD (o .state) 6 0) (sym (c .before .full .ensures) ∙ not-false (c .if1 .left))
+    eqb-true (o .i) (2 ^ getD (o .state) 6 0) (sym (c .before .full .ensures) ∙ not-false _ (c .if1 .left))
 
 frozen-step-finish-requires : (t : ℕ)
     → frozen-step-lts.Need-finish-requires (frozen-step-calls t) (frozen-step-at t) frozen-step.Post frozen-step-Inv-loop frozen-step-μ-loop

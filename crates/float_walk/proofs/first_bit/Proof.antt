@@ -1,6 +1,6 @@
 -- `float_walk::first_bit` meets its contract.
 use mathlib.Core.Path.{sym, _∙_}
-use Rattle.walk.specs.StepLaws.{hard-one, hard-zero}
+use Rattle.rows.specs.RowLaws.{hard-one, hard-zero}
 use Rattle.float_numbers.specs.Whole.{wholeOf}
 use Rattle.float_numbers.specs.WholeLaws.{whole-negative}
 use Rattle.float_walk.proofs.first_bit.Statement.{statement}

@@ -3,10 +3,10 @@ use mathlib.Core.Path.{_≡_, refl, ap, _∙_}
 use Prim.Native.Nat.{ℕ, suc, _-_, _+_, _*_, _≤_, _<_}
 use native.Mathlib.Omega.{arith}
 use native.Mathlib.Numerals.{add-one}
+use lib.Arith.{digits-lt}
 use lib.ListN.{getD}
 use Rattle.maps.specs.Maps.{number}
 use Rattle.images.specs.ImagesLaws.{number-more, number-small}
-use Rattle.images.specs.ArrayLaws.{entry-within}
 use Rattle.images.proofs.column.Statement.{statement}
 use Rattle.images.proofs.column.Tie as tie
 
@@ -23,17 +23,17 @@ loop-holds c = (omega arith, refl)
 mul-x : tie.Need-mul-x Inv-loop μ-loop
 mul-x c =
     let g = c .before .before in
-    omega (arith, entry-within (g .args .m) (g .args .width) (c .before .loop .p) (g .args .q) (omega arith) (g .pre .1), g .pre .2)
+    omega (arith, digits-lt {q = c .before .loop .p} {m = g .args .m} {r = g .args .q} {c = g .args .width} (omega arith) (g .pre .1), g .pre .2)
 
 add-x : tie.Need-add-x Inv-loop μ-loop
 add-x c =
     let g = c .before .before in
-    omega (arith, entry-within (g .args .m) (g .args .width) (c .before .loop .p) (g .args .q) (omega arith) (g .pre .1), g .pre .2)
+    omega (arith, digits-lt {q = c .before .loop .p} {m = g .args .m} {r = g .args .q} {c = g .args .width} (omega arith) (g .pre .1), g .pre .2)
 
 shared-slice-read-x : tie.Need-shared-slice-read-x Inv-loop μ-loop
 shared-slice-read-x c =
     let g = c .before .before .before in
-    omega (arith, entry-within (g .args .m) (g .args .width) (c .before .before .loop .p) (g .args .q) (omega arith) (g .pre .1), g .pre .2)
+    omega (arith, digits-lt {q = c .before .before .loop .p} {m = g .args .m} {r = g .args .q} {c = g .args .width} (omega arith) (g .pre .1), g .pre .2)
 
 cast-x : tie.Need-cast-x Inv-loop μ-loop
 cast-x c = omega arith

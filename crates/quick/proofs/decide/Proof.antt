@@ -3,24 +3,21 @@ use borrow.Author.Needs.{needs}
 use mathlib.Core.Path.{_≡_, refl}
 use mathlib.Core.Bool.{true, false}
 use Prim.Native.Nat.{ℕ, zero, suc}
-use native.Mathlib.Omega.{arith}
-use lib.IntN.{ℤ, pos, negsuc}
+use lib.IntN.{ℤ, pos}
 use lib.Signed.{ltZ}
 use mir.Facts.{toZ-ofZ}
-use Rattle.numbers.specs.PartsLaws.{less-parts, not-less-parts}
 use Rattle.decoding.specs.Quick.{decide}
+use Rattle.rows.specs.RowLaws.{hard-one, hard-zero}
 use Rattle.quick.proofs.decide.Statement.{statement}
 use Rattle.quick.proofs.decide.Tie as tie
 
 below-zero : (k : ℕ) (x : ℤ) → (k ≡ 0 → ⊥) → ltZ x (pos 0) ≡ true → 1 ≡ decide k x
 below-zero zero x z e = absurd (z refl)
-below-zero (suc k) (pos n) z e = absurd (omega (arith, less-parts (pos n) (pos 0) e))
-below-zero (suc k) (negsuc n) z e = refl
+below-zero (suc k) x z e = hard-one x e
 
 not-below-zero : (k : ℕ) (x : ℤ) → (k ≡ 0 → ⊥) → ltZ x (pos 0) ≡ false → 0 ≡ decide k x
 not-below-zero zero x z e = refl
-not-below-zero (suc k) (pos n) z e = refl
-not-below-zero (suc k) (negsuc n) z e = absurd (omega (arith, not-less-parts (negsuc n) (pos 0) e))
+not-below-zero (suc k) x z e = hard-zero x e
 
 returns : tie.Need-returns
 returns c = search needs

@@ -1,19 +1,11 @@
 -- `rows::loss` meets its contract.
-use mathlib.Core.Path.{_≡_}
 use native.Mathlib.Omega.{arith}
-use lib.Dec.{T}
-use lib.Signed.{nonNeg}
-use lib.IntN.{ℤ, pos, negsuc, _-ℤ_, negℤ}
+use lib.IntN.{pos, _-ℤ_, negℤ}
 use mir.Facts.{toZ-ofZ}
-use Rattle.numbers.specs.Parts.{down}
 use Rattle.numbers.specs.PartsLaws.{parts, sum-parts, negated, less-parts, not-less-parts, fits-size}
-use Rattle.rows.specs.RowLaws.{loss-of-one}
+use Rattle.rows.specs.RowLaws.{loss-of-one, non-negative}
 use Rattle.rows.proofs.loss.Statement.{statement}
 use Rattle.rows.proofs.loss.Tie as tie
-
-non-negative : (v : ℤ) → down v ≡ 0 → T (nonNeg v)
-non-negative (pos n) h = tt
-non-negative (negsuc n) h = absurd (omega arith)
 
 sub-result : tie.Need-sub-result
 sub-result c =

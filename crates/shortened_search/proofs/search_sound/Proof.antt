@@ -9,7 +9,8 @@ use Rattle.code.specs.SoundLaws.{length-most}
 use Rattle.search.specs.RunnerUp.{wholeBy}
 use Rattle.shortened.specs.Outcome.{leftOf}
 use Rattle.shortened.specs.WorkLaws.{long-left, zeros-lent}
-use Rattle.shortened_search.specs.OutcomeLaws.{front-is, left-searchable}
+use Rattle.search.specs.WorkLaws.{front-is}
+use Rattle.shortened_search.specs.OutcomeLaws.{left-searchable}
 use borrow.Author.Needs.{needs}
 use Rattle.shortened_search.proofs.search_sound.Statement.{statement}
 use Rattle.shortened_search.proofs.search_sound.Tie as tie

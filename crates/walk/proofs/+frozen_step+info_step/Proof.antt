@@ -5,7 +5,7 @@ use Prim.Native.Nat.{ℕ, _+_, _-_, _*_, _^_, _<_}
 use native.Mathlib.Omega.{arith}
 use lib.IntN.{ℤ}
 use lib.ListN.{getD, set, take}
-use borrow.Author.Tests.{eqb-true}
+use borrow.Author.Tests.{eqb-true, not-true, not-false}
 use mir.Syntax.{w32}
 use mir.Val.{toZ, ofZ}
 use mir.Facts.{toZ-ofZ}
@@ -15,7 +15,7 @@ use Rattle.decoding.specs.Walk.{value}
 use Rattle.decoding.specs.PathLaws.{hard-bit}
 use Rattle.walk.specs.Progress.{seen, front, Reached, Kept, Going, Extended}
 use Rattle.walk.specs.StepLaws.{short, value-small, sum-small}
-use Rattle.walk.specs.GoingLaws.{may-visit, may-not, not-true, not-false, not-full, full-step, within, frozen-stop, info-stop}
+use Rattle.walk.specs.GoingLaws.{may-visit, may-not, not-full, full-step, within, frozen-stop, info-stop}
 use Rattle.walk.specs.GoingLaws.{value-asked, value-is, value-going, reached-start, reached-given, frozen-dropped, reached-more}
 use Rattle.walk.specs.GoingLaws.{deeper-m, deeper-asked, deeper-given, deeper-kept, first-adds, first-undropped}
 use Rattle.walk.specs.GoingLaws.{second-stop, second-going, second-dropped, second-given}
@@ -126,7 +126,7 @@ abbrev Added : ℕ → Type 0
 Added t = frozen-step-lts.After-loss (frozen-step-calls t) (frozen-step-at t) frozen-step.Post frozen-step-Inv-loop frozen-step-μ-loop
 
 inside : (t : ℕ) (c : Turn t) → let o = c .before .before .before .loop in o .i < 2 ^ getD (o .state) 6 0
-inside t c = not-full (c .before .before .before .loop .inv .asked) (sym (c .before .full .ensures) ∙ not-true (c .if1 .taken))
+inside t c = not-full (c .before .before .before .loop .inv .asked) (sym (c .before .full .ensures) ∙ not-true _ (c .if1 .taken))
 
 short-turn : (t : ℕ) (c : Turn t) → c .before .before .before .loop .i < 256
 short-turn t c = within (c .before .before .before .loop .inv .asked) (inside t c)
@@ -259,7 +259,7 @@ frozen-step-finish-requires : (t : ℕ)
 frozen-step-finish-requires t c κs =
     let ended = c .before .before .before .before in
     let o = ended .before .before .before .loop in
-    let full = eqb-true (o .i) (2 ^ getD (o .state) 6 0) (sym (ended .before .full .ensures) ∙ not-false (ended .if1 .left)) in
+    let full = eqb-true (o .i) (2 ^ getD (o .state) 6 0) (sym (ended .before .full .ensures) ∙ not-false _ (ended .if1 .left)) in
     (short (o .inv .asked .ready), full, o .inv .asked .long)
 
 frozen-step-returns-4 : (t : ℕ)
@@ -267,7 +267,7 @@ frozen-step-returns-4 : (t : ℕ)
 frozen-step-returns-4 t c =
     let ended = c .before .before .before .before .before in
     let o = ended .before .before .before .loop in
-    let full = eqb-true (o .i) (2 ^ getD (o .state) 6 0) (sym (ended .before .full .ensures) ∙ not-false (ended .if1 .left)) in
+    let full = eqb-true (o .i) (2 ^ getD (o .state) 6 0) (sym (ended .before .full .ensures) ∙ not-false _ (ended .if1 .left)) in
     reached-given (o .inv) (full-step (o .inv .asked) full (c .finish .ensures))
 
 -- ---- the information step
