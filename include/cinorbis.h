@@ -32,6 +32,9 @@
 #include <stddef.h>
 #include <stdint.h>
 
+/* The archive is for processors with 64-bit addresses, lowest byte first: x86-64, aarch64, riscv64. */
+typedef char cinorbis_needs_64_bits[sizeof(size_t) == 8 ? 1 : -1];
+
 #ifdef __cplusplus
 extern "C" {
 #endif
@@ -62,8 +65,8 @@ extern "C" {
 enum cinorbis_refusal {
     CINORBIS_DONE = 0,
     CINORBIS_PARAMETERS = 1,    /* m > 8 or r > m (maps of positions: only m > 8; first-order words: also r other than 1) */
-    CINORBIS_INPUT_LENGTH = 2,  /* an input's length is not n (information bits: k), or what its call says */
-    CINORBIS_OUTPUT_LENGTH = 3, /* an output's length is not n (information bits: k), or too little room */
+    CINORBIS_INPUT_LENGTH = 2,  /* an input's length is not n (information bits: k; a map's table: m * m, its row: m; a packed part: a record's) */
+    CINORBIS_OUTPUT_LENGTH = 3, /* an output's length is not what it must be, or a buffer to be written into has too little room */
     CINORBIS_ENTRY = 4,         /* a reading beyond the largest, a float that is no whole number, or a bit byte above 1; place: the lowest such entry */
     CINORBIS_NOT_A_WORD = 5,    /* inverse: no information bits give the word; place: the lowest frozen index that is 1 */
     CINORBIS_OUT_OF_VISITS = 6, /* search: the walk needs more visits than allowed; visits: the allowance */
@@ -83,10 +86,10 @@ enum cinorbis_refusal {
 static inline const char *cinorbis_refusal_text(uint32_t refusal) {
     switch (refusal) {
     case CINORBIS_DONE: return "done";
-    case CINORBIS_PARAMETERS: return "no such code: m is above 8, or r above m, or the call takes no such r";
+    case CINORBIS_PARAMETERS: return "no code that this call takes: m is above 8, or r above m, or not 1 for first-order words";
     case CINORBIS_INPUT_LENGTH: return "an input has the wrong length";
-    case CINORBIS_OUTPUT_LENGTH: return "an output has the wrong length";
-    case CINORBIS_ENTRY: return "a reading is beyond the largest or no whole number, or a bit is above 1";
+    case CINORBIS_OUTPUT_LENGTH: return "an output has the wrong length, or too little room";
+    case CINORBIS_ENTRY: return "an entry is no reading (too large, or no whole number), or no bit";
     case CINORBIS_NOT_A_WORD: return "no information bits give this word";
     case CINORBIS_OUT_OF_VISITS: return "out of visits";
     case CINORBIS_TIED: return "tied: two words share the least penalty";
@@ -275,7 +278,7 @@ CINORBIS_CALL uint32_t cinorbis_search_record(uint32_t allowed, const uint8_t *b
  * stepping look at first bytes and lengths only: a pad bit is refused, as 9, only in the record asked for. */
 
 /* Makes the table of a whole capture. Out: the starts of the records 0, 16, 32 and so on, entries past those as they were, and the index. (records + 15)
- * / 16 entries are enough. Refuses 1 or 8, whichever is met first, then 3 where the table has too few entries. Promise: index::make. */
+ * / 16 entries are enough, and (capture_length / 3 + 15) / 16 always are, since a record has 3 bytes at least. Refuses 1 or 8, whichever is met first, then 3 where the table has too few entries. Promise: index::make. */
 CINORBIS_CALL uint32_t cinorbis_index_make(const uint8_t *capture, size_t capture_length, size_t *table, size_t entries, cinorbis_index *index);
 
 /* Record w, counted from 0, by the table's entry for its block. In: the part that is in use, index.used bytes and (index.records + 15) / 16 entries; an entry
@@ -286,8 +289,8 @@ CINORBIS_CALL uint32_t cinorbis_index_find(size_t w, const uint8_t *capture, siz
                                            cinorbis_entry *entry);
 
 /* Writes a record at the end of the used part of a capture's buffer, and its entry where its number is a multiple of 16. The index goes in and comes out; on
- * refusal it stays as it is. With the capture's own index and table, both are then those that cinorbis_index_make gives for the longer capture.
- * Refuses 1, 2, 4, then 3 where either buffer has too little room. Promise: index::append. */
+ * refusal it stays as it is. A new capture begins with an index of {0, 0}, and its table need not be set. Both lengths are the room here, not what is used. With the capture's own index and table, both are then those that cinorbis_index_make gives for the longer capture.
+ * Refuses 1, 2, 4, then 3 where either buffer has too little room, or the index counts 2^64 - 1 records. Promise: index::append. */
 CINORBIS_CALL uint32_t cinorbis_index_append(uint32_t r, uint32_t m, const int16_t *readings, size_t readings_length, uint8_t *capture,
                                              size_t capture_length, size_t *table, size_t entries, cinorbis_index *index,
                                              cinorbis_written *written);
