@@ -112,7 +112,8 @@ module _ {A : Type 0} (d : A) (size : A → ℕ) (limit : ℕ) where
       (λ k. rw (lt-ltb limit (size x) k) (record { below = omega arith; bad = k; lowest = λ j i. absurd (not-suc-le-zero i) }))
       (λ k.
       let rest = first-lowest l (le-of-suc-le-suc (rw (le-ltb limit (size x) k) at h)) in
-      rw (le-ltb limit (size x) k) (record { below = omega (arith, rest .below); bad = rest .bad; lowest = good-more x l (firstAbove size limit l) k (rest .lowest) }))
+      let more = good-more x l (firstAbove size limit l) k (rest .lowest) in
+      rw (le-ltb limit (size x) k) (record { below = omega (arith, rest .below); bad = rest .bad; lowest = more }))
       (lt-or-le limit (size x))
 
   -- check 4, by a call that compares the first such place with the length

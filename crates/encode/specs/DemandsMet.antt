@@ -75,4 +75,5 @@ module _ (r m : ℕ) where
   inverse-demand-1 word bits =
       let rest = takingBack (takenBack m (kinds r m) word) bits in
       demand-1 (bits ∷ []) (view (inverting r m word bits)) (inverseChecks r m word bits)
-      (decides-tested r m word (2 ^ m) bits (dimension r m) rest (frozenCheck m (kinds r m) word) (decides-frozen m (kinds r m) (length-kinds r m) (bits-kinds r m) word bits))
+      (decides-tested r m word (2 ^ m) bits (dimension r m) rest (frozenCheck m (kinds r m) word)
+      (decides-frozen m (kinds r m) (length-kinds r m) (bits-kinds r m) word bits))
