@@ -9,7 +9,6 @@ use Rattle.words.specs.Kinds.{dimension}
 use Rattle.code.specs.declared.Refusal.{Refusal}
 use Rattle.code.specs.declared.Refusal.the-variants.{Parameters, InputLength, OutputLength, Entry}
 use Rattle.code.specs.Sound.{largestM, largestReading, carried, numberOf}
-use Rattle.code.specs.Entries.{firstAbove}
 
 -- what a call tells, in the rules' numbers, and the lent buffers as it leaves them
 pub record View : Type 0 where
@@ -30,15 +29,19 @@ refusedAs why before =
 pub data Checks : Type 1 where
   passed : Checks
   check : Refusal → Type 0 → Checks → Checks
+  -- refused with the place at which it applies
+  checkAt : (ℕ → Refusal) → (ℕ → Type 0) → Checks → Checks
 
 -- the first check that applies gives such a refusal
 abbrev pub First : (Refusal → Type 0) → Checks → Type 0
 First such passed = ⊥
 First such (check why applies rest) = (such why × applies) ⊎ ((applies → ⊥) × First such rest)
+First such (checkAt why applies rest) = ((p : ℕ) × such (why p) × applies p) ⊎ (((p : ℕ) → applies p → ⊥) × First such rest)
 
 abbrev pub NoneApplies : Checks → Type 0
 NoneApplies passed = Unit {0}
 NoneApplies (check why applies rest) = (applies → ⊥) × NoneApplies rest
+NoneApplies (checkAt why applies rest) = ((p : ℕ) → applies p → ⊥) × NoneApplies rest
 
 pub record Demand1 (checks : Checks) (before : List (List ℕ)) (o : View) : Type 0 where
   -- each number is given exactly if the first check that applies gives it
@@ -60,11 +63,10 @@ pub record LowestBad {A : Type 0} (d : A) (size : A → ℕ) (limit : ℕ) (l : 
 -- the input l should have this length, and `outputs` says that the lent outputs have theirs
 abbrev pub firstChecks : {A : Type 0} → A → (A → ℕ) → ℕ → ℕ → ℕ → List A → ℕ → Type 0 → Checks → Checks
 firstChecks d size limit r m l due outputs rest =
-    let place = firstAbove size limit l in
     check Parameters ((largestM < m) ⊎ (m < r))
     (check InputLength (length l ≡ due → ⊥)
     (check OutputLength (outputs → ⊥)
-    (check (Entry place) (LowestBad d size limit l place) rest)))
+    (checkAt Entry (LowestBad d size limit l) rest)))
 
 -- of readings, and the lengths of the lent outputs for the information bits, of which so many are due, and the word
 abbrev pub readingChecksFor : ℕ → ℕ → ℕ → List ℤ → ℕ → ℕ → Checks → Checks

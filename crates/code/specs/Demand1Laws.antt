@@ -1,5 +1,5 @@
 -- Demand 1 follows where the checks are made in their order, each on what the checks before it leave.
-use mathlib.Core.Path.{_≡_, refl, ap, sym, _∙_}
+use mathlib.Core.Path.{_≡_, refl, ap, sym, subst, _∙_}
 use mathlib.Core.Logic.{_⊎_, inl, inr, ⊎-elim}
 use mathlib.Core.List.{List, [], _∷_}
 use Prim.Native.Nat.{ℕ, zero, suc, _^_, _≤_, _<_}
@@ -20,17 +20,20 @@ use Rattle.code.specs.SoundInput.{dimensionOf, GoodReadings, SoundFor, S
 use Rattle.code.specs.SoundLaws.{made-large, made-crossed, made-good}
 use Rattle.code.specs.RefusalLaws.{number-above}
 use Rattle.code.specs.Entries.{firstAbove, firstBadReading}
-use Rattle.code.specs.EntriesLaws.{good-readings}
+use Rattle.code.specs.EntriesLaws.{first-here, all-good, good-readings}
 use Rattle.code.specs.Admitted.{admittedFor, admitted}
 use Rattle.code.specs.AdmittedLaws.{refused-parameters, tested-made, refused-input, refused-bits, refused-word, refused-entry}
-use Rattle.code.specs.Demand1.{View, refusedAs, Checks, passed, check, First, NoneApplies, Demand1, LowestBad, firstChecks, readingChecksFor}
-use Rattle.code.specs.Demand1.{readingChecks}
+use Rattle.code.specs.Demand1.{View, refusedAs, Checks, passed, check, checkAt, First, NoneApplies, Demand1, LowestBad}
+use Rattle.code.specs.Demand1.{firstChecks, readingChecksFor, readingChecks}
 
 module _ (before : List (List ℕ)) (o : View) where
   -- the first check that applies refuses; where none does, nothing is refused
   abbrev pub Decides : Checks → Type 0
   Decides passed = (o .number ≡ 0) × (o .place ≡ 0)
   Decides (check why applies rest) = (applies × (o ≡ refusedAs why before)) ⊎ ((applies → ⊥) × Decides rest)
+  -- at one place only
+  Decides (checkAt why applies rest) =
+      ((p : ℕ) × applies p × ((q : ℕ) → applies q → q ≡ p) × (o ≡ refusedAs (why p) before)) ⊎ (((p : ℕ) → applies p → ⊥) × Decides rest)
 
   first-given : (such : Refusal → Type 0) (checks : Checks) → Decides checks → First such checks → (why : Refusal) × such why × (o ≡ refusedAs why before)
   first-given such passed d f = absurd f
@@ -39,11 +42,18 @@ module _ (before : List (List ℕ)) (o : View) where
       (λ x. ⊎-elim (λ y. (why, x .0, y .1)) (λ y. absurd (y .0 (x .1))) d)
       (λ x. ⊎-elim (λ y. absurd (x .0 (y .0))) (λ y. first-given such rest (y .1) (x .1)) d)
       f
+  first-given such (checkAt why applies rest) d f =
+      ⊎-elim
+      (λ x. ⊎-elim (λ y. (why (y .0), subst (λ (p : ℕ). such (why p)) (y .2 (x .0) (x .2)) (x .1), y .3)) (λ y. absurd (y .0 (x .0) (x .2))) d)
+      (λ x. ⊎-elim (λ y. absurd (x .0 (y .0) (y .1))) (λ y. first-given such rest (y .1) (x .1)) d)
+      f
 
   number-given : (checks : Checks) → Decides checks → (n : ℕ) → 0 < n → o .number ≡ n → First (λ why. numberOf why ≡ n) checks
   number-given passed d n h e = absurd (omega arith)
   number-given (check why applies rest) d n h e =
       ⊎-elim (λ x. inl (ap (λ (v : View). v .number) (sym (x .1)) ∙ e, x .0)) (λ x. inr (x .0, number-given rest (x .1) n h e)) d
+  number-given (checkAt why applies rest) d n h e =
+      ⊎-elim (λ x. inl (x .0, ap (λ (v : View). v .number) (sym (x .3)) ∙ e, x .1)) (λ x. inr (x .0, number-given rest (x .1) n h e)) d
 
   none-given : (checks : Checks) → Decides checks → o .number ≡ 0 → NoneApplies checks
   none-given passed d e = tt
@@ -52,15 +62,23 @@ module _ (before : List (List ℕ)) (o : View) where
       (λ x. absurd (omega (arith, number-above why, ap (λ (v : View). v .number) (x .1))))
       (λ x. (x .0, none-given rest (x .1) e))
       d
+  none-given (checkAt why applies rest) d e =
+      ⊎-elim
+      (λ x. absurd (omega (arith, number-above (why (x .0)), ap (λ (v : View). v .number) (x .3))))
+      (λ x. (x .0, none-given rest (x .1) e))
+      d
 
   given-none : (checks : Checks) → Decides checks → NoneApplies checks → o .number ≡ 0
   given-none passed d n = d .0
   given-none (check why applies rest) d n = ⊎-elim (λ x. absurd (n .0 (x .0))) (λ x. given-none rest (x .1) (n .1)) d
+  given-none (checkAt why applies rest) d n = ⊎-elim (λ x. absurd (n .0 (x .0) (x .1))) (λ x. given-none rest (x .1) (n .1)) d
 
   refused-or-done : (checks : Checks) → Decides checks → ((o .number ≡ 0) × (o .place ≡ 0)) ⊎ ((0 < o .number) × (o .buffers ≡ before))
   refused-or-done passed d = inl d
   refused-or-done (check why applies rest) d =
       ⊎-elim (λ x. inr (rw (x .1) (number-above why, refl))) (λ x. refused-or-done rest (x .1)) d
+  refused-or-done (checkAt why applies rest) d =
+      ⊎-elim (λ x. inr (rw (x .3) (number-above (why (x .0)), refl))) (λ x. refused-or-done rest (x .1)) d
 
   pub demand-1 : (checks : Checks) → Decides checks → Demand1 checks before o
   demand-1 checks d =
@@ -86,7 +104,7 @@ module _ {A : Type 0} (d : A) (size : A → ℕ) (limit : ℕ) where
   good-more x l p k f zero h = k
   good-more x l p k f (suc j) h = f j (le-of-suc-le-suc h)
 
-  pub first-lowest : (l : List A) → firstAbove size limit l < length l → LowestBad d size limit l (firstAbove size limit l)
+  first-lowest : (l : List A) → firstAbove size limit l < length l → LowestBad d size limit l (firstAbove size limit l)
   unfolding firstAbove
   first-lowest [] h = absurd (not-suc-le-zero h)
   first-lowest (x ∷ l) h =
@@ -94,12 +112,19 @@ module _ {A : Type 0} (d : A) (size : A → ℕ) (limit : ℕ) where
       (λ k. rw (lt-ltb limit (size x) k) (record { below = omega arith; bad = k; lowest = λ j i. absurd (not-suc-le-zero i) }))
       (λ k.
       let rest = first-lowest l (le-of-suc-le-suc (rw (le-ltb limit (size x) k) at h)) in
-      rw (le-ltb limit (size x) k) (record {
-        below = omega (arith, rest .below);
-        bad = rest .bad;
-        lowest = good-more x l (firstAbove size limit l) k (rest .lowest);
-      }))
+      let more = good-more x l (firstAbove size limit l) k (rest .lowest) in
+      rw (le-ltb limit (size x) k) (record { below = omega (arith, rest .below); bad = rest .bad; lowest = more }))
       (lt-or-le limit (size x))
+
+  -- check 4, by a call that compares the first such place with the length
+  pub decides-entry : (l : List A) (before : List (List ℕ)) (o : View) (rest : Checks)
+      → (firstAbove size limit l < length l → o ≡ refusedAs (Entry (firstAbove size limit l)) before)
+      → (length l ≤ firstAbove size limit l → Decides before o rest) → Decides before o (checkAt Entry (LowestBad d size limit l) rest)
+  decides-entry l before o rest four else =
+      ⊎-elim
+      (λ h. inl (firstAbove size limit l, first-lowest l h, λ q b. first-here d size limit l q (b .lowest) (b .below) (b .bad), four h))
+      (λ h. inr (λ p b. omega (arith, b .bad, all-good d size limit l h p (b .below)), else h))
+      (lt-or-le (firstAbove size limit l) (length l))
 
   -- each check by the call, on what the checks before it leave
   pub record MadeFirst (r m : ℕ) (l : List A) (due : ℕ) (outputs : Type 0) (before : List (List ℕ)) (o : View) (rest : Checks) : Type 0 where
@@ -128,10 +153,7 @@ module _ {A : Type 0} (d : A) (size : A → ℕ) (limit : ℕ) where
             ⊎-elim
                 (λ out. inr (
                   λ f. f out,
-                  ⊎-elim
-                      (λ h. inl (first-lowest l h, by .four sound e out h))
-                      (λ h. inr (λ f. omega (arith, f .below), by .else sound e out h))
-                      (lt-or-le (firstAbove size limit l) (length l)),
+                  decides-entry l before o rest (by .four sound e out) (by .else sound e out),
                 ))
                 (λ no-out. inl (no-out, by .three sound e no-out))
                 (by .decidable),

@@ -4,9 +4,9 @@ use Prim.Native.Nat.{ℕ, _^_}
 use lib.ListN.{length}
 use Rattle.words.specs.Word.{transform}
 use Rattle.words.specs.Kinds.{kinds, dimension}
-use Rattle.words.specs.Inverse.{firstFrozenOne, LowestFrozenOne}
+use Rattle.words.specs.Inverse.{LowestFrozenOne}
 use Rattle.code.specs.declared.Refusal.the-variants.{NotAWord}
-use Rattle.code.specs.Demand1.{View, Checks, passed, check, bitChecks, Demand1}
+use Rattle.code.specs.Demand1.{View, Checks, passed, checkAt, bitChecks, Demand1}
 use Rattle.encode.specs.Outcome.{Outcome, encoding, inverting}
 
 abbrev pub view : Outcome → View
@@ -17,10 +17,7 @@ encodeChecks r m bits word = bitChecks r m bits (dimension r m) (length word) (2
 
 -- some frozen index of the row u that the word comes from is 1
 abbrev pub frozenCheck : ℕ → List ℕ → List ℕ → Checks
-frozenCheck m ks word =
-    let u = transform m word in
-    let index = firstFrozenOne ks u in
-    check (NotAWord index) (LowestFrozenOne ks u index) passed
+frozenCheck m ks word = checkAt NotAWord (LowestFrozenOne ks (transform m word)) passed
 
 abbrev pub inverseChecks : ℕ → ℕ → List ℕ → List ℕ → Checks
 inverseChecks r m word bits = bitChecks r m word (2 ^ m) (length bits) (dimension r m) (frozenCheck m (kinds r m) word)

@@ -10,10 +10,10 @@ use borrow.Author.Tests.{lt-ltb, le-ltb}
 use Rattle.numbers.specs.Choice.{lt-or-le}
 use Rattle.words.specs.Bits.{Bits}
 use Rattle.words.specs.Word.{transform}
-use Rattle.words.specs.Kinds.{kinds, dimension, encoded}
+use Rattle.words.specs.Kinds.{kinds, dimension, pick, encoded}
 use Rattle.words.specs.KindLaws.{length-kinds, bits-kinds}
-use Rattle.words.specs.Inverse.{frozenOne, firstFrozenOne, takenBack}
-use Rattle.words.specs.InverseLaws.{lowest-refused}
+use Rattle.words.specs.Inverse.{taken, frozenOne, firstFrozenOne, takenBack}
+use Rattle.words.specs.InverseLaws.{refused-lowest, lowest-refused}
 use Rattle.code.specs.declared.Made.the-variants.{Good}
 use Rattle.code.specs.Sound.{Sound, made, rm}
 use Rattle.code.specs.SoundLaws.{made-good}
@@ -50,12 +50,16 @@ pub decides-frozen : (m : ℕ) (ks : List ℕ) → length ks ≡ 2 ^ m → Bits 
     → Decides (bits ∷ []) (view (takingBack (takenBack m ks word) bits)) (frozenCheck m ks word)
 unfolding takenBack
 decides-frozen m ks long-kinds kinds-are word bits long are =
-    let i = firstFrozenOne ks (transform m word) in
+    let u = transform m word in
+    let i = firstFrozenOne ks u in
+    let refused = refused-lowest m ks word long-kinds kinds-are long are in
     ⊎-elim
     (λ h.
     let is : takenBack m ks word ≡ frozenOne i = rw (lt-ltb i (length ks) h) in
-    inl (lowest-refused m ks word long-kinds kinds-are long are i is, rw (lt-ltb i (length ks) h)))
-    (λ h. inr (λ f. omega (arith, f .below), rw (le-ltb i (length ks) h) (refl, refl)))
+    inl (i, lowest-refused m ks word long-kinds kinds-are long are i is, λ q l. cc (is, refused q l), rw (lt-ltb i (length ks) h)))
+    (λ h.
+    let is : takenBack m ks word ≡ taken (pick ks u) = rw (le-ltb i (length ks) h) in
+    inr (λ q l. let z : _≡_ {A = ℕ} 0 1 = cc (is, refused q l) in omega arith, rw (le-ltb i (length ks) h) (refl, refl)))
     (lt-or-le i (length ks))
 
 module _ (r m : ℕ) where
@@ -71,4 +75,5 @@ module _ (r m : ℕ) where
   inverse-demand-1 word bits =
       let rest = takingBack (takenBack m (kinds r m) word) bits in
       demand-1 (bits ∷ []) (view (inverting r m word bits)) (inverseChecks r m word bits)
-      (decides-tested r m word (2 ^ m) bits (dimension r m) rest (frozenCheck m (kinds r m) word) (decides-frozen m (kinds r m) (length-kinds r m) (bits-kinds r m) word bits))
+      (decides-tested r m word (2 ^ m) bits (dimension r m) rest (frozenCheck m (kinds r m) word)
+      (decides-frozen m (kinds r m) (length-kinds r m) (bits-kinds r m) word bits))

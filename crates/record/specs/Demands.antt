@@ -9,8 +9,7 @@ use lib.ListN.{length, getD}
 use Rattle.words.specs.Kinds.{dimension}
 use Rattle.code.specs.declared.Refusal.the-variants.{Parameters, InputLength, OutputLength, Entry, Torn, Pad}
 use Rattle.code.specs.Sound.{largestM, largestRecordReading, rm}
-use Rattle.code.specs.Entries.{firstBadReading}
-use Rattle.code.specs.Demand1.{View, Checks, passed, check, LowestBad, Demand1}
+use Rattle.code.specs.Demand1.{View, Checks, passed, check, checkAt, LowestBad, Demand1}
 use Rattle.search.specs.Demands.{view, walkChecks}
 use Rattle.packing.specs.Layout.{recordOf, partLength, padOf}
 use Rattle.record.specs.Reader.{partOf, readingsOf, HeaderOutcome, headerOf, told}
@@ -73,10 +72,9 @@ writtenView o =
 -- too little room from the place on; a place at or beyond the end leaves none
 abbrev pub writeChecks : ℕ → ℕ → List ℤ → List ℕ → ℕ → Checks
 writeChecks r m l buffer place =
-    let bad = firstBadReading largestRecordReading l in
     check Parameters ((largestM < m) ⊎ (m < r))
     (check InputLength (length l ≡ 2 ^ m → ⊥)
-    (check (Entry bad) (LowestBad (pos 0) natAbs largestRecordReading l bad)
+    (checkAt Entry (LowestBad (pos 0) natAbs largestRecordReading l)
     (check OutputLength (length buffer < place + length (recordOf r m l)) passed)))
 
 abbrev pub WriteDemand1 : ℕ → ℕ → List ℤ → List ℕ → ℕ → Type 0

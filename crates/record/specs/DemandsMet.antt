@@ -11,11 +11,10 @@ use Rattle.words.specs.Kinds.{dimension}
 use Rattle.code.specs.declared.Code.{Code}
 use Rattle.code.specs.declared.Refusal.{Refusal}
 use Rattle.code.specs.declared.Refusal.the-variants.{Parameters, OutputLength, Torn, Pad}
-use Rattle.code.specs.Sound.{Sound, largestM, largestReading, rm}
+use Rattle.code.specs.Sound.{Sound, largestM, rm}
 use Rattle.code.specs.declared.Made.the-variants.{Good}
 use Rattle.code.specs.SoundLaws.{made-large, made-crossed, made-good, made-of}
 use Rattle.code.specs.RefusalLaws.{number-above}
-use Rattle.code.specs.Entries.{firstBadReading}
 use Rattle.code.specs.Demand1.{View, refusedAs, Checks, passed, check}
 use Rattle.code.specs.Demand1Laws.{Decides, demand-1}
 use Rattle.search.specs.Outcome.{searching}
@@ -109,7 +108,7 @@ module _ (allowed : ℕ) (bits word : List ℕ) where
       (λ z. inr (
         z .0,
         ⊎-elim
-            (λ u. absurd (omega (arith, u .0 .bad, readings-allowed (rm r m) s (firstBadReading largestReading l))))
+            (λ u. absurd (omega (arith, u .1 .bad, readings-allowed (rm r m) s (u .0))))
             (λ u. u .1)
             (z .1),
       ))

@@ -2,7 +2,7 @@
 use mathlib.Core.Path.{_≡_, refl, ap, sym}
 use mathlib.Core.Logic.{inl, inr, ⊎-elim}
 use mathlib.Core.List.{List, [], _∷_}
-use Prim.Native.Nat.{ℕ, suc, _-_, _^_}
+use Prim.Native.Nat.{ℕ, suc, _+_, _-_, _^_, _<_}
 use native.Mathlib.Omega.{arith}
 use native.Mathlib.Decide.{ℕ-discrete}
 use lib.IntN.{ℤ, pos, natAbs}
@@ -10,13 +10,13 @@ use lib.ListN.{length}
 use Rattle.numbers.specs.Choice.{lt-or-le}
 use Rattle.code.specs.Sound.{largestM, largestRecordReading, rm}
 use Rattle.code.specs.SoundLaws.{made-large, made-crossed, made-good}
-use Rattle.code.specs.Entries.{firstBadReading}
-use Rattle.code.specs.Demand1.{refusedAs}
-use Rattle.code.specs.Demand1Laws.{Decides, demand-1, first-lowest}
+use Rattle.code.specs.Demand1.{refusedAs, Checks, passed, check}
+use Rattle.code.specs.Demand1Laws.{Decides, demand-1, decides-entry}
 use Rattle.code.specs.declared.Refusal.{Refusal}
+use Rattle.code.specs.declared.Refusal.the-variants.{OutputLength}
 use Rattle.code.specs.declared.Admitted.{Admitted}
 use Rattle.code.specs.declared.Admitted.the-variants as admission
-use Rattle.packing.specs.Layout.{partLength}
+use Rattle.packing.specs.Layout.{recordOf, partLength}
 use Rattle.packing.specs.LayoutLaws.{length-record}
 use Rattle.record.specs.Writing.{writable, writtenBy, writing}
 use Rattle.record.specs.WritingLaws.{not-made, not-long, not-good, no-room, may-write}
@@ -30,8 +30,9 @@ module _ (r m : ℕ) (l : List ℤ) (d : List ℕ) (place : ℕ) where
   write-decides : Decides (d ∷ []) (writtenView (writing r m l d place)) (writeChecks r m l d place)
   unfolding writing
   write-decides =
-      let bad = firstBadReading largestRecordReading l in
       let n = length d in
+      let o = writtenView (writing r m l d place) in
+      let room : Checks = check OutputLength (length d < place + length (recordOf r m l)) passed in
       ⊎-elim
       (λ large. inl (inl large, refuses _ (not-made r m l n place (made-large r m large))))
       (λ small. ⊎-elim
@@ -44,19 +45,15 @@ module _ (r m : ℕ) (l : List ℤ) (d : List ℕ) (place : ℕ) where
           | no f ↦ inl (f, refuses _ (not-long r m l n place (rm r m) good f))
           | yes e ↦ inr (
             λ f. f e,
-            ⊎-elim
-                (λ h. inl (first-lowest (pos 0) natAbs largestRecordReading l h, refuses _ (not-good r m l n place (rm r m) good e h)))
-                (λ h. inr (
-                  λ low. omega (arith, low .below),
-                  ⊎-elim
-                      (λ g. inl (omega (arith, length-record r m l e), refuses _ (no-room r m l n place (rm r m) good e h g)))
-                      (λ g. inr (
-                        λ x. omega (arith, length-record r m l e),
-                        rw (← may-write r m l n place (rm r m) good e h g) (refl, refl),
-                      ))
-                      (lt-or-le (n - place) (suc (partLength m))),
+            decides-entry (pos 0) natAbs largestRecordReading l (d ∷ []) o room
+                (λ h. refuses _ (not-good r m l n place (rm r m) good e h))
+                (λ h. ⊎-elim
+                (λ g. inl (omega (arith, length-record r m l e), refuses _ (no-room r m l n place (rm r m) good e h g)))
+                (λ g. inr (
+                  λ x. omega (arith, length-record r m l e),
+                  rw (← may-write r m l n place (rm r m) good e h g) (refl, refl),
                 ))
-                (lt-or-le bad (length l)),
+                (lt-or-le (n - place) (suc (partLength m)))),
           )
         ],
       ))

@@ -16,8 +16,8 @@ use Rattle.code.specs.declared.Refusal.the-variants.{Parameters, InputLength, O
 use Rattle.code.specs.Sound.{largestM, largestReading}
 use Rattle.code.specs.Entries.{firstAbove, firstBadBit, firstBadReading}
 use Rattle.code.specs.EntriesLaws.{first-none}
-use Rattle.code.specs.Demand1.{Checks, passed, check, LowestBad}
-use Rattle.code.specs.Demand1Laws.{Decides, demand-1, first-lowest}
+use Rattle.code.specs.Demand1.{Checks, passed, checkAt, LowestBad}
+use Rattle.code.specs.Demand1Laws.{Decides, demand-1, decides-entry}
 use Rattle.maps.specs.Maps as Maps
 use Rattle.maps.specs.Maps.{reordered, productTable, productRow, Undoes, Apart, undoTable, undoRow}
 use Rattle.maps.specs.UndoLaws.{undoable-apart, undo-before, undo-after}
@@ -121,14 +121,12 @@ module _ {B : Type 0} (lent : B) where
 
   -- 4, by the lowest bad place
   entry-decides : {A : Type 0} (d : A) (size : A → ℕ) (limit : ℕ) (l : List A) (x : B)
-      → let place = firstAbove size limit l in Decides [] (reorderView (entryTested lent place (length l) (done x))) (check (Entry place)
-      (LowestBad d size limit l place) passed)
+      → Decides [] (reorderView (entryTested lent (firstAbove size limit l) (length l) (done x))) (checkAt Entry (LowestBad d size limit l) passed)
   entry-decides d size limit l x =
       let place = firstAbove size limit l in
-      ⊎-elim
-      (λ h. inl (first-lowest d size limit l h, rw (lt-ltb place (length l) h)))
-      (λ h. inr (λ f. omega (arith, f .below), rw (le-ltb place (length l) h) (refl, refl)))
-      (lt-or-le place (length l))
+      decides-entry d size limit l [] (reorderView (entryTested lent place (length l) (done x))) passed
+      (λ h. rw (lt-ltb place (length l) h))
+      (λ h. rw (le-ltb place (length l) h) (refl, refl))
 
   -- what is lent stays where anything is refused
   Kept : Outcome B → Type 0
@@ -187,7 +185,7 @@ module _ (m : ℕ) (A b : List ℕ) where
       let moved = reordered (pos 0) m A b l in
       met out m (isLong m (length A) (length b) && eqb (length l) (2 ^ m)) (eqb (length out) (2 ^ m)) (isMap m A b) (LongMap m A b × (length l ≡ 2 ^ m))
       (length out ≡ 2 ^ m) (Good m A b) (with-entries (length l)) (equal-exactly (length out) (2 ^ m)) (λ h p. good-exactly h (p .0))
-      (entryTested out place (length l) (done moved)) (check (Entry place) (LowestBad (pos 0) natAbs largestReading l place) passed)
+      (entryTested out place (length l) (done moved)) (checkAt Entry (LowestBad (pos 0) natAbs largestReading l) passed)
       (entry-decides out (pos 0) natAbs largestReading l moved) (kept-entry out place (length l) moved)
 
   reorder-word-met : (x out : List ℕ) → ReorderDemand1 (reorderWordChecks m A b x out) out (reorderingWord m A b x out)
@@ -197,7 +195,7 @@ module _ (m : ℕ) (A b : List ℕ) where
       let moved = reordered 0 m A b x in
       met out m (isLong m (length A) (length b) && eqb (length x) (2 ^ m)) (eqb (length out) (2 ^ m)) (isMap m A b) (LongMap m A b × (length x ≡ 2 ^ m))
       (length out ≡ 2 ^ m) (Good m A b) (with-entries (length x)) (equal-exactly (length out) (2 ^ m)) (λ h p. good-exactly h (p .0))
-      (entryTested out place (length x) (done moved)) (check (Entry place) (LowestBad 0 (λ b. b) 1 x place) passed)
+      (entryTested out place (length x) (done moved)) (checkAt Entry (LowestBad 0 (λ b. b) 1 x) passed)
       (entry-decides out 0 (λ b. b) 1 x moved) (kept-entry out place (length x) moved)
 
   undo-met : (C c : List ℕ) → ReorderDemand1 (undoChecks m A b C c) (C, c) (undoing m A b C c)

@@ -7,8 +7,7 @@ use lib.ListN.{length}
 use Rattle.words.specs.Kinds.{dimension}
 use Rattle.code.specs.declared.Refusal.the-variants.{Parameters, InputLength, OutputLength, Entry, Map}
 use Rattle.code.specs.Sound.{largestM, largestReading}
-use Rattle.code.specs.Entries.{firstBadBit, firstBadReading}
-use Rattle.code.specs.Demand1.{View, Checks, passed, check, LowestBad, Demand1}
+use Rattle.code.specs.Demand1.{View, Checks, passed, check, checkAt, LowestBad, Demand1}
 use Rattle.maps.specs.Maps as Maps
 use Rattle.maps.specs.Maps.{reordered, Undoes, Undoable}
 use Rattle.search.specs.Outcome as Search
@@ -31,14 +30,12 @@ mapChecks m inputs outputs maps rest =
 
 abbrev pub reorderChecks : ℕ → List ℕ → List ℕ → List ℤ → List ℤ → Checks
 reorderChecks m A b l out =
-    let place = firstBadReading largestReading l in
     mapChecks m (LongMap m A b × (length l ≡ 2 ^ m)) (length out ≡ 2 ^ m) (Good m A b)
-    (check (Entry place) (LowestBad (pos 0) natAbs largestReading l place) passed)
+    (checkAt Entry (LowestBad (pos 0) natAbs largestReading l) passed)
 
 abbrev pub reorderWordChecks : ℕ → List ℕ → List ℕ → List ℕ → List ℕ → Checks
 reorderWordChecks m A b x out =
-    let place = firstBadBit x in
-    mapChecks m (LongMap m A b × (length x ≡ 2 ^ m)) (length out ≡ 2 ^ m) (Good m A b) (check (Entry place) (LowestBad 0 (λ b. b) 1 x place) passed)
+    mapChecks m (LongMap m A b × (length x ≡ 2 ^ m)) (length out ≡ 2 ^ m) (Good m A b) (checkAt Entry (LowestBad 0 (λ b. b) 1 x) passed)
 
 abbrev pub undoChecks : ℕ → List ℕ → List ℕ → List ℕ → List ℕ → Checks
 undoChecks m A b C c = mapChecks m (LongMap m A b) (LongMap m C c) (Good m A b) passed

@@ -11,7 +11,7 @@ use Rattle.decoding.specs.Best.{leastPenalty}
 use Rattle.code.specs.declared.Refusal.{Refusal}
 use Rattle.code.specs.declared.Refusal.the-variants.{Named}
 use Rattle.code.specs.Sound.{rm}
-use Rattle.code.specs.Demand1.{Checks, passed, check, bitChecks, readingChecksFor, Demand1}
+use Rattle.code.specs.Demand1.{Checks, passed, check, checkAt, bitChecks, readingChecksFor, Demand1}
 use Rattle.named.specs.Named.{GoodRow}
 use Rattle.encode.specs.Demands as encoder
 use Rattle.quick.specs.Outcome as reader
@@ -22,6 +22,7 @@ use Rattle.shortened.specs.Outcome.{leftOf, encodingShortened, inverting
 abbrev pub afterFirst : Refusal → Type 0 → Checks → Checks
 afterFirst why applies passed = check why applies passed
 afterFirst why applies (check first when rest) = check first when (check why applies rest)
+afterFirst why applies (checkAt first when rest) = checkAt first when (check why applies rest)
 
 -- the row is no good one
 abbrev pub withRow : ℕ → ℕ → List ℕ → Checks → Checks
@@ -38,16 +39,16 @@ inverseChecks r m named word bits =
 abbrev pub quickChecks : ℕ → ℕ → List ℕ → List ℤ → List ℕ → List ℕ → Checks
 quickChecks r m named l bits word = withRow r m named (readingChecksFor (sum (leftOf named (rm r m))) r m l (length bits) (length word) passed)
 
-abbrev pub EncodeDemand1 : ℕ → ℕ → List ℕ → List ℕ → List ℕ → Type 0
-EncodeDemand1 r m named bits word =
+abbrev pub EncodeShortenedDemand1 : ℕ → ℕ → List ℕ → List ℕ → List ℕ → Type 0
+EncodeShortenedDemand1 r m named bits word =
     Demand1 (encodeChecks r m named bits word) (word ∷ []) (encoder.view (encodingShortened r m named bits word))
 
-abbrev pub InverseDemand1 : ℕ → ℕ → List ℕ → List ℕ → List ℕ → Type 0
-InverseDemand1 r m named word bits =
+abbrev pub InverseShortenedDemand1 : ℕ → ℕ → List ℕ → List ℕ → List ℕ → Type 0
+InverseShortenedDemand1 r m named word bits =
     Demand1 (inverseChecks r m named word bits) (bits ∷ []) (encoder.view (invertingShortened r m named word bits))
 
-abbrev pub QuickDemand1 : ℕ → ℕ → List ℕ → List ℤ → List ℕ → List ℕ → Type 0
-QuickDemand1 r m named l bits word =
+abbrev pub QuickShortenedDemand1 : ℕ → ℕ → List ℕ → List ℤ → List ℕ → List ℕ → Type 0
+QuickShortenedDemand1 r m named l bits word =
     Demand1 (quickChecks r m named l bits word) (bits ∷ word ∷ []) (quick.view (quickShortened r m named l bits word))
 
 -- ---- what a quick reading that is done says: a word of the smaller set, with its bits and its own penalty

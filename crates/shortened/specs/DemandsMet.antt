@@ -24,7 +24,7 @@ use Rattle.code.specs.SoundInput.{GoodReadings, SoundFor}
 use Rattle.code.specs.Admitted.{admittedFor}
 use Rattle.code.specs.AdmittedLaws.{tested-made, refused-small-for, sound-allowed-for}
 use Rattle.code.specs.RefusalLaws.{carries-none}
-use Rattle.code.specs.Demand1.{View, refusedAs, Checks, passed, check, bitChecks, readingChecksFor}
+use Rattle.code.specs.Demand1.{View, refusedAs, Checks, passed, check, checkAt, bitChecks, readingChecksFor}
 use Rattle.code.specs.Demand1Laws.{Decides, demand-1, decides-readings-for}
 use Rattle.named.specs.Named.{GoodRow, rowAdmitted}
 use Rattle.named.specs.NamedLaws.{left-frozen, bad-parameters, bad-row, sound-row, row-decided}
@@ -37,7 +37,8 @@ use Rattle.shortened.specs.Outcome.{leftOf, readingOver, quickOver, enco
 use Rattle.shortened.specs.WorkLaws.{long-left, are-left}
 use Rattle.shortened.specs.OutcomeLaws.{encoding-refused, inverting-refused, quick-refused, over-refused}
 use Rattle.shortened.specs.OutcomeLaws.{encoding-left, inverting-left, quick-left, over-done}
-use Rattle.shortened.specs.Demands.{encodeChecks, inverseChecks, quickChecks, EncodeDemand1, InverseDemand1, QuickDemand1, QuickDone}
+use Rattle.shortened.specs.Demands.{encodeChecks, inverseChecks, quickChecks, QuickDone}
+use Rattle.shortened.specs.Demands.{EncodeShortenedDemand1, InverseShortenedDemand1, QuickShortenedDemand1}
 
 -- ---- the tests 1 and 12, before any others
 module _ (r m : ℕ) where
@@ -71,13 +72,14 @@ module _ (r m : ℕ) where
 abbrev pub afterOne : Checks → Checks
 afterOne passed = passed
 afterOne (check why applies rest) = rest
+afterOne (checkAt why applies rest) = rest
 
 -- ---- Demand 1
 module _ (r m : ℕ) (named : List ℕ) where
   abbrev ks : List ℕ
   ks = leftOf named (rm r m)
 
-  pub encode-demand-1 : (bits word : List ℕ) → EncodeDemand1 r m named bits word
+  pub encode-demand-1 : (bits word : List ℕ) → EncodeShortenedDemand1 r m named bits word
   encode-demand-1 bits word =
       let before = word ∷ [] in
       let o = encoders.view (encodingShortened r m named bits word) in
@@ -88,7 +90,7 @@ module _ (r m : ℕ) (named : List ℕ) where
       (λ s e. rw (← encoding-left r m named (rm r m) e bits word)
       (decides-tested r m bits (sum ks) word (2 ^ m) (encoder.done (encoded m ks bits)) passed (λ long are. (refl, refl)))))
 
-  pub inverse-demand-1 : (word bits : List ℕ) → InverseDemand1 r m named word bits
+  pub inverse-demand-1 : (word bits : List ℕ) → InverseShortenedDemand1 r m named word bits
   inverse-demand-1 word bits =
       let before = bits ∷ [] in
       let o = encoders.view (invertingShortened r m named word bits) in
@@ -115,7 +117,7 @@ module _ (r m : ℕ) (named : List ℕ) where
         let same = tested-made (λ c. sum ks) r m l (length bits) (length word) (rm r m) (made-good r m (a .sound .m-small) (a .sound .r-small)) in
         over-done ks (rm r m) l bits word (rm r m) (sound-allowed-for (λ c. sum ks) r m l (length bits) (length word) a ∙ sym same)
 
-    pub quick-demand-1 : QuickDemand1 r m named l bits word
+    pub quick-demand-1 : QuickShortenedDemand1 r m named l bits word
     quick-demand-1 =
         let before = bits ∷ word ∷ [] in
         let o = readers.view (quickShortened r m named l bits word) in

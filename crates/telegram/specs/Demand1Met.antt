@@ -12,7 +12,7 @@ use Rattle.code.specs.declared.Refusal.{Refusal}
 use Rattle.code.specs.declared.Refusal.the-variants.{OutputLength}
 use Rattle.code.specs.Sound.{carrying, numberOf}
 use Rattle.code.specs.RefusalLaws.{number-above}
-use Rattle.code.specs.Demand1.{View, Checks, passed, check, First, NoneApplies}
+use Rattle.code.specs.Demand1.{View, Checks, passed, check, checkAt, First, NoneApplies}
 use Rattle.search.specs.Demands.{SearchDemand1}
 use Rattle.search.specs.Demand1Met.{search-demand-1}
 use Rattle.telegram.specs.declared.Telegram.{Telegram}
@@ -178,6 +178,11 @@ first-why such passed f = absurd f
 first-why such (check why applies rest) f =
     ⊎-elim
     (λ x. (why, x .0, inl (refl, x .1)))
+    (λ x. let y = first-why such rest (x .1) in (y .0, y .1, inr (x .0, y .2)))
+    f
+first-why such (checkAt why applies rest) f =
+    ⊎-elim
+    (λ x. (why (x .0), x .1, inl (x .0, refl, x .2)))
     (λ x. let y = first-why such rest (x .1) in (y .0, y .1, inr (x .0, y .2)))
     f
 

@@ -22,7 +22,7 @@ firstFrozenOne (zero ∷ ks) (zero ∷ u) = suc (firstFrozenOne ks u)
 firstFrozenOne (zero ∷ ks) (suc a ∷ u) = 0
 firstFrozenOne (suc k ∷ ks) (a ∷ u) = suc (firstFrozenOne ks u)
 
--- i is that index
+-- i is the lowest frozen index where the row u is 1
 pub record LowestFrozenOne (ks u : List ℕ) (i : ℕ) : Type 0 where
   pub below : i < length ks
   pub frozen : getD ks i 0 ≡ 0
