@@ -1,5 +1,6 @@
 /* pack [FILE]: a capture from readings in text, to standard output. Each line is one record: r, m and then the 2^m readings, with blanks
- * between; what follows a # is left out. Stops at the first line that is refused, with a message and exit status 1. */
+ * between; what follows a # is left out. A line has at most 65,534 characters, none of them NUL. Stops at the first line that is refused, with a
+ * message and exit status 1. */
 #include "../include/cinorbis.h"
 #include <errno.h>
 #include <stdio.h>
@@ -33,6 +34,7 @@ int main(int count, char **arguments) {
     FILE *in = count > 1 ? fopen(arguments[1], "r") : stdin;
     if (!in) return perror(arguments[1]), 1;
     for (unsigned long number = 1; fgets(line, sizeof line, in); number++) {
+        if (!strchr(line, '\n') && !feof(in)) return refuse(number, "a line of more than 65,534 characters, or a NUL in it");
         long values[MOST];
         int16_t readings[MOST];
         uint8_t record[CINORBIS_LARGEST_RECORD];
