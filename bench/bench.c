@@ -241,15 +241,28 @@ static void compare(const char *name, work w, sides s) {
     row(name, t, t.units);
 }
 
+/* how many of the words are out of visits */
+static int out_of_visits(work w) {
+    uint8_t bits[256], word[256], runner_up[256];
+    cinorbis_numbers n;
+    size_t k = dimension(w.r, w.m), l = (size_t)1 << w.m;
+    int out = 0;
+    for (int t = 0; t < SETS; t++)
+        out += cinorbis_search_within(w.r, w.m, w.allowed, readings[t], l, bits, k, word, l, runner_up, &n) == CINORBIS_OUT_OF_VISITS;
+    return out;
+}
+
+/* readings of no word need the whole tree, so they are cut short; a word with noise has the default allowance */
 static void search_figures(uint32_t r, uint32_t m, double noise, const char *kind) {
-    char name[80];
-    work w = {r, m, 20000, 1};
+    char name[120];
+    work w = {r, m, noise < 0 ? 20000 : CINORBIS_DEFAULT_ALLOWANCE, 1};
     make(r, m, noise);
     snprintf(name, sizeof name, "search RM(%u,%u), %s, per visit", (unsigned)r, (unsigned)m, kind);
     times t = measure(name, w, search_sides);
     row(name, t, t.units);
     if (noise < 0) return;
-    snprintf(name, sizeof name, "search RM(%u,%u), %s, per word", (unsigned)r, (unsigned)m, kind);
+    snprintf(name, sizeof name, "search RM(%u,%u), %s, per word: %.0f visits, %d of %d out of visits", (unsigned)r, (unsigned)m, kind, t.units / SETS,
+             out_of_visits(w), SETS);
     row(name, t, SETS);
 }
 

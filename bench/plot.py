@@ -2,10 +2,19 @@
 """Reads what `bench grow` printed and writes a table (Markdown) and a plot (SVG) of visits per word over the number k of information
 bits, for three noise levels: plot.py GROW.txt TABLE.md PLOT.svg"""
 import math
+import platform
+import subprocess
 import sys
 
 WIDTH, HEIGHT, LEFT, BOTTOM, TOP, RIGHT = 760, 440, 70, 56, 30, 150
 COLOURS = {"0.3": "#2a7f9e", "0.5": "#c9822b", "0.8": "#a03a4a"}
+
+
+def machine():
+    """the processor's name, as lscpu has it"""
+    told = subprocess.run(["lscpu"], stdout=subprocess.PIPE, text=True, check=True).stdout
+    names = [line.split(":", 1)[1].strip() for line in told.split("\n") if line.startswith("Model name")]
+    return f"a {names[0]} ({platform.machine()})"
 
 
 def rows(path):
@@ -20,7 +29,16 @@ def table(data, path):
     for d in data:
         codes.setdefault((int(d["m"]), int(d["r"]), int(d["k"])), {})[d["noise"]] = d
     head = "| code | k | " + " | ".join(f"visits, noise {n} | µs | out of visits" for n in levels) + " |"
-    lines = [head, "|---|---|" + "---|---|---|" * len(levels)]
+    lines = [
+        "# How the search's cost grows",
+        "",
+        "`bench/run grow`: the search with the default allowance, 200,000 visits, of 64 random words for each code and noise: mean visits, mean time a word,",
+        "and how many were out of visits. Noise is normal, as a multiple of the word's size. Visits are those of the written walk, the same on every machine;",
+        f"times are of one run on {machine()}, not emulated.",
+        "",
+        head,
+        "|---|---|" + "---|---|---|" * len(levels),
+    ]
     for (m, r, k), by in sorted(codes.items()):
         cells = []
         for n in levels:
