@@ -28,6 +28,22 @@ static void *search(void *a) {
     return a;
 }
 
+/* its stack grows with the number k of information bits */
+static void *search_2_5(void *a) {
+    refusal = cinorbis_search(2, 5, readings, 32, bits, 16, word, 32, runner_up, &numbers);
+    return a;
+}
+
+static void *search_2_8(void *a) {
+    refusal = cinorbis_search(2, 8, readings, 256, bits, 37, word, 256, runner_up, &numbers);
+    return a;
+}
+
+static void *search_4_8(void *a) {
+    refusal = cinorbis_search(4, 8, readings, 256, bits, 163, word, 256, runner_up, &numbers);
+    return a;
+}
+
 static void *search_float(void *a) {
     refusal = cinorbis_search_float(8, 8, floats, 256, bits, 256, word, 256, runner_up, &numbers);
     return a;
@@ -197,7 +213,10 @@ int main(void) {
     bounded("encode", encode, 0, 512);
     bounded("inverse", inverse, 0, 800);
     bounded("quick reading", quick, 0, 2600);
-    bounded("search", search, 0, 45000);
+    bounded("search RM(8,8)", search, 0, 45000);
+    bounded("search RM(4,8)", search_4_8, CINORBIS_OUT_OF_VISITS, 27000);
+    bounded("search RM(2,8)", search_2_8, 0, 10000);
+    bounded("search RM(2,5)", search_2_5, 0, 7000);
     named[255] = 1;
     bounded("encode, shortened", encode_shortened, 0, 1000);
     bounded("inverse, shortened", inverse_shortened, 0, 1200);
