@@ -1,6 +1,7 @@
 -- `float_memory::value`: by straight code where i is the next index and starts no block of eight.
 use borrow.Author.Needs.{needs}
 use native.Mathlib.Omega.{arith}
+use Rattle.memory.specs.Memory.{Top}
 use Rattle.memory.specs.TopLaws.{top-of-1, top-of-2, top-of-4}
 use Rattle.float_memory.specs.FloatMemoryLaws.{short-asked, short-read}
 use Rattle.float_memory.proofs.value.Statement.{statement}
@@ -20,7 +21,8 @@ start-of-1-requires c κs =
     let o = c .before .before .if3 .taken in
     let next = c .before .before .before in
     let start = next .before .before in
-    (o, short-asked (start .args .rows .now) (start .pre) (top-of-1 (omega arith) (next .if2 .taken) o) (omega arith) (omega arith) (omega arith) (omega arith))
+    let top : Top (start .args .m) (start .args .was) (start .args .i) 0 = top-of-1 (omega arith) (next .if2 .taken) o in
+    (o, short-asked (start .args .rows .now) (start .pre) top (omega arith) (omega arith) (omega arith) (omega arith))
 
 element-copy-out-result : tie.Need-element-copy-out-result
 element-copy-out-result c = search needs
@@ -31,15 +33,16 @@ returns-2 c =
     let next = c .before .before .before .before .before in
     let start = next .before .before in
     let made = c .before .start-of-1 in
-    short-read (start .args .rows .now) (start .pre) (top-of-1 (omega arith) (next .if2 .taken) o) (omega arith) (omega arith) (omega arith)
-    (made .last .0) (omega arith) (made .ensures)
+    let top : Top (start .args .m) (start .args .was) (start .args .i) 0 = top-of-1 (omega arith) (next .if2 .taken) o in
+    short-read (start .args .rows .now) (start .pre) top (omega arith) (omega arith) (omega arith) (made .last .0) (omega arith) (made .ensures)
 
 start-of-2-requires : tie.Need-start-of-2-requires
 start-of-2-requires c κs =
     let o = c .before .before .before .if4 .taken in
     let next = c .before .before .before .before .before in
     let start = next .before .before in
-    (o, short-asked (start .args .rows .now) (start .pre) (top-of-2 (omega arith) (next .if2 .taken) o) (omega arith) (omega arith) (omega arith) (omega arith), omega arith)
+    let top : Top (start .args .m) (start .args .was) (start .args .i) 1 = top-of-2 (omega arith) (next .if2 .taken) o in
+    (o, short-asked (start .args .rows .now) (start .pre) top (omega arith) (omega arith) (omega arith) (omega arith), omega arith)
 
 element-copy-out-result-2 : tie.Need-element-copy-out-result-2
 element-copy-out-result-2 c = search needs
@@ -50,15 +53,16 @@ returns-3 c =
     let next = c .before .before .before .before .before .before .before in
     let start = next .before .before in
     let made = c .before .start-of-2 in
-    short-read (start .args .rows .now) (start .pre) (top-of-2 (omega arith) (next .if2 .taken) o) (omega arith) (omega arith) (omega arith)
-    (made .last .0) (omega arith) (made .ensures)
+    let top : Top (start .args .m) (start .args .was) (start .args .i) 1 = top-of-2 (omega arith) (next .if2 .taken) o in
+    short-read (start .args .rows .now) (start .pre) top (omega arith) (omega arith) (omega arith) (made .last .0) (omega arith) (made .ensures)
 
 start-of-4-requires : tie.Need-start-of-4-requires
 start-of-4-requires c κs =
     let o = c .before .before .before .if5 .taken in
     let next = c .before .before .before .before .before .before in
     let start = next .before .before in
-    (o, short-asked (start .args .rows .now) (start .pre) (top-of-4 (omega arith) (next .if2 .taken) o) (omega arith) (omega arith) (omega arith) (omega arith), omega arith)
+    let top : Top (start .args .m) (start .args .was) (start .args .i) 2 = top-of-4 (omega arith) (next .if2 .taken) o in
+    (o, short-asked (start .args .rows .now) (start .pre) top (omega arith) (omega arith) (omega arith) (omega arith), omega arith)
 
 element-copy-out-result-3 : tie.Need-element-copy-out-result-3
 element-copy-out-result-3 c = search needs
@@ -69,8 +73,8 @@ returns-4 c =
     let next = c .before .before .before .before .before .before .before .before in
     let start = next .before .before in
     let made = c .before .start-of-4 in
-    short-read (start .args .rows .now) (start .pre) (top-of-4 (omega arith) (next .if2 .taken) o) (omega arith) (omega arith) (omega arith)
-    (made .last .0) (omega arith) (made .ensures)
+    let top : Top (start .args .m) (start .args .was) (start .args .i) 2 = top-of-4 (omega arith) (next .if2 .taken) o in
+    short-read (start .args .rows .now) (start .pre) top (omega arith) (omega arith) (omega arith) (made .last .0) (omega arith) (made .ensures)
 
 any-value-requires-2 : tie.Need-any-value-requires-2
 any-value-requires-2 c κs = search needs
