@@ -1,12 +1,13 @@
 // The crate memory in float arithmetic: the value at the next index of the path. The path's bits
 // stand in path as there, and the rows of the blocks that lead to an index are floats.
 ghost use mathlib.Core.Path.{_≡_};
-ghost use Prim.Native.Nat.{_+_, _^_, _≤_, _<_};
+ghost use Prim.Native.Nat.{_+_, _^_, _%_, _≤_, _<_};
 ghost use lib.ListN.{length, take};
 ghost use Rattle.decoding.specs.Readings.{sizes, sumLimit};
 ghost use Rattle.decoding.specs.Walk.{value};
 ghost use Rattle.rows.specs.Rows.{rowOf, withRow};
-ghost use Rattle.memory.specs.Memory.{below, newRow, Arrays, Made, Stands, RowsReady, ValueReady};
+ghost use Rattle.memory.specs.Memory.{below, newRow, remade, Arrays, Made, Stands};
+ghost use Rattle.memory.specs.Memory.{LowReady, RowsReady, ValueReady};
 ghost use Rattle.float_numbers.specs.Whole.{wholeOf, wholes};
 
 // The row of 2^t sums for index i, from the row of twice as many.
@@ -95,8 +96,44 @@ fn make_rows(
     }
 }
 
-// The value at index i of the path. The rows stand for index was, and then for i.
-pub fn value(
+// The row of one sum, where i starts a block of one index and none of two. Here and below rows of
+// up to four sums are made with their length as a constant, so that the compiler writes the loops
+// out.
+fn start_of_1(rows: &mut [f32], path: &[u8], i: usize)
+    requires { ⌜ (i % 2 ≡ 1) × LowReady 1 i (now path) (wholes (now rows)) ⌝ }
+    ensures { λ _. ⌜ wholes (now (rows .exit))
+        ≡ remade 1 i (now (path .entry)) (wholes (now (rows .entry))) ⌝ }
+{
+    float_rows::upper_row(rows, 1, &path[i - 1..i]);
+}
+
+// Of two and none of four: two rows.
+fn start_of_2(rows: &mut [f32], path: &[u8], word: &mut [u8], i: usize)
+    requires { ⌜ (i % 4 ≡ 2) × LowReady 2 i (now path) (wholes (now rows))
+        × (length (now word) ≡ 256) ⌝ }
+    ensures { λ _. ⌜ wholes (now (rows .exit))
+        ≡ remade 2 i (now (path .entry)) (wholes (now (rows .entry))) ⌝ }
+{
+    memory::word_of_2(path, word, i);
+    float_rows::upper_row(rows, 2, word);
+    float_rows::lower_row(rows, 1);
+}
+
+// Of four and none of eight: three rows.
+fn start_of_4(rows: &mut [f32], path: &[u8], word: &mut [u8], i: usize)
+    requires { ⌜ (i % 8 ≡ 4) × LowReady 3 i (now path) (wholes (now rows))
+        × (length (now word) ≡ 256) ⌝ }
+    ensures { λ _. ⌜ wholes (now (rows .exit))
+        ≡ remade 3 i (now (path .entry)) (wholes (now (rows .entry))) ⌝ }
+{
+    memory::word_of_4(path, word, i);
+    float_rows::upper_row(rows, 4, word);
+    float_rows::lower_row(rows, 2);
+    float_rows::lower_row(rows, 1);
+}
+
+// The value at index i of the path, wherever the rows stand.
+fn any_value(
     readings: &[f32; 256],
     rows: &mut [f32; 256],
     path: &[u8; 256],
@@ -118,4 +155,43 @@ pub fn value(
     let high = memory::top(m, was, i);
     make_rows(readings, rows, path, word, m, high, i);
     rows[1]
+}
+
+// The value at index i of the path. The rows stand for index was, and then for i. Most often i
+// comes next, and then at most three rows, of up to four sums, have to be made for seven indices in
+// eight; two places call any_value, so that the compiler keeps it out of that short way.
+pub fn value(
+    readings: &[f32; 256],
+    rows: &mut [f32; 256],
+    path: &[u8; 256],
+    word: &mut [u8; 256],
+    m: usize,
+    was: usize,
+    i: usize,
+) -> f32
+    requires { ⌜ ValueReady m (take (2 ^ m) (wholes (now readings))) (now path) was i
+        (wholes (now rows)) ⌝ }
+    ensures { λ r. ⌜ (wholeOf r
+        ≡ value m (take (2 ^ m) (wholes (now (readings .entry)))) (take i (now (path .entry))))
+        × Stands m (take (2 ^ m) (wholes (now (readings .entry)))) (now (path .entry)) i i
+        (wholes (now (rows .exit))) ⌝ }
+{
+    if m < 4 {
+        return any_value(readings, rows, path, word, m, was, i);
+    }
+    if was + 1 == i {
+        if i % 2 == 1 {
+            start_of_1(rows, path, i);
+            return rows[1];
+        }
+        if i % 4 == 2 {
+            start_of_2(rows, path, word, i);
+            return rows[1];
+        }
+        if i % 8 == 4 {
+            start_of_4(rows, path, word, i);
+            return rows[1];
+        }
+    }
+    any_value(readings, rows, path, word, m, was, i)
 }

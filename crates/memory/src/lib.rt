@@ -62,7 +62,7 @@ pub fn left_word(path: &[u8], word: &mut [u8], e: usize, h: usize, t: usize)
 }
 
 // The same of two bits, by straight code.
-fn word_of_2(path: &[u8], word: &mut [u8], e: usize)
+pub fn word_of_2(path: &[u8], word: &mut [u8], e: usize)
     requires { ⌜ (2 ≤ e) × (e ≤ length (now path)) × (2 ≤ length (now word))
         × Bits (now path) ⌝ }
     ensures { λ _. ⌜ take 2 (now (word .exit))
@@ -75,7 +75,7 @@ fn word_of_2(path: &[u8], word: &mut [u8], e: usize)
 }
 
 // And of four.
-fn word_of_4(path: &[u8], word: &mut [u8], e: usize)
+pub fn word_of_4(path: &[u8], word: &mut [u8], e: usize)
     requires { ⌜ (4 ≤ e) × (e ≤ length (now path)) × (4 ≤ length (now word))
         × Bits (now path) ⌝ }
     ensures { λ _. ⌜ take 4 (now (word .exit))

@@ -1,36 +1,102 @@
--- `float_memory::value`: one reading is its own value; else the rows are made, from the highest that changes on.
+-- `float_memory::value`: by straight code where i is the next index and starts no block of eight.
 use borrow.Author.Needs.{needs}
 use native.Mathlib.Omega.{arith}
-use Rattle.float_numbers.specs.WholesLaws.{length-wholes}
-use Rattle.memory.specs.CodeLaws.{first-ready, value-arrays}
-use Rattle.float_memory.specs.FloatMemoryLaws.{value-read, single-read}
+use Rattle.memory.specs.Memory.{Top}
+use Rattle.memory.specs.TopLaws.{top-of-1, top-of-2, top-of-4}
+use Rattle.float_memory.specs.FloatMemoryLaws.{short-asked, short-read}
 use Rattle.float_memory.proofs.value.Statement.{statement}
 use Rattle.float_memory.proofs.value.Tie as tie
+
+any-value-requires : tie.Need-any-value-requires
+any-value-requires c κs = search needs
+
+returns : tie.Need-returns
+returns c = search needs
+
+add-if2 : tie.Need-add-if2
+add-if2 c = search needs
+
+start-of-1-requires : tie.Need-start-of-1-requires
+start-of-1-requires c κs =
+    let o = c .before .before .if3 .taken in
+    let next = c .before .before .before in
+    let start = next .before .before in
+    let top : Top (start .args .m) (start .args .was) (start .args .i) 0 = top-of-1 (omega arith) (next .if2 .taken) o in
+    (o, short-asked (start .args .rows .now) (start .pre) top (omega arith) (omega arith) (omega arith) (omega arith))
 
 element-copy-out-result : tie.Need-element-copy-out-result
 element-copy-out-result c = search needs
 
-returns : tie.Need-returns
-returns c = let g = c .before .before in single-read (g .args .readings .now) (c .before .if1 .taken) (g .pre .long)
+returns-2 : tie.Need-returns-2
+returns-2 c =
+    let o = c .before .before .before .before .if3 .taken in
+    let next = c .before .before .before .before .before in
+    let start = next .before .before in
+    let made = c .before .start-of-1 in
+    let top : Top (start .args .m) (start .args .was) (start .args .i) 0 = top-of-1 (omega arith) (next .if2 .taken) o in
+    short-read (start .args .rows .now) (start .pre) top (omega arith) (omega arith) (omega arith) (made .last .0) (omega arith) (made .ensures)
 
-top-requires : tie.Need-top-requires
-top-requires c κs = search needs
-
-make-rows-requires : tie.Need-make-rows-requires
-make-rows-requires c κs =
-    let t = c .before .before .before .before .top in
-    let start = c .before .before .before .before .before .before in
-    let arrays = value-arrays (start .pre) (omega (arith, length-wholes (start .args .rows .now))) (omega arith) in
-    (omega arith, arrays, omega arith, first-ready (start .pre) (t .ensures))
+start-of-2-requires : tie.Need-start-of-2-requires
+start-of-2-requires c κs =
+    let o = c .before .before .before .if4 .taken in
+    let next = c .before .before .before .before .before in
+    let start = next .before .before in
+    let top : Top (start .args .m) (start .args .was) (start .args .i) 1 = top-of-2 (omega arith) (next .if2 .taken) o in
+    (o, short-asked (start .args .rows .now) (start .pre) top (omega arith) (omega arith) (omega arith) (omega arith), omega arith)
 
 element-copy-out-result-2 : tie.Need-element-copy-out-result-2
 element-copy-out-result-2 c = search needs
 
-returns-2 : tie.Need-returns-2
-returns-2 c =
-    let g = c .before .before .before .before .before .before .before .before in
-    value-read (c .before .make-rows .last .1 .0) (g .pre) (omega arith) (omega arith) (omega arith) (c .before .make-rows .ensures)
+returns-3 : tie.Need-returns-3
+returns-3 c =
+    let o = c .before .before .before .before .before .if4 .taken in
+    let next = c .before .before .before .before .before .before .before in
+    let start = next .before .before in
+    let made = c .before .start-of-2 in
+    let top : Top (start .args .m) (start .args .was) (start .args .i) 1 = top-of-2 (omega arith) (next .if2 .taken) o in
+    short-read (start .args .rows .now) (start .pre) top (omega arith) (omega arith) (omega arith) (made .last .0) (omega arith) (made .ensures)
+
+start-of-4-requires : tie.Need-start-of-4-requires
+start-of-4-requires c κs =
+    let o = c .before .before .before .if5 .taken in
+    let next = c .before .before .before .before .before .before in
+    let start = next .before .before in
+    let top : Top (start .args .m) (start .args .was) (start .args .i) 2 = top-of-4 (omega arith) (next .if2 .taken) o in
+    (o, short-asked (start .args .rows .now) (start .pre) top (omega arith) (omega arith) (omega arith) (omega arith), omega arith)
+
+element-copy-out-result-3 : tie.Need-element-copy-out-result-3
+element-copy-out-result-3 c = search needs
+
+returns-4 : tie.Need-returns-4
+returns-4 c =
+    let o = c .before .before .before .before .before .if5 .taken in
+    let next = c .before .before .before .before .before .before .before .before in
+    let start = next .before .before in
+    let made = c .before .start-of-4 in
+    let top : Top (start .args .m) (start .args .was) (start .args .i) 2 = top-of-4 (omega arith) (next .if2 .taken) o in
+    short-read (start .args .rows .now) (start .pre) top (omega arith) (omega arith) (omega arith) (made .last .0) (omega arith) (made .ensures)
+
+any-value-requires-2 : tie.Need-any-value-requires-2
+any-value-requires-2 c κs = search needs
+
+returns-5 : tie.Need-returns-5
+returns-5 c = search needs
 
 pub value-spec : {M : Type 1} → statement M
 value-spec =
-    tie.close (tie.spec element-copy-out-result returns top-requires make-rows-requires element-copy-out-result-2 returns-2)
+    tie.close
+    (tie.spec
+    any-value-requires
+    returns
+    add-if2
+    start-of-1-requires
+    element-copy-out-result
+    returns-2
+    start-of-2-requires
+    element-copy-out-result-2
+    returns-3
+    start-of-4-requires
+    element-copy-out-result-3
+    returns-4
+    any-value-requires-2
+    returns-5)

@@ -1,0 +1,86 @@
+-- `float_memory::start_of_4`: the upper row of four sums, and the lower ones of two and one.
+use borrow.Author.Needs.{needs}
+use mathlib.Core.Path.{_≡_, refl}
+use native.Mathlib.Omega.{arith}
+use Rattle.rows.specs.Rows.{rowOf}
+use Rattle.memory.specs.LowLaws.{low-small, low-next, remade-one, remade-more, start-odd, start-here, start-even}
+use Rattle.memory.specs.CodeLaws.{upper-here, lower-made}
+use Rattle.memory.specs.Memory.{newRow}
+use Rattle.float_numbers.specs.Whole.{wholes}
+use Rattle.float_memory.specs.FloatMemoryLaws.{floats-room}
+use Rattle.float_memory.proofs.start_of_4.Statement.{statement}
+use Rattle.float_memory.proofs.start_of_4.Tie as tie
+
+upper : (c : tie.After-upper-row) → let s = c .before .before .before .before .before .before .before .before .before .before .args in
+    wholes (c .upper-row .last .0) ≡ newRow 2 (s .i) (s .path .now) (wholes (s .rows .now))
+upper c =
+    let start = c .before .before .before .before .before .before .before .before .before .before in
+    let s = start .args in
+    let w = c .before .before .before .before .before .word-of-4 in
+    upper-here 2 4 (s .i) (s .path .now) (rowOf 8 (wholes (s .rows .now))) (wholes (s .rows .now)) refl (w .last .1 .0)
+    (start-odd 2 (s .i) (start .pre .0)) (start-here 2 (s .i) (start .pre .0)) (w .ensures) (c .upper-row .ensures)
+
+two : (c : tie.After-lower-row) → let upper-made = c .before .before .before .before in
+    let s = upper-made .before .before .before .before .before .before .before .before .before .before .args in
+    wholes (c .lower-row .last .0) ≡ newRow 1 (s .i) (s .path .now) (wholes (upper-made .upper-row .last .0))
+two c =
+    let upper-made = c .before .before .before .before in
+    let start = upper-made .before .before .before .before .before .before .before .before .before .before in
+    let s = start .args in
+    let x = wholes (upper-made .upper-row .last .0) in
+    lower-made 1 2 (s .i) (s .path .now) (rowOf 4 x) x refl (λ k. omega (arith, k, start-even 2 (s .i) (start .pre .0) 1 (omega arith)))
+    (c .lower-row .ensures)
+
+word-of-4-requires : tie.Need-word-of-4-requires
+word-of-4-requires c κs = search needs
+
+upper-row-requires : tie.Need-upper-row-requires
+upper-row-requires c κs =
+    let start = c .before .before .before .before .before .before .before .before .before in
+    let r = start .pre .1 in
+    (floats-room (start .args .rows .now) r, omega (arith, start .pre .2, c .before .before .before .before .word-of-4 .kept), low-small r)
+
+lower-row-requires : tie.Need-lower-row-requires
+lower-row-requires c κs =
+    let made = c .before .before .before in
+    let start = made .before .before .before .before .before .before .before .before .before .before in
+    let r = low-next (start .pre .1) (upper made) in
+    (floats-room (made .upper-row .last .0) r, low-small r)
+
+lower-row-requires-2 : tie.Need-lower-row-requires-2
+lower-row-requires-2 c κs =
+    let made = c .before .before .before in
+    let above = made .before .before .before .before in
+    let start = above .before .before .before .before .before .before .before .before .before .before in
+    let r = low-next (low-next (start .pre .1) (upper above)) (two made) in
+    (floats-room (made .lower-row .last .0) r, low-small r)
+
+same-length : tie.Need-same-length
+same-length c = search needs
+
+same-length-2 : tie.Need-same-length-2
+same-length-2 c = search needs
+
+returns : tie.Need-returns
+returns c =
+    let made = c .before .before .before .before .before .before in
+    let above = made .before .before .before .before in
+    let start = above .before .before .before .before .before .before .before .before .before .before in
+    let s = start .args in
+    let x = wholes (made .lower-row .last .0) in
+    remade-more 2 (s .i) (s .path .now) (wholes (s .rows .now)) (upper above)
+    (remade-more 1 (s .i) (s .path .now) (wholes (above .upper-row .last .0)) (two made) (remade-one (s .i) (s .path .now) x
+    (lower-made 0 1 (s .i) (s .path .now) (rowOf 2 x) x refl (λ k. omega (arith, k, start-even 2 (s .i) (start .pre .0) 0 (omega arith)))
+    (c .before .before .lower-row2 .ensures))))
+
+pub start-of-4-spec : {M : Type 1} → statement M
+start-of-4-spec =
+    tie.close
+    (tie.spec
+    word-of-4-requires
+    upper-row-requires
+    lower-row-requires
+    lower-row-requires-2
+    same-length
+    same-length-2
+    returns)
