@@ -39,8 +39,8 @@ typedef char cinorbis_needs_64_bits[sizeof(size_t) == 8 ? 1 : -1];
 extern "C" {
 #endif
 
-/* Raised when a call is added or changed. */
-#define CINORBIS_VERSION 15
+/* Raised when a call is added or changed. An archive of another version may take other arguments: compare once, at the start, with cinorbis_version(). */
+#define CINORBIS_VERSION 16
 
 #define CINORBIS_LARGEST_M 8u
 /* A reading is from -32767 to 32767: of the 16-bit numbers only -32768 is none, and is refused as 4. */
@@ -149,6 +149,9 @@ typedef struct {
     uint64_t direction; /* 1 is to port */
     uint64_t tilt;      /* hundredths of a degree, 0 to 1500; with 0 the direction is 0 */
 } cinorbis_telegram;
+
+/* The archive's CINORBIS_VERSION. Promise: pumpbox::cinorbis_version. */
+CINORBIS_CALL uint32_t cinorbis_version(void);
 
 /* ---- Lengths, for a caller who has to lend memory: 0 where the code, or the first byte of a record, is refused */
 

@@ -7,6 +7,9 @@ static guarded readings;
 
 static void codes(void) {
     static const uint32_t large[] = {9, 16, 31, 32, 64, 255, 256, 65536, UINT32_MAX - 1, UINT32_MAX};
+    begin("the archive has the header's version");
+    CHECK(cinorbis_version() == CINORBIS_VERSION, "%u", cinorbis_version());
+    end();
     begin("n and k of every code, 0 where it is refused");
     for (uint32_t m = 0; m < 40; m++) {
         CHECK(cinorbis_length(m) == (m <= 8 ? (size_t)1 << m : 0), "m %u: %zu", m, cinorbis_length(m));

@@ -1,4 +1,4 @@
--- Lengths as C asks for them: 0 where the code, or the first byte of a record, is refused.
+-- The version of the calls, and lengths as C asks for them: 0 where the code, or the first byte of a record, is refused.
 use mathlib.Core.Bool.{cond}
 use Prim.Native.Nat.{ℕ, _^_}
 use lib.Dec.{ltb}
@@ -6,6 +6,10 @@ use Rattle.words.specs.Kinds.{dimension}
 use Rattle.code.specs.declared.Made.{Made}
 use Rattle.code.specs.declared.Made.the-variants.{Good, Bad}
 use Rattle.record.specs.Reader.{codeOf, lengthBy}
+
+-- raised when a call is added or changed; the header has it too
+abbrev pub version : ℕ
+version = 16
 
 -- n
 abbrev pub lengthIn : Made → ℕ

@@ -1,2 +1,2 @@
--- Lengths for a caller who has to lend memory
+-- The version, and lengths for a caller who has to lend memory
 pub mod Lengths

@@ -1,9 +1,20 @@
-// Lengths, for a caller who has to lend memory: 0 where a code or a first byte is refused.
+// The version of the calls; lengths, for a caller who has to lend memory: 0 where a code or a first
+// byte is refused.
 use code::Code;
 use code::Made;
 ghost use mathlib.Core.Path.{_≡_};
 ghost use Rattle.code.specs.Sound.{made};
-ghost use Rattle.pumpbox.specs.Lengths.{lengthIn, dimensionIn, recordLength};
+ghost use Rattle.pumpbox.specs.Lengths.{version, lengthIn, dimensionIn, recordLength};
+
+// Raised with the header's own.
+const VERSION: u32 = 16;
+
+#[no_mangle]
+pub extern "C" fn cinorbis_version() -> u32
+    ensures { λ v. ⌜ v ≡ version ⌝ }
+{
+    VERSION
+}
 
 #[no_mangle]
 pub extern "C" fn cinorbis_length(m: u32) -> usize
