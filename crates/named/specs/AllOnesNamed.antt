@@ -1,5 +1,5 @@
--- The all-ones word is in a shortened set exactly if the row does not name the last index, n - 1. A link that is turned over adds it to what was sent: where the
--- last index is named, that turns no word of the set into another.
+-- The all-ones word is in a shortened set exactly if the row does not name the last index, n - 1. A link that is turned over adds it to what was sent: where
+-- the last index is named, that turns no word of the set into another.
 use mathlib.Core.Path.{_≡_, ap, subst, sym, _∙_}
 use mathlib.Core.Logic.{_↔_, ⊎-elim}
 use mathlib.Core.List.{List}
