@@ -25,10 +25,10 @@ use Rattle.index.specs.FindingLaws.{start-none, start-past, start-by}
 use Rattle.index.specs.Demands.{steppingChecks, findChecks, FindDemand1}
 
 -- ---- stepping refuses as 1 or 8
-abbrev OneOrEight : Refusal → Type 0
+abbrev pub OneOrEight : Refusal → Type 0
 OneOrEight why = (why ≡ Parameters) ⊎ (why ≡ Torn)
 
-step-why : (s : List ℕ) (at : ℕ) (why : Refusal) → stepped s at ≡ Refused why → OneOrEight why
+pub step-why : (s : List ℕ) (at : ℕ) (why : Refusal) → stepped s at ≡ Refused why → OneOrEight why
 step-why s at why e =
     ⊎-elim
     (λ inside.

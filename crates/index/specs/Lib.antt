@@ -12,5 +12,7 @@ pub mod MakingLaws
 pub mod AppendingLaws
 pub mod OwnMet
 pub mod AppendMet
+pub mod BelongsMet
 pub mod DemandsMet
+pub mod MakingDemandsMet
 pub mod OnlyIndex

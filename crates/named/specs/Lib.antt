@@ -2,3 +2,4 @@
 pub mod Named
 -- Their laws
 pub mod NamedLaws
+pub mod AllOnesNamed

@@ -69,13 +69,13 @@ writtenView o =
     let c = o .carry in
     record { number = c .number; place = c .place; penalty = c .penalty; gap = 0; visits = c .visits; buffers = o .buffer ∷ [] }
 
--- too little room from the place on; a place at or beyond the end leaves none
-abbrev pub writeChecks : ℕ → ℕ → List ℤ → List ℕ → ℕ → Checks
-writeChecks r m l buffer place =
+-- too little room from the place on; a place at or beyond the end leaves none; and what comes after
+abbrev pub writeChecks : ℕ → ℕ → List ℤ → List ℕ → ℕ → Checks → Checks
+writeChecks r m l buffer place rest =
     check Parameters ((largestM < m) ⊎ (m < r))
     (check InputLength (length l ≡ 2 ^ m → ⊥)
     (checkAt Entry (LowestBad (pos 0) natAbs largestRecordReading l)
-    (check OutputLength (length buffer < place + length (recordOf r m l)) passed)))
+    (check OutputLength (length buffer < place + length (recordOf r m l)) rest)))
 
 abbrev pub WriteDemand1 : ℕ → ℕ → List ℤ → List ℕ → ℕ → Type 0
-WriteDemand1 r m l buffer place = Demand1 (writeChecks r m l buffer place) (buffer ∷ []) (writtenView (writing r m l buffer place))
+WriteDemand1 r m l buffer place = Demand1 (writeChecks r m l buffer place passed) (buffer ∷ []) (writtenView (writing r m l buffer place))

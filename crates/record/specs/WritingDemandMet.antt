@@ -1,8 +1,8 @@
--- The outcomes of the writer meet demand 1.
+-- The outcomes of the writer meet demand 1, and so does any outcome that begins with the writer's tests.
 use mathlib.Core.Path.{_≡_, refl, ap, sym}
 use mathlib.Core.Logic.{inl, inr, ⊎-elim}
 use mathlib.Core.List.{List, [], _∷_}
-use Prim.Native.Nat.{ℕ, suc, _+_, _-_, _^_, _<_}
+use Prim.Native.Nat.{ℕ, suc, _-_, _^_}
 use native.Mathlib.Omega.{arith}
 use native.Mathlib.Decide.{ℕ-discrete}
 use lib.IntN.{ℤ, pos, natAbs}
@@ -10,7 +10,7 @@ use lib.ListN.{length}
 use Rattle.numbers.specs.Choice.{lt-or-le}
 use Rattle.code.specs.Sound.{largestM, largestRecordReading, rm}
 use Rattle.code.specs.SoundLaws.{made-large, made-crossed, made-good}
-use Rattle.code.specs.Demand1.{refusedAs, Checks, passed, check}
+use Rattle.code.specs.Demand1.{View, refusedAs, Checks, passed, check}
 use Rattle.code.specs.Demand1Laws.{Decides, demand-1, decides-entry}
 use Rattle.code.specs.declared.Refusal.{Refusal}
 use Rattle.code.specs.declared.Refusal.the-variants.{OutputLength}
@@ -23,16 +23,14 @@ use Rattle.record.specs.WritingLaws.{not-made, not-long, not-good, no-ro
 use Rattle.record.specs.Demands.{writtenView, writeChecks, WriteDemand1}
 
 module _ (r m : ℕ) (l : List ℤ) (d : List ℕ) (place : ℕ) where
-  refuses : (why : Refusal) → admission.Refused why ≡ writable r m l (length d) place → writtenView (writing r m l d place) ≡ refusedAs why (d ∷ [])
-  unfolding writing
-  refuses why e = ap (λ (a : Admitted). writtenView (writtenBy a l d place)) (sym e)
-
-  write-decides : Decides (d ∷ []) (writtenView (writing r m l d place)) (writeChecks r m l d place)
-  unfolding writing
-  write-decides =
+  -- of any outcome that is refused as the tests say; what comes after them is asked where they all pass
+  pub decides-writing : (before : List (List ℕ)) (o : View) (rest : Checks)
+      → ((why : Refusal) → admission.Refused why ≡ writable r m l (length d) place → o ≡ refusedAs why before)
+      → (admission.Allowed (rm r m) ≡ writable r m l (length d) place → Decides before o rest)
+      → Decides before o (writeChecks r m l d place rest)
+  decides-writing before o rest refuses then =
       let n = length d in
-      let o = writtenView (writing r m l d place) in
-      let room : Checks = check OutputLength (length d < place + length (recordOf r m l)) passed in
+      let room : Checks = check OutputLength (length d < place + length (recordOf r m l)) rest in
       ⊎-elim
       (λ large. inl (inl large, refuses _ (not-made r m l n place (made-large r m large))))
       (λ small. ⊎-elim
@@ -45,14 +43,11 @@ module _ (r m : ℕ) (l : List ℤ) (d : List ℕ) (place : ℕ) where
           | no f ↦ inl (f, refuses _ (not-long r m l n place (rm r m) good f))
           | yes e ↦ inr (
             λ f. f e,
-            decides-entry (pos 0) natAbs largestRecordReading l (d ∷ []) o room
+            decides-entry (pos 0) natAbs largestRecordReading l before o room
                 (λ h. refuses _ (not-good r m l n place (rm r m) good e h))
                 (λ h. ⊎-elim
                 (λ g. inl (omega (arith, length-record r m l e), refuses _ (no-room r m l n place (rm r m) good e h g)))
-                (λ g. inr (
-                  λ x. omega (arith, length-record r m l e),
-                  rw (← may-write r m l n place (rm r m) good e h g) (refl, refl),
-                ))
+                (λ g. inr (λ x. omega (arith, length-record r m l e), then (may-write r m l n place (rm r m) good e h g)))
                 (lt-or-le (n - place) (suc (partLength m)))),
           )
         ],
@@ -61,4 +56,9 @@ module _ (r m : ℕ) (l : List ℤ) (d : List ℕ) (place : ℕ) where
       (lt-or-le largestM m)
 
   pub write-demand-1 : WriteDemand1 r m l d place
-  write-demand-1 = demand-1 (d ∷ []) (writtenView (writing r m l d place)) (writeChecks r m l d place) write-decides
+  unfolding writing
+  write-demand-1 =
+      let before = d ∷ [] in
+      let o = writtenView (writing r m l d place) in
+      demand-1 before o (writeChecks r m l d place passed)
+      (decides-writing before o passed (λ why e. ap (λ (a : Admitted). writtenView (writtenBy a l d place)) (sym e)) (λ e. rw (← e) (refl, refl)))
