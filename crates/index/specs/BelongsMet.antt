@@ -36,7 +36,7 @@ made-of-starts s t (these l) e =
     (record { whole = refl; used = refl; count = refl; entries = take-at made (drop (length made) t) (length made) refl }))
     (lt-or-le (length t) (length made))
 
-take-taken : (n : ℕ) (l : List ℕ) → take (length (take n l)) l ≡ take n l
+pub take-taken : (n : ℕ) (l : List ℕ) → take (length (take n l)) l ≡ take n l
 take-taken zero l = refl
 take-taken (suc n) [] = refl
 take-taken (suc n) (x ∷ l) = ap (λ (y : List ℕ). x ∷ y) (take-taken n l)

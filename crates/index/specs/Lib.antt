@@ -13,6 +13,7 @@ pub mod AppendingLaws
 pub mod OwnMet
 pub mod AppendMet
 pub mod BelongsMet
+pub mod InUseMet
 pub mod DemandsMet
 pub mod MakingDemandsMet
 pub mod OnlyIndex

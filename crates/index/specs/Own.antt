@@ -41,6 +41,11 @@ pub record Belongs (index : Index) (capture table : List ℕ) : Type 0 where
   pub count : index .records ≡ length (listOf (startsOf (take (index .used) capture)))
   pub entries : let own = entriesOf (listOf (startsOf (take (index .used) capture))) in take (length own) table ≡ own
 
+-- in its used part each record that it counts is found as by stepping from the beginning
+pub record FoundInUse (index : Index) (capture table : List ℕ) (w : ℕ) : Type 0 where
+  pub header : let s = take (index .used) capture in headerIn s table w ≡ headerAt s (fromBeginning s w)
+  pub part : let s = take (index .used) capture in partIn s table w ≡ partAt s (fromBeginning s w)
+
 -- what an append leaves is what is made afresh of the longer capture
 abbrev pub MadeAfresh : AppendOutcome → List ℕ → Type 0
 MadeAfresh o table = making (take (o .index .used) (o .capture)) table ≡ told (Done (o .index)) (o .table)

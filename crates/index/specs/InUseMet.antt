@@ -1,0 +1,55 @@
+-- A table that belongs to a capture finds its records, whatever stands in the entries past its own; and the part that is found stands where it is told.
+use mathlib.Core.Path.{_≡_, refl, ap, sym, _∙_}
+use mathlib.Core.List.{List}
+use Prim.Native.Nat.{ℕ, _+_, _/_, _≤_, _<_}
+use native.Mathlib.Omega.{arith}
+use lib.ListN.{length, getD, take, drop, length-take}
+use lib.Seq.{getD-take, drop-drop}
+use borrow.Author.Tests.{lt-leb}
+use Rattle.packing.specs.Layout.{partLength}
+use Rattle.record.specs.declared.Header.{Header}
+use Rattle.record.specs.declared.Header.the-variants as header
+use Rattle.record.specs.Reader.{headerOf, partBy}
+use Rattle.index.specs.declared.Index.{Index}
+use Rattle.index.specs.declared.Place.{Place}
+use Rattle.index.specs.declared.Place.the-variants.{At, Refused}
+use Rattle.index.specs.Steps.{startsOf}
+use Rattle.index.specs.Finding.{startIn, headerAt, partAt, partIn, partAfter, partStartAt, partStart}
+use Rattle.index.specs.Making.{entriesOf, listOf}
+use Rattle.index.specs.MakingLaws.{length-entries}
+use Rattle.index.specs.Own.{Own, Belongs, FoundInUse}
+use Rattle.index.specs.OwnMet.{own-start}
+use Rattle.index.specs.BelongsMet.{take-taken}
+
+-- an entry of its own is read alike
+same-start : (s own table : List ℕ) (w : ℕ) → take (length own) table ≡ own → w / 16 < length own → startIn s table w ≡ startIn s own w
+unfolding startIn
+same-start s own table w front there =
+    let long : length own ≤ length table = omega (arith, ap length front, length-take (length own) table) in
+    let entry : getD table (w / 16) 0 ≡ getD own (w / 16) 0 =
+    sym (getD-take (length own) table (w / 16) 0 there) ∙ ap (λ (t : List ℕ). getD t (w / 16) 0) front in
+    rw (lt-leb (length table) (w / 16) (omega arith), lt-leb (length own) (w / 16) there, entry)
+
+pub found-in-use : (index : Index) (capture table : List ℕ) → Belongs index capture table → (w : ℕ) → w < index .records → FoundInUse index capture table w
+found-in-use index capture table b w h =
+    let s = take (index .used) capture in
+    let all = listOf (startsOf s) in
+    let own = entriesOf all in
+    let there : w / 16 < length own = omega (arith, b .count, length-entries all) in
+    let is = same-start s own table w (b .entries) there ∙ own-start s own (record { whole = b .whole; own = refl }) w there in
+    record { header = ap (headerAt s) is; part = ap (partAt s) is }
+
+-- ---- the part stands where it is told
+header-stands : (s : List ℕ) (start : ℕ) (h : Header)
+    → partBy h (drop start s) ≡ take (length (partBy h (drop start s))) (drop (partAfter h start) s)
+header-stands s start (header.Refused why) = refl
+header-stands s start (header.Record c) =
+    let same : drop (start + 1) s ≡ drop 1 (drop start s) = sym (drop-drop 1 start s) in
+    rw same (sym (take-taken (partLength (c .m)) (drop 1 (drop start s))))
+
+place-stands : (s : List ℕ) (p : Place) → partAt s p ≡ take (length (partAt s p)) (drop (partStartAt s p) s)
+place-stands s (Refused why) = refl
+place-stands s (At start) = header-stands s start (headerOf (drop start s))
+
+pub part-stands : (s table : List ℕ) (w : ℕ) → partIn s table w ≡ take (length (partIn s table w)) (drop (partStart s table w) s)
+part-stands s table w = place-stands s (startIn s table w)
