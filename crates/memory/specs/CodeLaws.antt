@@ -127,6 +127,10 @@ turn-ready {m} {i} {t = t} {y = y} {l = l} {s = s} r h k f =
       rows = subst (λ (n : ℕ). Made m l y i n s) e f;
     }
 
+-- and where it ends
+pub made-above : {m i k n : ℕ} {y : List ℕ} {l s : List ℤ} → k ≤ n → Made m l y i k s → Made m l y i n s
+made-above h f = record { made = λ t k. f .made t (omega arith) }
+
 pub same-arrays : {s s′ : List ℤ} {y : List ℕ} → Arrays s y → length s′ ≡ length s → Arrays s′ y
 same-arrays a e = record { long-rows = e ∙ a .long-rows; long-path = a .long-path; bits = a .bits }
 

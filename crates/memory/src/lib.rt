@@ -62,7 +62,7 @@ pub fn left_word(path: &[u8], word: &mut [u8], e: usize, h: usize, t: usize)
 }
 
 // The same of two bits, by straight code.
-fn word_of_2(path: &[u8], word: &mut [u8], e: usize)
+pub fn word_of_2(path: &[u8], word: &mut [u8], e: usize)
     requires { ⌜ (2 ≤ e) × (e ≤ length (now path)) × (2 ≤ length (now word))
         × Bits (now path) ⌝ }
     ensures { λ _. ⌜ take 2 (now (word .exit))
@@ -75,7 +75,7 @@ fn word_of_2(path: &[u8], word: &mut [u8], e: usize)
 }
 
 // And of four.
-fn word_of_4(path: &[u8], word: &mut [u8], e: usize)
+pub fn word_of_4(path: &[u8], word: &mut [u8], e: usize)
     requires { ⌜ (4 ≤ e) × (e ≤ length (now path)) × (4 ≤ length (now word))
         × Bits (now path) ⌝ }
     ensures { λ _. ⌜ take 4 (now (word .exit))
@@ -151,7 +151,7 @@ fn first_row(
     row(rows, path, word, t, i);
 }
 
-// The row of 2^high sums and all below it, by loops.
+// The row of 2^high sums and those below it down to 2^low sums, by loops.
 fn make_rows(
     readings: &[i16],
     rows: &mut [i32],
@@ -159,17 +159,18 @@ fn make_rows(
     word: &mut [u8],
     m: usize,
     high: usize,
+    low: usize,
     i: usize,
 )
     requires { ⌜ (length (now readings) ≡ 256)
         × Arrays (now rows) (now path) × (length (now word) ≡ 256)
         × RowsReady m (take (2 ^ m) (now readings)) (now path) i high (now rows) ⌝ }
-    ensures { λ _. ⌜ Made m (take (2 ^ m) (now (readings .entry))) (now (path .entry)) i 0
+    ensures { λ _. ⌜ Made m (take (2 ^ m) (now (readings .entry))) (now (path .entry)) i low
         (now (rows .exit)) ⌝ }
 {
     first_row(readings, rows, path, word, m, high, i);
     let mut t = high;
-    while 0 < t {
+    while low < t {
         t -= 1;
         row(rows, path, word, t, i);
     }
@@ -266,7 +267,8 @@ fn start_of_4(rows: &mut [i32], path: &[u8], word: &mut [u8], i: usize)
     rows::lower_row(rows, 1);
 }
 
-// The value at index i of the path, wherever the rows stand.
+// The value at index i of the path, wherever the rows stand. Rows of up to four sums are made by
+// straight code, save where the highest of all is one of them: that is made from the readings.
 fn any_value(
     readings: &[i16; 256],
     rows: &mut [i32; 256],
@@ -286,11 +288,16 @@ fn any_value(
         return readings[0] as i32;
     }
     let high = top(m, was, i);
-    if high < 3 && high + 1 < m {
+    if m < 4 {
+        make_rows(readings, rows, path, word, m, high, 0, i);
+        return rows[1];
+    }
+    if high < 3 {
         low_rows(rows, path, word, high + 1, i);
         return rows[1];
     }
-    make_rows(readings, rows, path, word, m, high, i);
+    make_rows(readings, rows, path, word, m, high, 3, i);
+    low_rows(rows, path, word, 3, i);
     rows[1]
 }
 
