@@ -267,8 +267,37 @@ fn start_of_4(rows: &mut [i32], path: &[u8], word: &mut [u8], i: usize)
     rows::lower_row(rows, 1);
 }
 
+// Of 2^t and none of twice as many, t at least 3: the row of 2^t sums, and all below it. These are
+// lower rows, as no lower digit of i is 1.
+fn start_of_more(
+    readings: &[i16],
+    rows: &mut [i32],
+    path: &[u8],
+    word: &mut [u8],
+    m: usize,
+    t: usize,
+    i: usize,
+)
+    requires { ⌜ (3 ≤ t) × LowestOne t i × (length (now readings) ≡ 256)
+        × Arrays (now rows) (now path) × (length (now word) ≡ 256)
+        × RowsReady m (take (2 ^ m) (now readings)) (now path) i t (now rows) ⌝ }
+    ensures { λ _. ⌜ Made m (take (2 ^ m) (now (readings .entry))) (now (path .entry)) i 0
+        (now (rows .exit)) ⌝ }
+{
+    first_row(readings, rows, path, word, m, t, i);
+    let mut u = t;
+    while 3 < u {
+        u -= 1;
+        rows::lower_row(rows, power(u));
+    }
+    rows::lower_row(rows, 4);
+    rows::lower_row(rows, 2);
+    rows::lower_row(rows, 1);
+}
+
 // The value at index i of the path, wherever the rows stand. Rows of up to four sums are made by
-// straight code, save where the highest of all is one of them: that is made from the readings.
+// straight code, save where m is below 4: there the highest of all, made from the readings, is one
+// of them.
 fn any_value(
     readings: &[i16; 256],
     rows: &mut [i32; 256],
@@ -302,8 +331,9 @@ fn any_value(
 }
 
 // The value at index i of the path. The rows stand for index was, and then for i. Most often i
-// comes next, and then three rows of four suffice for seven indices in eight; two places call
-// any_value, so that the compiler keeps it out of that short way.
+// comes next, and then only the rows of the blocks that start at i change: three of up to four sums
+// for seven indices in eight. Two places call any_value, so that the compiler keeps it out of that
+// short way.
 pub fn value(
     readings: &[i16; 256],
     rows: &mut [i32; 256],
@@ -335,6 +365,8 @@ pub fn value(
             start_of_4(rows, path, word, i);
             return rows[1];
         }
+        start_of_more(readings, rows, path, word, m, lowest_one(i), i);
+        return rows[1];
     }
     any_value(readings, rows, path, word, m, was, i)
 }

@@ -1,4 +1,4 @@
--- `any_value`: the highest row that changes, and all below it, the lowest three by straight code where the row above them stands in the array.
+-- `any_value`: the highest row that changes, and all below it, the lowest three by straight code where m is at least 4.
 use Rattle.memory.specs.CodeLaws.{low-asked, low-made, first-ready, turn-ready, same-arrays, value-arrays, value-given, single}
 use Rattle.memory.specs.Memory.{remade}
 use Rattle.rows.specs.RowLaws.{reading-fits}
@@ -72,8 +72,8 @@ low-rows-requires-2 c κs =
     let t = made .before .before .before .before .before .before .before .top in
     let start = made .before .before .before .before .before .before .before .before .before in
     let ready = turn-ready (first-ready (start .pre) (t .ensures)) (omega arith) (omega arith) (made .make-rows2 .ensures) in
-    let arrays = same-arrays (value-arrays (start .pre) (omega arith) (omega arith)) (made .make-rows2 .kept .1 .0) in
-    (omega arith, low-asked ready arrays (omega arith) (omega arith), omega arith)
+    let arrays = value-arrays (start .pre) (omega arith) (omega arith) in
+    (omega arith, low-asked ready (same-arrays arrays (made .make-rows2 .kept .1 .0)) (omega arith) (omega arith), omega arith)
 
 element-copy-out-result-4 : tie.Need-element-copy-out-result-4
 element-copy-out-result-4 c = search needs
@@ -84,8 +84,9 @@ returns-4 c =
     let t = made .before .before .before .before .before .before .before .top in
     let start = made .before .before .before .before .before .before .before .before .before in
     let ready = turn-ready (first-ready (start .pre) (t .ensures)) (omega arith) (omega arith) (made .make-rows2 .ensures) in
-    let arrays = same-arrays (value-arrays (start .pre) (omega arith) (omega arith)) (made .make-rows2 .kept .1 .0) in
-    value-given (start .pre) (omega arith) (omega arith) (low-made ready arrays (omega arith) (c .before .low-rows2 .ensures))
+    let arrays = value-arrays (start .pre) (omega arith) (omega arith) in
+    value-given (start .pre) (omega arith) (omega arith)
+    (low-made ready (same-arrays arrays (made .make-rows2 .kept .1 .0)) (omega arith) (c .before .low-rows2 .ensures))
 
 pub any-value-spec : {M : Type 1} → statement M
 any-value-spec =
