@@ -12,6 +12,7 @@ use lib.Pow.{pow-mono}
 use borrow.Rule.Slice.PartMut.{midOf}
 use mir.Syntax.{w16, w32}
 use mir.Val.{SFits, toZ, ofZ}
+use Rattle.numbers.specs.Lowest.{LowestOne}
 use Rattle.words.specs.Bits.{Bits}
 use Rattle.words.specs.Word.{transform}
 use Rattle.words.specs.TransformLaws.{length-transform, bits-take, bits-drop}
@@ -22,6 +23,7 @@ use Rattle.rows.specs.Rows.{rowOf, withRow}
 use Rattle.rows.specs.RowLaws.{reading-read}
 use Rattle.memory.specs.Memory.{below, newRow, remade, Arrays, Made, Stands, Top, ValueReady, RowsReady, LowReady}
 use Rattle.memory.specs.RowLaws.{digit-cases, below-upper, below-lower, start-odd}
+use Rattle.memory.specs.LowLaws.{lower-new}
 use Rattle.memory.specs.MadeLaws.{above-small, made-top, made-row, made-remade, made-all, last-entry, last-row, still-made}
 
 -- ---- the word of the block before
@@ -127,8 +129,26 @@ turn-ready {m} {i} {t = t} {y = y} {l = l} {s = s} r h k f =
       rows = subst (λ (n : ℕ). Made m l y i n s) e f;
     }
 
+-- and where it ends
+pub made-above : {m i k n : ℕ} {y : List ℕ} {l s : List ℤ} → k ≤ n → Made m l y i k s → Made m l y i n s
+made-above h f = record { made = λ t k. f .made t (omega arith) }
+
 pub same-arrays : {s s′ : List ℤ} {y : List ℕ} → Arrays s y → length s′ ≡ length s → Arrays s′ y
 same-arrays a e = record { long-rows = e ∙ a .long-rows; long-path = a .long-path; bits = a .bits }
+
+-- where i starts a block of 2^t indices, below which all rows are lower rows
+module _ {m i t u : ℕ} {y : List ℕ} {l s₀ s : List ℤ} (r : RowsReady m l y i t s₀) (a : Arrays s y) (h : u ≤ t) (some : 0 < u) (f : Made m l y i u s) where
+  next : RowsReady m l y i (u - 1) s
+  next = turn-ready r h some f
+
+  more : suc (u - 1) < m
+  more = omega (arith, r .some)
+
+  pub start-asked : (n : ℕ) → n ≡ 2 ^ (u - 1) → (n + n + (n + n) ≤ length s) × (sizes (rowOf (n + n) s) < sumLimit)
+  start-asked n is = rw is (omega (arith, row-fits next a more, a .long-rows), row-small next a more)
+
+  pub start-made : {s′ : List ℤ} → LowestOne t i → (n : ℕ) → n ≡ 2 ^ (u - 1) → s′ ≡ withRow n s (lowerRow n (rowOf (n + n) s)) → Made m l y i (u - 1) s′
+  start-made o n is e = row-made next a more (lower-new t i o (u - 1) n y s (omega arith) is e)
 
 -- ---- the value, and what is left behind
 module _ {m j i : ℕ} {y : List ℕ} {l s : List ℤ} (v : ValueReady m l y j i s) where

@@ -12,11 +12,12 @@ use lib.Pow.{pow-pos, pow-mono, mod-pow-add, mod-mod-pow, split}
 use Rattle.numbers.specs.Lowest.{LowestOne}
 use Rattle.words.specs.Word.{transform}
 use Rattle.decoding.specs.Readings.{sizes, sumLimit}
-use Rattle.rows.specs.Rows.{rowOf}
+use Rattle.decoding.specs.Quick.{lowerRow}
+use Rattle.rows.specs.Rows.{rowOf, withRow}
 use Rattle.rows.specs.RowLaws.{length-rowOf}
 use Rattle.rows.specs.PlaceLaws.{length-withRow, rowOf-withRow}
 use Rattle.memory.specs.Memory.{below, newRow, remade, LowReady}
-use Rattle.memory.specs.RowLaws.{digit-cases, sizes-below, length-below}
+use Rattle.memory.specs.RowLaws.{digit-cases, below-lower, sizes-below, length-below}
 
 -- ---- the words
 word-2 : (x : List ℕ) → 2 ≤ length x → transform 1 (take 2 x) ≡ (getD x 0 0 + getD x 1 0) % 2 ∷ getD x 1 0 ∷ []
@@ -132,7 +133,7 @@ module _ (t i : ℕ) (o : LowestOne t i) where
   pub start-here : i / 2 ^ t * 2 ^ t ≡ i
   start-here = omega (arith, split i t, none-left)
 
-  pub start-even : (u : ℕ) → u < t → i / 2 ^ u % 2 ≡ 0
+  start-even : (u : ℕ) → u < t → i / 2 ^ u % 2 ≡ 0
   start-even u h =
       let n : t - suc u + suc u ≡ t = omega arith in
       let z : i % 2 ^ suc u ≡ 0 = sym (subst (λ (k : ℕ). i % 2 ^ k % 2 ^ suc u ≡ i % 2 ^ suc u) n (mod-mod-pow i (t - suc u) (suc u)))
@@ -142,3 +143,8 @@ module _ (t i : ℕ) (o : LowestOne t i) where
       absurd (omega (arith, z, e, pow-pos u)))
       (λ (k : i / 2 ^ u % 2 ≡ 0). k)
       (digit-cases (i / 2 ^ u))
+
+  -- so the rows below are lower rows
+  pub lower-new : (u h : ℕ) (y : List ℕ) (s : List ℤ) {s′ : List ℤ} → u < t → h ≡ 2 ^ u
+      → s′ ≡ withRow h s (lowerRow h (rowOf (h + h) s)) → s′ ≡ newRow u i y s
+  lower-new u h y s k is f = f ∙ rw is (ap (withRow (2 ^ u) s) (sym (below-lower u i y (rowOf (2 ^ u + 2 ^ u) s) (start-even u k))))

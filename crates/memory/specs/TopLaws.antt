@@ -1,9 +1,9 @@
 -- Laws of the highest row that changes from one index to another: by the highest digit in which they differ, and the lowest one of the new index.
 use mathlib.Core.Path.{_≡_, ap, sym, _∙_, subst}
 use mathlib.Core.Logic.{⊎-elim}
-use Prim.Native.Nat.{ℕ, suc, _+_, _-_, _^_, _/_, _%_, _≤_, _<_, max}
+use Prim.Native.Nat.{ℕ, zero, suc, _+_, _-_, _^_, _/_, _%_, _≤_, _<_, max}
 use native.Mathlib.Omega.{arith}
-use native.Mathlib.Nat.{two-pow-succ, div-eq-of-lt, mod-le, mul-mod-left}
+use native.Mathlib.Nat.{two-pow-succ, add-mul, div-eq-of-lt, div-eq-of-lt-le, mod-le, mul-mod-left}
 use lib.Pow.{pow-pos, pow-mono, pow-lt, pow-add, mod-mod-pow, split}
 use lib.Bits.{bitOr, bitXor, xor-add-and, or-add-and, and-le-l, and-le-r, xor-shr, xor-lt, or-mod, or-lt, or-zero-r}
 use lib.Count.{leadingZeros, leading-top}
@@ -68,15 +68,22 @@ module _ (m j i : ℕ) (more : 0 < m) (was : j < 2 ^ m) (inside : i < 2 ^ m) whe
       }
 
 -- ---- where the new index is the next one: only the blocks that start there change
-module _ {m j i : ℕ} (more : 3 < m) (next : j + 1 ≡ i) where
-  pub top-of-1 : i % 2 ≡ 1 → Top m j i 0
-  top-of-1 o = record { within = omega arith; same = λ k. omega (arith, next, o); before = λ k. omega (arith, o) }
+pub top-next : {m j i : ℕ} (t : ℕ) → t < m → j + 1 ≡ i → LowestOne t i → Top m j i t
+top-next {m} {j} {i} t h next o =
+    let p = 2 ^ suc t in
+    record {
+      within = h;
+      same = λ k. div-eq-of-lt-le p {m = j} (omega (arith, split i (suc t), o, next, pow-pos t))
+          (rw (add-mul (i / p) 1 p) (omega (arith, split i (suc t), o, next, two-pow-succ t)));
+      before = λ k. omega (arith, split i (suc t), o, pow-pos t);
+    }
 
-  pub top-of-2 : i % 4 ≡ 2 → Top m j i 1
-  top-of-2 o = record { within = omega arith; same = λ k. omega (arith, next, o); before = λ k. omega (arith, o) }
-
-  pub top-of-4 : i % 8 ≡ 4 → Top m j i 2
-  top-of-4 o = record { within = omega arith; same = λ k. omega (arith, next, o); before = λ k. omega (arith, o) }
+-- where it is no block of one, two or four indices that starts there and none of twice as many, it is one of more
+pub starts-more : (t i : ℕ) → LowestOne t i → (i % 2 ≡ 1 → ⊥) → (i % 4 ≡ 2 → ⊥) → (i % 8 ≡ 4 → ⊥) → 3 ≤ t
+starts-more zero i o one two four = absurd (one o)
+starts-more (suc zero) i o one two four = absurd (two o)
+starts-more (suc (suc zero)) i o one two four = absurd (four o)
+starts-more (suc (suc (suc t))) i o one two four = omega arith
 
 -- what fits the arrays
 pub exponent-small : (m : ℕ) → 2 ^ m ≤ 256 → m ≤ 8

@@ -151,7 +151,7 @@ fn first_row(
     row(rows, path, word, t, i);
 }
 
-// The row of 2^high sums and all below it, by loops.
+// The row of 2^high sums and those below it down to 2^low sums, by loops.
 fn make_rows(
     readings: &[i16],
     rows: &mut [i32],
@@ -159,17 +159,18 @@ fn make_rows(
     word: &mut [u8],
     m: usize,
     high: usize,
+    low: usize,
     i: usize,
 )
     requires { ⌜ (length (now readings) ≡ 256)
         × Arrays (now rows) (now path) × (length (now word) ≡ 256)
         × RowsReady m (take (2 ^ m) (now readings)) (now path) i high (now rows) ⌝ }
-    ensures { λ _. ⌜ Made m (take (2 ^ m) (now (readings .entry))) (now (path .entry)) i 0
+    ensures { λ _. ⌜ Made m (take (2 ^ m) (now (readings .entry))) (now (path .entry)) i low
         (now (rows .exit)) ⌝ }
 {
     first_row(readings, rows, path, word, m, high, i);
     let mut t = high;
-    while 0 < t {
+    while low < t {
         t -= 1;
         row(rows, path, word, t, i);
     }
@@ -266,7 +267,37 @@ fn start_of_4(rows: &mut [i32], path: &[u8], word: &mut [u8], i: usize)
     rows::lower_row(rows, 1);
 }
 
-// The value at index i of the path, wherever the rows stand.
+// Of 2^t and none of twice as many, t at least 3: the row of 2^t sums, and all below it. These are
+// lower rows, as no lower digit of i is 1.
+fn start_of_more(
+    readings: &[i16],
+    rows: &mut [i32],
+    path: &[u8],
+    word: &mut [u8],
+    m: usize,
+    t: usize,
+    i: usize,
+)
+    requires { ⌜ (3 ≤ t) × LowestOne t i × (length (now readings) ≡ 256)
+        × Arrays (now rows) (now path) × (length (now word) ≡ 256)
+        × RowsReady m (take (2 ^ m) (now readings)) (now path) i t (now rows) ⌝ }
+    ensures { λ _. ⌜ Made m (take (2 ^ m) (now (readings .entry))) (now (path .entry)) i 0
+        (now (rows .exit)) ⌝ }
+{
+    first_row(readings, rows, path, word, m, t, i);
+    let mut u = t;
+    while 3 < u {
+        u -= 1;
+        rows::lower_row(rows, power(u));
+    }
+    rows::lower_row(rows, 4);
+    rows::lower_row(rows, 2);
+    rows::lower_row(rows, 1);
+}
+
+// The value at index i of the path, wherever the rows stand. Rows of up to four sums are made by
+// straight code, save where m is below 4: there the highest of all, made from the readings, is one
+// of them.
 fn any_value(
     readings: &[i16; 256],
     rows: &mut [i32; 256],
@@ -286,17 +317,23 @@ fn any_value(
         return readings[0] as i32;
     }
     let high = top(m, was, i);
-    if high < 3 && high + 1 < m {
+    if m < 4 {
+        make_rows(readings, rows, path, word, m, high, 0, i);
+        return rows[1];
+    }
+    if high < 3 {
         low_rows(rows, path, word, high + 1, i);
         return rows[1];
     }
-    make_rows(readings, rows, path, word, m, high, i);
+    make_rows(readings, rows, path, word, m, high, 3, i);
+    low_rows(rows, path, word, 3, i);
     rows[1]
 }
 
 // The value at index i of the path. The rows stand for index was, and then for i. Most often i
-// comes next, and then three rows of four suffice for seven indices in eight; two places call
-// any_value, so that the compiler keeps it out of that short way.
+// comes next, and then only the rows of the blocks that start at i change: three of up to four sums
+// for seven indices in eight. Two places call any_value, so that the compiler keeps it out of that
+// short way.
 pub fn value(
     readings: &[i16; 256],
     rows: &mut [i32; 256],
@@ -328,6 +365,8 @@ pub fn value(
             start_of_4(rows, path, word, i);
             return rows[1];
         }
+        start_of_more(readings, rows, path, word, m, lowest_one(i), i);
+        return rows[1];
     }
     any_value(readings, rows, path, word, m, was, i)
 }

@@ -1,13 +1,12 @@
--- `any_value`: the highest row that changes, and all below it, by straight code where they are few and the row above them stands in the array.
-use Rattle.memory.specs.CodeLaws.{low-asked, low-made, first-ready, value-arrays, value-given, single}
+-- `any_value`: the highest row that changes, and all below it, the lowest three by straight code where m is at least 4.
+use Rattle.memory.specs.CodeLaws.{low-asked, low-made, first-ready, turn-ready, same-arrays, value-arrays, value-given, single}
 use Rattle.memory.specs.Memory.{remade}
 use Rattle.rows.specs.RowLaws.{reading-fits}
 use lib.ListN.{getD}
 use lib.IntN.{pos}
 use native.Mathlib.Numerals.{add-one}
 use native.Mathlib.Omega.{arith}
-use Prim.Native.Nat.{ℕ, suc, _+_, _<_}
-use borrow.Author.Tests.{ltb-true}
+use Prim.Native.Nat.{ℕ}
 use mathlib.Core.Path.{ap, _∙_}
 use borrow.Author.Needs.{needs}
 use Rattle.memory.proofs.any_value.Statement.{statement}
@@ -25,48 +24,69 @@ returns c = single (c .before .before .args .readings .now) (c .before .if1 .tak
 top-requires : tie.Need-top-requires
 top-requires c κs = search needs
 
-add-if3 : tie.Need-add-if3
-add-if3 c = search needs
-
-add-low-rows : tie.Need-add-low-rows
-add-low-rows c = search needs
-
-low-rows-requires : tie.Need-low-rows-requires
-low-rows-requires c κs =
-    let if3 = c .before .before .before in
-    let t = if3 .before .before .top in
-    let start = if3 .before .before .before .before in
-    let more : suc (t .result) < start .args .m = omega (arith, ltb-true (t .result + 1) (start .args .m) (if3 .if3 .taken)) in
-    let arrays = value-arrays (start .pre) (omega arith) (omega arith) in
-    (omega arith, rw (add-one (t .result)) (low-asked (first-ready (start .pre) (t .ensures)) arrays (omega arith) more), omega arith)
-
-element-copy-out-result-2 : tie.Need-element-copy-out-result-2
-element-copy-out-result-2 c = search needs
-
-returns-2 : tie.Need-returns-2
-returns-2 c =
-    let if3 = c .before .before .before .before .before in
-    let t = if3 .before .before .top in
-    let start = if3 .before .before .before .before in
-    let s = start .args in
-    let more : suc (t .result) < s .m = omega (arith, ltb-true (t .result + 1) (s .m) (if3 .if3 .taken)) in
-    value-given (start .pre) (omega arith) (omega arith)
-    (low-made (first-ready (start .pre) (t .ensures)) (value-arrays (start .pre) (omega arith) (omega arith)) more
-    (c .before .low-rows .ensures ∙ ap (λ (k : ℕ). remade k (s .i) (s .path .now) (s .rows .now)) (add-one (t .result))))
-
 make-rows-requires : tie.Need-make-rows-requires
 make-rows-requires c κs =
     let t = c .before .before .before .before .before .top in
     let start = c .before .before .before .before .before .before .before in
     (omega arith, value-arrays (start .pre) (omega arith) (omega arith), omega arith, first-ready (start .pre) (t .ensures))
 
+element-copy-out-result-2 : tie.Need-element-copy-out-result-2
+element-copy-out-result-2 c = search needs
+
+returns-2 : tie.Need-returns-2
+returns-2 c =
+    let start = c .before .before .before .before .before .before .before .before .before in
+    value-given (start .pre) (omega arith) (omega arith) (c .before .make-rows .ensures)
+
+add-low-rows : tie.Need-add-low-rows
+add-low-rows c = search needs
+
+low-rows-requires : tie.Need-low-rows-requires
+low-rows-requires c κs =
+    let t = c .before .before .before .before .before .top in
+    let start = c .before .before .before .before .before .before .before in
+    let arrays = value-arrays (start .pre) (omega arith) (omega arith) in
+    (omega arith, rw (add-one (t .result)) (low-asked (first-ready (start .pre) (t .ensures)) arrays (omega arith) (omega arith)), omega arith)
+
 element-copy-out-result-3 : tie.Need-element-copy-out-result-3
 element-copy-out-result-3 c = search needs
 
 returns-3 : tie.Need-returns-3
 returns-3 c =
-    let g = c .before .before .before .before .before .before .before .before .before in
-    value-given (g .pre) (omega arith) (omega arith) (c .before .make-rows .ensures)
+    let t = c .before .before .before .before .before .before .before .top in
+    let start = c .before .before .before .before .before .before .before .before .before in
+    let s = start .args in
+    value-given (start .pre) (omega arith) (omega arith)
+    (low-made (first-ready (start .pre) (t .ensures)) (value-arrays (start .pre) (omega arith) (omega arith)) (omega arith)
+    (c .before .low-rows .ensures ∙ ap (λ (k : ℕ). remade k (s .i) (s .path .now) (s .rows .now)) (add-one (t .result))))
+
+make-rows-requires-2 : tie.Need-make-rows-requires-2
+make-rows-requires-2 c κs =
+    let t = c .before .before .before .before .before .before .top in
+    let start = c .before .before .before .before .before .before .before .before in
+    (omega arith, value-arrays (start .pre) (omega arith) (omega arith), omega arith, first-ready (start .pre) (t .ensures))
+
+low-rows-requires-2 : tie.Need-low-rows-requires-2
+low-rows-requires-2 c κs =
+    let made = c .before .before .before in
+    let t = made .before .before .before .before .before .before .before .top in
+    let start = made .before .before .before .before .before .before .before .before .before in
+    let ready = turn-ready (first-ready (start .pre) (t .ensures)) (omega arith) (omega arith) (made .make-rows2 .ensures) in
+    let arrays = value-arrays (start .pre) (omega arith) (omega arith) in
+    (omega arith, low-asked ready (same-arrays arrays (made .make-rows2 .kept .1 .0)) (omega arith) (omega arith), omega arith)
+
+element-copy-out-result-4 : tie.Need-element-copy-out-result-4
+element-copy-out-result-4 c = search needs
+
+returns-4 : tie.Need-returns-4
+returns-4 c =
+    let made = c .before .before .before .before .before in
+    let t = made .before .before .before .before .before .before .before .top in
+    let start = made .before .before .before .before .before .before .before .before .before in
+    let ready = turn-ready (first-ready (start .pre) (t .ensures)) (omega arith) (omega arith) (made .make-rows2 .ensures) in
+    let arrays = value-arrays (start .pre) (omega arith) (omega arith) in
+    value-given (start .pre) (omega arith) (omega arith)
+    (low-made ready (same-arrays arrays (made .make-rows2 .kept .1 .0)) (omega arith) (c .before .low-rows2 .ensures))
 
 pub any-value-spec : {M : Type 1} → statement M
 any-value-spec =
@@ -76,11 +96,14 @@ any-value-spec =
     cast-result
     returns
     top-requires
-    add-if3
-    add-low-rows
-    low-rows-requires
+    make-rows-requires
     element-copy-out-result-2
     returns-2
-    make-rows-requires
+    add-low-rows
+    low-rows-requires
     element-copy-out-result-3
-    returns-3)
+    returns-3
+    make-rows-requires-2
+    low-rows-requires-2
+    element-copy-out-result-4
+    returns-4)

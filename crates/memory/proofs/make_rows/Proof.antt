@@ -1,19 +1,19 @@
 -- `make_rows`: from the row of 2^t sums on the rows stand for i.
-use Rattle.memory.specs.CodeLaws.{short, row-fits, row-small, row-made, turn-ready, same-arrays}
+use Rattle.memory.specs.CodeLaws.{short, row-fits, row-small, row-made, turn-ready, made-above, same-arrays}
 use Rattle.memory.specs.Memory.{Arrays, Made}
 use lib.ListN.{length, take}
 use native.Mathlib.Omega.{arith}
-use Prim.Native.Nat.{ℕ, _-_, _^_, _≤_, _<_, suc}
-use mathlib.Core.Path.{_≡_, sym, _∙_, subst}
+use Prim.Native.Nat.{_-_, _^_, _≤_, _<_, suc}
+use mathlib.Core.Path.{_≡_, sym, _∙_}
 use Rattle.memory.proofs.make_rows.Statement.{statement}
 use Rattle.memory.proofs.make_rows.Tie as tie
 
 abbrev Inv-loop : tie.InvT-loop
-Inv-loop readings rows₀ path word₀ m high i t₀ rows word t =
+Inv-loop readings rows₀ path word₀ m high low i t₀ rows word t =
     (t ≤ high) × Arrays rows path × (length word ≡ 256) × Made m (take (2 ^ m) readings) path i t rows
 
 abbrev μ-loop : tie.MeasureT-loop
-μ-loop readings rows₀ path word₀ m high i t₀ rows word t = t
+μ-loop readings rows₀ path word₀ m high low i t₀ rows word t = t
 
 first-row-requires : tie.Need-first-row-requires Inv-loop μ-loop
 first-row-requires c κs = c .before .before .before .before .pre
@@ -54,11 +54,7 @@ same-length-2 : tie.Need-same-length-2 Inv-loop μ-loop
 same-length-2 c = c .before .loop .inv .2 ∙ sym (c .before .before .before .before .before .before .before .before .before .before .pre .2)
 
 returns : tie.Need-returns Inv-loop μ-loop
-returns c =
-    let g = c .before .before .before .before .before .before .before .before .before .before in
-    let o = c .before .loop in
-    let e : o .t ≡ 0 = omega arith in
-    subst (λ (t : ℕ). Made (g .args .m) (take (2 ^ g .args .m) (g .args .readings .now)) (g .args .path .now) (g .args .i) t (o .rows)) e (o .inv .3)
+returns c = made-above (omega arith) (c .before .loop .inv .3)
 
 pub make-rows-spec : {M : Type 1} → statement M
 make-rows-spec =

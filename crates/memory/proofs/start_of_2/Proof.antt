@@ -1,11 +1,10 @@
 -- `start_of_2`: the upper row of two sums, and the lower one of one.
-use Rattle.memory.specs.LowLaws.{low-room, low-small, low-next, remade-one, remade-more, start-odd, start-here, start-even}
-use Rattle.memory.specs.CodeLaws.{upper-here, lower-made}
+use Rattle.memory.specs.LowLaws.{low-room, low-small, low-next, remade-one, remade-more, start-odd, start-here, lower-new}
+use Rattle.memory.specs.CodeLaws.{upper-here}
 use Rattle.memory.specs.Memory.{newRow}
 use Rattle.rows.specs.Rows.{rowOf}
 use native.Mathlib.Omega.{arith}
-use mathlib.Core.Path.{_≡_}
-use mathlib.Core.Path.{refl}
+use mathlib.Core.Path.{_≡_, refl}
 use borrow.Author.Needs.{needs}
 use Rattle.memory.proofs.start_of_2.Statement.{statement}
 use Rattle.memory.proofs.start_of_2.Tie as tie
@@ -45,8 +44,7 @@ returns c =
     let s = start .args in
     let x = made .upper-row .last .0 in
     remade-more 1 (s .i) (s .path .now) (s .rows .now) (upper made) (remade-one (s .i) (s .path .now) x
-    (lower-made 0 1 (s .i) (s .path .now) (rowOf 2 x) x refl (λ k. omega (arith, k, start-even 1 (s .i) (start .pre .0) 0 (omega arith)))
-    (c .before .lower-row .ensures)))
+    (lower-new 1 (s .i) (start .pre .0) 0 1 (s .path .now) x (omega arith) refl (c .before .lower-row .ensures)))
 
 pub start-of-2-spec : {M : Type 1} → statement M
 start-of-2-spec =

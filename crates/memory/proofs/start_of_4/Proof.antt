@@ -1,11 +1,10 @@
 -- `start_of_4`: the upper row of four sums, and the lower ones of two and one.
-use Rattle.memory.specs.LowLaws.{low-room, low-small, low-next, remade-one, remade-more, start-odd, start-here, start-even}
-use Rattle.memory.specs.CodeLaws.{upper-here, lower-made}
+use Rattle.memory.specs.LowLaws.{low-room, low-small, low-next, remade-one, remade-more, start-odd, start-here, lower-new}
+use Rattle.memory.specs.CodeLaws.{upper-here}
 use Rattle.memory.specs.Memory.{newRow}
 use Rattle.rows.specs.Rows.{rowOf}
 use native.Mathlib.Omega.{arith}
-use mathlib.Core.Path.{_≡_}
-use mathlib.Core.Path.{refl}
+use mathlib.Core.Path.{_≡_, refl}
 use borrow.Author.Needs.{needs}
 use Rattle.memory.proofs.start_of_4.Statement.{statement}
 use Rattle.memory.proofs.start_of_4.Tie as tie
@@ -26,9 +25,7 @@ two c =
     let upper-made = c .before .before .before in
     let start = upper-made .before .before .before .before .before .before .before .before .before in
     let s = start .args in
-    let x = upper-made .upper-row .last .0 in
-    lower-made 1 2 (s .i) (s .path .now) (rowOf 4 x) x refl (λ k. omega (arith, k, start-even 2 (s .i) (start .pre .0) 1 (omega arith)))
-    (c .lower-row .ensures)
+    lower-new 2 (s .i) (start .pre .0) 1 2 (s .path .now) (upper-made .upper-row .last .0) (omega arith) refl (c .lower-row .ensures)
 
 word-of-4-requires : tie.Need-word-of-4-requires
 word-of-4-requires c κs = search needs
@@ -66,8 +63,7 @@ returns c =
     let x = made .lower-row .last .0 in
     remade-more 2 (s .i) (s .path .now) (s .rows .now) (upper above)
     (remade-more 1 (s .i) (s .path .now) (above .upper-row .last .0) (two made) (remade-one (s .i) (s .path .now) x
-    (lower-made 0 1 (s .i) (s .path .now) (rowOf 2 x) x refl (λ k. omega (arith, k, start-even 2 (s .i) (start .pre .0) 0 (omega arith)))
-    (c .before .lower-row2 .ensures))))
+    (lower-new 2 (s .i) (start .pre .0) 0 1 (s .path .now) x (omega arith) refl (c .before .lower-row2 .ensures))))
 
 pub start-of-4-spec : {M : Type 1} → statement M
 start-of-4-spec =

@@ -1,6 +1,7 @@
--- `value`: by straight code where i is the next index and starts no block of eight.
+-- `value`: where i is the next index, from the row of the block that starts there.
 use Rattle.memory.specs.CodeLaws.{low-asked, low-made, first-ready, value-arrays, value-given}
-use Rattle.memory.specs.TopLaws.{top-of-1, top-of-2, top-of-4}
+use Rattle.memory.specs.TopLaws.{top-next, starts-more}
+use Rattle.numbers.specs.LowestLaws.{lowest-within}
 use native.Mathlib.Omega.{arith}
 use borrow.Author.Needs.{needs}
 use Rattle.memory.proofs.value.Statement.{statement}
@@ -20,7 +21,7 @@ start-of-1-requires c κs =
     let o = c .before .before .if3 .taken in
     let next = c .before .before .before in
     let start = next .before .before in
-    let ready = first-ready (start .pre) (top-of-1 (omega arith) (next .if2 .taken) o) in
+    let ready = first-ready (start .pre) (top-next 0 (omega arith) (next .if2 .taken) o) in
     (o, low-asked ready (value-arrays (start .pre) (omega arith) (omega arith)) (omega arith) (omega arith))
 
 element-copy-out-result : tie.Need-element-copy-out-result
@@ -31,7 +32,7 @@ returns-2 c =
     let o = c .before .before .before .before .if3 .taken in
     let next = c .before .before .before .before .before in
     let start = next .before .before in
-    let ready = first-ready (start .pre) (top-of-1 (omega arith) (next .if2 .taken) o) in
+    let ready = first-ready (start .pre) (top-next 0 (omega arith) (next .if2 .taken) o) in
     value-given (start .pre) (omega arith) (omega arith)
     (low-made ready (value-arrays (start .pre) (omega arith) (omega arith)) (omega arith) (c .before .start-of-1 .ensures))
 
@@ -40,7 +41,7 @@ start-of-2-requires c κs =
     let o = c .before .before .before .if4 .taken in
     let next = c .before .before .before .before .before in
     let start = next .before .before in
-    let ready = first-ready (start .pre) (top-of-2 (omega arith) (next .if2 .taken) o) in
+    let ready = first-ready (start .pre) (top-next 1 (omega arith) (next .if2 .taken) o) in
     (o, low-asked ready (value-arrays (start .pre) (omega arith) (omega arith)) (omega arith) (omega arith), omega arith)
 
 element-copy-out-result-2 : tie.Need-element-copy-out-result-2
@@ -51,7 +52,7 @@ returns-3 c =
     let o = c .before .before .before .before .before .if4 .taken in
     let next = c .before .before .before .before .before .before .before in
     let start = next .before .before in
-    let ready = first-ready (start .pre) (top-of-2 (omega arith) (next .if2 .taken) o) in
+    let ready = first-ready (start .pre) (top-next 1 (omega arith) (next .if2 .taken) o) in
     value-given (start .pre) (omega arith) (omega arith)
     (low-made ready (value-arrays (start .pre) (omega arith) (omega arith)) (omega arith) (c .before .start-of-2 .ensures))
 
@@ -60,7 +61,7 @@ start-of-4-requires c κs =
     let o = c .before .before .before .if5 .taken in
     let next = c .before .before .before .before .before .before in
     let start = next .before .before in
-    let ready = first-ready (start .pre) (top-of-4 (omega arith) (next .if2 .taken) o) in
+    let ready = first-ready (start .pre) (top-next 2 (omega arith) (next .if2 .taken) o) in
     (o, low-asked ready (value-arrays (start .pre) (omega arith) (omega arith)) (omega arith) (omega arith), omega arith)
 
 element-copy-out-result-3 : tie.Need-element-copy-out-result-3
@@ -71,15 +72,42 @@ returns-4 c =
     let o = c .before .before .before .before .before .if5 .taken in
     let next = c .before .before .before .before .before .before .before .before in
     let start = next .before .before in
-    let ready = first-ready (start .pre) (top-of-4 (omega arith) (next .if2 .taken) o) in
+    let ready = first-ready (start .pre) (top-next 2 (omega arith) (next .if2 .taken) o) in
     value-given (start .pre) (omega arith) (omega arith)
     (low-made ready (value-arrays (start .pre) (omega arith) (omega arith)) (omega arith) (c .before .start-of-4 .ensures))
+
+lowest-one-requires : tie.Need-lowest-one-requires
+lowest-one-requires c κs = search needs
+
+start-of-more-requires : tie.Need-start-of-more-requires
+start-of-more-requires c κs =
+    let t = c .lowest-one in
+    let tests = c .before .before .before .before .before in
+    let next = tests .before .before .before in
+    let start = next .before .before in
+    let s = start .args in
+    let within = lowest-within (s .m) (t .result) (s .i) (t .ensures) (start .pre .inside) in (
+      starts-more (t .result) (s .i) (t .ensures) (tests .before .before .if3 .left) (tests .before .if4 .left) (tests .if5 .left),
+      t .ensures,
+      omega arith,
+      value-arrays (start .pre) (omega arith) (omega arith),
+      omega arith,
+      first-ready (start .pre) (top-next (t .result) within (next .if2 .taken) (t .ensures)),
+    )
+
+element-copy-out-result-4 : tie.Need-element-copy-out-result-4
+element-copy-out-result-4 c = search needs
+
+returns-5 : tie.Need-returns-5
+returns-5 c =
+    let start = c .before .before .before .before .before .before .before .before .before .before .before .before in
+    value-given (start .pre) (omega arith) (omega arith) (c .before .start-of-more .ensures)
 
 any-value-requires-2 : tie.Need-any-value-requires-2
 any-value-requires-2 c κs = search needs
 
-returns-5 : tie.Need-returns-5
-returns-5 c = search needs
+returns-6 : tie.Need-returns-6
+returns-6 c = search needs
 
 pub value-spec : {M : Type 1} → statement M
 value-spec =
@@ -97,5 +125,9 @@ value-spec =
     start-of-4-requires
     element-copy-out-result-3
     returns-4
+    lowest-one-requires
+    start-of-more-requires
+    element-copy-out-result-4
+    returns-5
     any-value-requires-2
-    returns-5)
+    returns-6)
