@@ -2,7 +2,7 @@
 use mathlib.Core.Path.{_∙_}
 use Prim.Native.Nat.{_-_}
 use native.Mathlib.Omega.{arith}
-use lib.ListN.{length, length-drop}
+use lib.ListN.{length-drop}
 use Rattle.numbers.specs.Lent.{lent-from}
 use Rattle.half.specs.PickLaws.{Picked, all-pickable, picked-all, pick-starts, part-asked, part-back, last-back}
 use Rattle.half.proofs.pick.Statement.{statement}
