@@ -78,7 +78,7 @@ module _ (ks u b₀ : List ℕ) (a : Pickable ks u b₀) where
   pick-starts = record { within = zero-le; is = refl; long = refl; left = omega arith }
 
   module _ (b : List ℕ) (i taken : ℕ) (w : Picked ks u b₀ b i taken) where
-    pub left-pickable : Pickable (drop i ks) (drop i u) (drop taken b)
+    left-pickable : Pickable (drop i ks) (drop i u) (drop taken b)
     left-pickable = record {
       long = simp length-drop (omega (arith, a .long));
       room = simp length-drop (omega (arith, w .left, w .long, a .room));
@@ -93,7 +93,7 @@ module _ (ks u b₀ : List ℕ) (a : Pickable ks u b₀) where
           omega (arith, ap sum none, w .left),
         )
 
-    pub next-part : (c : ℕ) → i + c ≤ length ks → (out : List ℕ) → out ≡ pickFront (take c (drop i ks)) (drop i u) (drop taken b)
+    next-part : (c : ℕ) → i + c ≤ length ks → (out : List ℕ) → out ≡ pickFront (take c (drop i ks)) (drop i u) (drop taken b)
         → Picked ks u b₀ (take taken b ++ out) (i + c) (taken + sum (take c (drop i ks)))
     next-part c h out e =
         let p = take c (drop i ks) in

@@ -321,8 +321,8 @@ fn pick_each(kinds: &[u8], row: &[u8], bits: &mut [u8]) -> usize
     taken
 }
 
-// The same of the first eight kinds. Those that a code has come as constants, and the compiler
-// unrolls the loop without its tests; any other eight are picked all the same.
+// The same of the first eight kinds. The five rows of eight that codes are made of are constants
+// here, and the compiler leaves neither loop nor tests of them; any other eight keep both.
 fn pick_eight(kinds: &[u8], row: &[u8], bits: &mut [u8]) -> usize
     requires { ⌜ (8 ≤ length (now kinds)) × Pickable (now kinds) (now row) (now bits) ⌝ }
     ensures { λ taken. ⌜ (now (bits .exit)
