@@ -1,4 +1,4 @@
--- Three layers on eight bits at once are their transform: all 256 rows of eight bits are computed.
+-- Laws of eight bits as one number: all 256 rows of eight bits are computed. Three layers on them at once are their transform.
 use mathlib.Core.Path.{_≡_, refl, ap, sym, _∙_}
 use mathlib.Core.List.{List, [], _∷_, _++_}
 use Prim.Native.Nat.{ℕ, zero, suc, _+_, _*_, _^_, _/_, _%_, _≤_, _<_}
@@ -51,6 +51,16 @@ pub eight-word : (x : List ℕ) → 8 ≤ length x → Bits x → threeLayers x 
 eight-word x h bits =
     ap (λ (n : ℕ). unpacked (foursAdded (pairsAdded (bytesAdded n)))) (packed-front x)
     ∙ same-table 8 threeLayers (transform 3) all-eights (take 8 x) (length-take-le 8 x h) (bits-take 8 x bits)
+
+-- ---- eight bits are the bytes of their number
+all-unpacked : table 8 (λ x. unpacked (packed x)) ≡ table 8 (λ x. x)
+unfolding packed unpacked total tabulate
+all-unpacked = refl
+
+pub eight-unpacked : (x : List ℕ) → 8 ≤ length x → Bits x → take 8 x ≡ unpacked (packed x)
+eight-unpacked x h bits =
+    sym (same-table 8 (λ l. unpacked (packed l)) (λ l. l) all-unpacked (take 8 x) (length-take-le 8 x h) (bits-take 8 x bits))
+    ∙ ap unpacked (sym (packed-front x))
 
 -- ---- eight stores put the bytes of a number in front
 abbrev stored : ℕ → List ℕ

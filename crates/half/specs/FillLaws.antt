@@ -1,4 +1,4 @@
--- The loops of `fill`, `pick`, `some_frozen_one` and `first_frozen_one`: what holds before each turn, and what a turn does.
+-- The loops of `fill`, `some_frozen_one` and `first_frozen_one`: what holds before each turn, and what a turn does.
 use mathlib.Core.Path.{_≡_, refl, ap, sym, _∙_, subst}
 use mathlib.Core.Bool.{Bool, true, false, true≢false, not, _||_, _&&_}
 use mathlib.Core.List.{List, [], _∷_}
@@ -13,7 +13,7 @@ use lib.Seq.{drop-cons}
 use borrow.Author.Tests.{lt-ltb, le-ltb, ltb-false}
 use Rattle.numbers.specs.Sums.{sum}
 use Rattle.numbers.specs.Front.{front, front-done, front-next, drop-next}
-use Rattle.words.specs.Kinds.{fill, pick}
+use Rattle.words.specs.Kinds.{fill}
 use Rattle.words.specs.Inverse.{firstFrozenOne}
 
 -- ---- fill: i kinds are passed, `used` bits are used
@@ -72,61 +72,6 @@ module _ (ks b row₀ : List ℕ) (same : length row₀ ≡ length ks) where
     fill-ends h =
         let e : drop i (fill ks b) ≡ [] = f .rest ∙ ap (λ (l : List ℕ). fill l (drop used b)) (drop-of-length-le ks {i = i} h) in
         f .is ∙ front-done row₀ (fill ks b) i (omega arith) e
-
--- ---- pick: i kinds are passed, `taken` bits are taken
-pub record Picked (ks u b₀ b : List ℕ) (i taken : ℕ) : Type 0 where
-  pub within : i ≤ length ks
-  pub is : b ≡ front b₀ (pick ks u) taken
-  pub long : length b ≡ length b₀
-  pub rest : drop taken (pick ks u) ≡ pick (drop i ks) (drop i u)
-  pub room : taken + sum (drop i ks) ≡ length b₀
-
-module _ (ks u b₀ : List ℕ) (same : length u ≡ length ks) where
-  pub pick-starts : length b₀ ≡ sum ks → Picked ks u b₀ b₀ 0 0
-  pick-starts h = record { within = zero-le; is = refl; long = refl; rest = refl; room = omega arith }
-
-  module _ (b : List ℕ) (i taken : ℕ) (p : Picked ks u b₀ b i taken) where
-    module _ (h : i < length ks) (k : ℕ) (is-kind : getD ks i 0 ≡ k) where
-      both-left : pick (drop i ks) (drop i u) ≡ pick (k ∷ drop (suc i) ks) (getD u i 0 ∷ drop (suc i) u)
-      both-left = rw (drop-cons ks i 0 h, drop-cons u i 0 (omega arith), is-kind)
-
-      sum-left : sum (drop i ks) ≡ k + sum (drop (suc i) ks)
-      unfolding sum
-      sum-left = ap sum (drop-cons ks i 0 h ∙ ap (λ (n : ℕ). n ∷ drop (suc i) ks) is-kind)
-
-    pub pick-frozen : i < length ks → getD ks i 0 ≡ 0 → Picked ks u b₀ b (i + 1) taken
-    pick-frozen h z =
-        rw add-one
-        (record {
-          within = h;
-          is = p .is;
-          long = p .long;
-          rest = p .rest ∙ both-left h 0 z;
-          room = omega (arith, sum-left h 0 z, p .room);
-        })
-
-    module _ (h : i < length ks) (one : getD ks i 0 ≡ 1) where
-      pub place-left : taken < length b
-      place-left = omega (arith, sum-left h 1 one, p .room, p .long)
-
-      pub pick-information : Picked ks u b₀ (set b taken (getD u i 0)) (i + 1) (taken + 1)
-      pick-information =
-          let e = p .rest ∙ both-left h 1 one in
-          rw (add-one i, add-one taken)
-          (record {
-            within = h;
-            is = rw (p .is) (front-next b₀ (pick ks u) taken (getD u i 0) _ (omega (arith, place-left, p .long)) e);
-            long = length-set b taken (getD u i 0) ∙ p .long;
-            rest = drop-next (pick ks u) taken (getD u i 0) _ e;
-            room = omega (arith, sum-left h 1 one, p .room);
-          })
-
-    pub pick-ends : length ks ≤ i → b ≡ pick ks u
-    unfolding sum
-    pick-ends h =
-        let none = drop-of-length-le ks {i = i} h in
-        let e : drop taken (pick ks u) ≡ [] = p .rest ∙ ap (λ (l : List ℕ). pick l (drop i u)) none in
-        p .is ∙ front-done b₀ (pick ks u) taken (omega (arith, ap sum none, p .room)) e
 
 -- ---- first_frozen_one: i kinds are passed
 abbrev pub Passed : List ℕ → List ℕ → ℕ → Type 0

@@ -6,6 +6,8 @@ pub mod LayerLaws
 pub mod Eight
 pub mod EightLaws
 pub mod FillLaws
+pub mod Pick
+pub mod PickLaws
 pub mod EightKinds
 pub mod EightKindsLaws
 pub mod Takeable

@@ -4,7 +4,7 @@ ghost use mathlib.Core.Path.{_≡_};
 ghost use Prim.Native.Nat.{_+_, _*_, _-_, _^_, _≤_, _<_};
 ghost use mathlib.Core.List.{_++_};
 ghost use lib.Dec.{ltb};
-ghost use lib.ListN.{length, drop};
+ghost use lib.ListN.{length, take, drop};
 ghost use Rattle.numbers.specs.Sums.{sum};
 ghost use Rattle.words.specs.Bits.{Bits};
 ghost use Rattle.words.specs.Word.{transform};
@@ -15,6 +15,7 @@ ghost use Rattle.half.specs.Fold.{folded};
 ghost use Rattle.half.specs.Layers.{onFront, blocks, Steps, layer, layers};
 ghost use Rattle.half.specs.Eight.{packed, unpacked, bytesAdded, pairsAdded, foursAdded};
 ghost use Rattle.half.specs.EightKinds.{eightKinds, Fillable};
+ghost use Rattle.half.specs.Pick.{Pickable, pickFront};
 ghost use Rattle.half.specs.Takeable.{Takeable};
 
 // Adds the second h bits of a word into its first h, modulo 2; the word may go on after them.
@@ -301,11 +302,12 @@ pub fn fill_code(r: u32, m: u32, bits: &[u8], row: &mut [u8])
     }
 }
 
-// The bits of a row at the information indices.
-pub fn pick(kinds: &[u8], row: &[u8], bits: &mut [u8])
-    requires { ⌜ (length (now row) ≡ length (now kinds))
-        × (length (now bits) ≡ sum (now kinds)) × Bits (now kinds) ⌝ }
-    ensures { λ _. ⌜ now (bits .exit) ≡ pick (now (kinds .entry)) (now (row .entry)) ⌝ }
+// Puts the bits of a row at the information indices in front, one by one; how many they are.
+fn pick_each(kinds: &[u8], row: &[u8], bits: &mut [u8]) -> usize
+    requires { ⌜ Pickable (now kinds) (now row) (now bits) ⌝ }
+    ensures { λ taken. ⌜ (now (bits .exit)
+        ≡ pickFront (now (kinds .entry)) (now (row .entry)) (now (bits .entry)))
+        × (taken ≡ sum (now (kinds .entry))) ⌝ }
 {
     let mut i = 0;
     let mut taken = 0;
@@ -316,6 +318,41 @@ pub fn pick(kinds: &[u8], row: &[u8], bits: &mut [u8])
         }
         i += 1;
     }
+    taken
+}
+
+// The same of the first eight kinds. The five rows of eight that codes are made of are constants
+// here, and the compiler leaves neither loop nor tests of them; any other eight keep both.
+fn pick_eight(kinds: &[u8], row: &[u8], bits: &mut [u8]) -> usize
+    requires { ⌜ (8 ≤ length (now kinds)) × Pickable (now kinds) (now row) (now bits) ⌝ }
+    ensures { λ taken. ⌜ (now (bits .exit)
+        ≡ pickFront (take 8 (now (kinds .entry))) (now (row .entry)) (now (bits .entry)))
+        × (taken ≡ sum (take 8 (now (kinds .entry)))) ⌝ }
+{
+    match load(kinds) {
+        0x0101010101010101 => pick_each(&[1, 1, 1, 1, 1, 1, 1, 1], row, bits),
+        0x0101010101010100 => pick_each(&[0, 1, 1, 1, 1, 1, 1, 1], row, bits),
+        0x0101010001000000 => pick_each(&[0, 0, 0, 1, 0, 1, 1, 1], row, bits),
+        0x0100000000000000 => pick_each(&[0, 0, 0, 0, 0, 0, 0, 1], row, bits),
+        0 => pick_each(&[0, 0, 0, 0, 0, 0, 0, 0], row, bits),
+        _ => pick_each(&kinds[0..8], row, bits),
+    }
+}
+
+// The bits of a row at the information indices, eight indices at a time.
+pub fn pick(kinds: &[u8], row: &[u8], bits: &mut [u8])
+    requires { ⌜ (length (now row) ≡ length (now kinds))
+        × (length (now bits) ≡ sum (now kinds)) × Bits (now kinds) ⌝ }
+    ensures { λ _. ⌜ now (bits .exit) ≡ pick (now (kinds .entry)) (now (row .entry)) ⌝ }
+{
+    let n = kinds.len();
+    let mut at = 0;
+    let mut taken = 0;
+    while 8 <= n - at {
+        taken += pick_eight(&kinds[at..], &row[at..], &mut bits[taken..]);
+        at += 8;
+    }
+    pick_each(&kinds[at..], &row[at..], &mut bits[taken..]);
 }
 
 // Whether the row is 1 at a frozen index: without an early end, so that many are tested at once.

@@ -63,14 +63,18 @@ part-fill-end c =
 fill-requires : tie.Need-fill-requires
 fill-requires c κs =
     let s = c .before .before .before .before .before .before .before .before .before .before .before in
-    fill-asked _ _ _ zeros _ (c .before .before .before .before .put-kinds .ensures) (c .before .before .before .before .before .before .length .ensures) (s .args .bits .now) (s .args .row .now)
-    (s .pre .long-bits) (s .pre .long-word)
+    let n = c .before .before .before .before .before .before .length in
+    fill-asked _ _ _ zeros _ (c .before .before .before .before .put-kinds .ensures) (n .ensures)
+    (s .args .bits .now) (s .args .row .now) (s .pre .long-bits) (s .pre .long-word)
 
 same-length-2 : tie.Need-same-length-2
 same-length-2 c = search needs
 
 returns-2 : tie.Need-returns-2
-returns-2 c = filled-row _ _ _ zeros _ (c .before .before .before .before .before .before .before .put-kinds .ensures) (c .before .before .before .before .before .before .before .before .before .length .ensures) _ _ (c .before .before .fill .ensures)
+returns-2 c =
+    let put = c .before .before .before .before .before .before .before .put-kinds in
+    let n = c .before .before .before .before .before .before .before .before .before .length in
+    filled-row _ _ _ zeros _ (put .ensures) (n .ensures) _ _ (c .before .before .fill .ensures)
 
 pub put-row-spec : {M : Type 1} → statement M
 put-row-spec =

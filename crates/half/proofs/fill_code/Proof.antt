@@ -24,7 +24,9 @@ add-e : tie.Need-add-e Inv-loop μ-loop
 add-e c =
     let g = c .before .before .before .before .before in
     let l = c .before .before .loop in
-    omega (arith, block-within (g .args .r) (g .args .m) (g .args .bits .now) (l .row) (l .s) (l .used) (l .inv) (g .pre .eight) (omega (arith, g .pre .long-row)), g .pre .long-row)
+    let within = block-within (g .args .r) (g .args .m) (g .args .bits .now) (l .row) (l .s) (l .used) (l .inv)
+    (g .pre .eight) (omega (arith, g .pre .long-row)) in
+    omega (arith, within, g .pre .long-row)
 
 sub-fill-eight : tie.Need-sub-fill-eight Inv-loop μ-loop
 sub-fill-eight c = omega arith
@@ -45,20 +47,23 @@ part-fill-eight-end-2 : tie.Need-part-fill-eight-end-2 Inv-loop μ-loop
 part-fill-eight-end-2 c =
     let g = c .before .before .before .before .before .before in
     let l = c .before .before .before .loop in
-    omega (arith, l .inv .long, block-within (g .args .r) (g .args .m) (g .args .bits .now) (l .row) (l .s) (l .used) (l .inv) (g .pre .eight) (omega (arith, g .pre .long-row)))
+    let within = block-within (g .args .r) (g .args .m) (g .args .bits .now) (l .row) (l .s) (l .used) (l .inv)
+    (g .pre .eight) (omega (arith, g .pre .long-row)) in
+    omega (arith, l .inv .long, within)
 
 fill-eight-requires : tie.Need-fill-eight-requires Inv-loop μ-loop
 fill-eight-requires c κs =
     let g = c .before .before .before .before .before .before .before in
     let l = c .before .before .before .before .loop in
-    eight-asked (g .args .r) (g .args .m) (g .args .bits .now) (l .row) (l .s) (l .used) (l .inv) (g .pre .eight) (omega (arith, g .pre .long-row)) _ (c .before .before .still-needed .ensures)
+    eight-asked (g .args .r) (g .args .m) (g .args .bits .now) (l .row) (l .s) (l .used) (l .inv) (g .pre .eight) (omega (arith, g .pre .long-row))
+    _ (c .before .before .still-needed .ensures)
 
 add-used : tie.Need-add-used Inv-loop μ-loop
 add-used c =
     let g = c .before .before .before .before .before .before .before .before .before .before in
     let l = c .before .before .before .before .before .before .before .loop in
-    let done = eight-back (g .args .r) (g .args .m) (g .args .bits .now) (l .row) (l .s) (l .used) (l .inv) (g .pre .eight) (omega (arith, g .pre .long-row)) _
-    (c .before .before .before .before .before .still-needed .ensures) _ _ (c .before .before .fill-eight .ensures) in
+    let done = eight-back (g .args .r) (g .args .m) (g .args .bits .now) (l .row) (l .s) (l .used) (l .inv) (g .pre .eight) (omega (arith, g .pre .long-row))
+    _ (c .before .before .before .before .before .still-needed .ensures) _ _ (c .before .before .fill-eight .ensures) in
     omega (arith, done .room)
 
 loop-less : tie.Need-loop-less Inv-loop μ-loop
@@ -68,8 +73,8 @@ loop-again : tie.Need-loop-again Inv-loop μ-loop
 loop-again c =
     let g = c .before .before .before .before .before .before .before .before .before .before in
     let l = c .before .before .before .before .before .before .before .loop in
-    let back = c .before .before .fill-eight in
-    eight-back (g .args .r) (g .args .m) (g .args .bits .now) (l .row) (l .s) (l .used) (l .inv) (g .pre .eight) (omega (arith, g .pre .long-row)) _ (c .before .before .before .before .before .still-needed .ensures) _ _ (back .ensures)
+    eight-back (g .args .r) (g .args .m) (g .args .bits .now) (l .row) (l .s) (l .used) (l .inv) (g .pre .eight) (omega (arith, g .pre .long-row))
+    _ (c .before .before .before .before .before .still-needed .ensures) _ _ (c .before .before .fill-eight .ensures)
 
 same-length : tie.Need-same-length Inv-loop μ-loop
 same-length c = omega arith

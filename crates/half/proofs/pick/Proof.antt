@@ -1,65 +1,143 @@
--- The loop's invariant is `Picked`: what is taken stands in front of what the bits' buffer held.
-use mathlib.Core.Path.{_≡_}
-use mathlib.Core.Logic.{⊎-elim}
-use Prim.Native.Nat.{_-_, _<_}
+-- The loop's invariant is `Picked`; a turn passes a part of eight kinds, and the fewer than eight that are left are passed one by one.
+use mathlib.Core.Path.{_∙_}
+use Prim.Native.Nat.{_-_}
 use native.Mathlib.Omega.{arith}
-use lib.ListN.{length, getD}
-use Rattle.half.specs.FillLaws.{Picked, pick-starts, pick-frozen, place-left, pick-information, pick-ends}
+use lib.ListN.{length-drop}
+use Rattle.numbers.specs.Lent.{lent-from}
+use Rattle.half.specs.PickLaws.{Picked, all-pickable, picked-all, pick-starts, part-asked, part-back, last-back}
 use Rattle.half.proofs.pick.Statement.{statement}
 use Rattle.half.proofs.pick.Tie as tie
 
 abbrev Inv-loop : tie.InvT-loop
-Inv-loop kinds row bits₀ i₀ taken₀ bits i taken = Picked kinds row bits₀ bits i taken
+Inv-loop kinds row bits₀ n at₀ taken₀ bits at taken = Picked kinds row bits₀ bits at taken
 
 abbrev μ-loop : tie.MeasureT-loop
-μ-loop kinds row bits₀ i₀ taken₀ bits i taken = length kinds - i
+μ-loop kinds row bits₀ n at₀ taken₀ bits at taken = n - at
 
 loop-holds : tie.Need-loop-holds Inv-loop μ-loop
-loop-holds c = pick-starts (c .args .kinds .now) (c .args .row .now) (c .args .bits .now) (c .pre .0) (c .pre .1)
+loop-holds c =
+    let g = c .before .before .before in
+    let ks = g .args .kinds .now in
+    let u = g .args .row .now in
+    let b = g .args .bits .now in
+    pick-starts ks u b (all-pickable ks u b (g .pre))
 
-shared-slice-read-if1 : tie.Need-shared-slice-read-if1 Inv-loop μ-loop
-shared-slice-read-if1 c = omega arith
+sub-loop : tie.Need-sub-loop Inv-loop μ-loop
+sub-loop c = omega arith
 
-shared-slice-read-bits : tie.Need-shared-slice-read-bits Inv-loop μ-loop
-shared-slice-read-bits c = omega arith
+sub-pick-eight : tie.Need-sub-pick-eight Inv-loop μ-loop
+sub-pick-eight c = omega arith
 
-slice-write-bits : tie.Need-slice-write-bits Inv-loop μ-loop
-slice-write-bits c =
-    let s = c .before .before .before .before .before in
+part-pick-eight-start : tie.Need-part-pick-eight-start Inv-loop μ-loop
+part-pick-eight-start c = omega arith
+
+part-pick-eight-end : tie.Need-part-pick-eight-end Inv-loop μ-loop
+part-pick-eight-end c = omega arith
+
+sub-pick-eight-2 : tie.Need-sub-pick-eight-2 Inv-loop μ-loop
+sub-pick-eight-2 c = omega arith
+
+part-pick-eight-start-2 : tie.Need-part-pick-eight-start-2 Inv-loop μ-loop
+part-pick-eight-start-2 c = omega arith
+
+part-pick-eight-end-2 : tie.Need-part-pick-eight-end-2 Inv-loop μ-loop
+part-pick-eight-end-2 c = omega arith
+
+sub-pick-eight-3 : tie.Need-sub-pick-eight-3 Inv-loop μ-loop
+sub-pick-eight-3 c = omega arith
+
+part-pick-eight-start-3 : tie.Need-part-pick-eight-start-3 Inv-loop μ-loop
+part-pick-eight-start-3 c = omega arith
+
+part-pick-eight-end-3 : tie.Need-part-pick-eight-end-3 Inv-loop μ-loop
+part-pick-eight-end-3 c = omega arith
+
+pick-eight-requires : tie.Need-pick-eight-requires Inv-loop μ-loop
+pick-eight-requires c κs =
+    let g = c .before .before .before .before .before .before .before .before in
+    let ks = g .args .kinds .now in
+    let u = g .args .row .now in
+    let b = g .args .bits .now in
     let l = c .before .before .before .before .loop in
-    let one : getD (s .args .kinds .now) (l .i) 0 ≡ 1 = omega (arith, s .pre .2 (l .i), c .before .if1 .taken) in
-    place-left (s .args .kinds .now) (s .args .row .now) (s .args .bits .now) (s .pre .0) (l .bits) (l .i) (l .taken) (l .inv) (omega arith) one
+    let e = lent-from (l .at) ks in
+    (rw e (simp length-drop (omega arith)), part-asked ks u b (all-pickable ks u b (g .pre)) (l .bits) (l .at) (l .taken) (l .inv))
 
 add-taken : tie.Need-add-taken Inv-loop μ-loop
-add-taken c = omega arith
+add-taken c =
+    let g = c .before .before .before .before .before .before .before .before .before .before .before in
+    let ks = g .args .kinds .now in
+    let u = g .args .row .now in
+    let b = g .args .bits .now in
+    let l = c .before .before .before .before .before .before .before .loop in
+    let back = c .before .before .pick-eight .ensures in
+    let done = part-back ks u b (all-pickable ks u b (g .pre)) (l .bits) (l .at) (l .taken) (l .inv) 8 (omega arith) _ _ back in
+    omega (arith, done .left)
 
-add-i : tie.Need-add-i Inv-loop μ-loop
-add-i c = omega arith
+add-at : tie.Need-add-at Inv-loop μ-loop
+add-at c = omega arith
 
 loop-less : tie.Need-loop-less Inv-loop μ-loop
 loop-less c = omega arith
 
 loop-again : tie.Need-loop-again Inv-loop μ-loop
 loop-again c =
-    let s = c .before .before .before .before in
-    let l = c .before .before .before .loop in
-    let k = s .args .kinds .now in
-    let u = s .args .row .now in
-    let b = s .args .bits .now in
-    let h : l .i < length k = omega arith in
-    ⊎-elim
-    (λ w. rw (w .2, w .3) (pick-information k u b (s .pre .0) (l .bits) (l .i) (l .taken) (l .inv) h (omega (arith, s .pre .2 (l .i), w .0 .taken))))
-    (λ w. rw (w .1, w .2) (pick-frozen k u b (s .pre .0) (l .bits) (l .i) (l .taken) (l .inv) h (w .0 .left)))
-    (c .if1 .came)
+    let g = c .before .before .before .before .before .before .before .before .before .before .before in
+    let ks = g .args .kinds .now in
+    let u = g .args .row .now in
+    let b = g .args .bits .now in
+    let l = c .before .before .before .before .before .before .before .loop in
+    let back = c .before .before .pick-eight .ensures in
+    part-back ks u b (all-pickable ks u b (g .pre)) (l .bits) (l .at) (l .taken) (l .inv) 8 (omega arith) _ _ back
+
+sub-pick-each : tie.Need-sub-pick-each Inv-loop μ-loop
+sub-pick-each c = omega arith
+
+part-pick-each-start : tie.Need-part-pick-each-start Inv-loop μ-loop
+part-pick-each-start c = omega arith
+
+part-pick-each-end : tie.Need-part-pick-each-end Inv-loop μ-loop
+part-pick-each-end c = omega arith
+
+sub-pick-each-2 : tie.Need-sub-pick-each-2 Inv-loop μ-loop
+sub-pick-each-2 c = omega arith
+
+part-pick-each-start-2 : tie.Need-part-pick-each-start-2 Inv-loop μ-loop
+part-pick-each-start-2 c = omega arith
+
+part-pick-each-end-2 : tie.Need-part-pick-each-end-2 Inv-loop μ-loop
+part-pick-each-end-2 c = omega arith
+
+sub-pick-each-3 : tie.Need-sub-pick-each-3 Inv-loop μ-loop
+sub-pick-each-3 c = omega arith
+
+part-pick-each-start-3 : tie.Need-part-pick-each-start-3 Inv-loop μ-loop
+part-pick-each-start-3 c = omega arith
+
+part-pick-each-end-3 : tie.Need-part-pick-each-end-3 Inv-loop μ-loop
+part-pick-each-end-3 c = omega arith
+
+pick-each-requires : tie.Need-pick-each-requires Inv-loop μ-loop
+pick-each-requires c κs =
+    let g = c .before .before .before .before .before .before .before .before in
+    let ks = g .args .kinds .now in
+    let u = g .args .row .now in
+    let b = g .args .bits .now in
+    let l = c .before .before .before .before .loop in
+    part-asked ks u b (all-pickable ks u b (g .pre)) (l .bits) (l .at) (l .taken) (l .inv)
 
 same-length : tie.Need-same-length Inv-loop μ-loop
 same-length c = omega arith
 
 returns : tie.Need-returns Inv-loop μ-loop
 returns c =
-    let s = c .before .before in
-    let l = c .before .loop in
-    pick-ends (s .args .kinds .now) (s .args .row .now) (s .args .bits .now) (s .pre .0) (l .bits) (l .i) (l .taken) (l .inv) (omega arith)
+    let g = c .before .before .before .before .before .before .before .before .before .before .before in
+    let ks = g .args .kinds .now in
+    let u = g .args .row .now in
+    let b = g .args .bits .now in
+    let l = c .before .before .before .before .before .before .before .loop in
+    let back = c .before .before .pick-each .ensures .0 in
+    last-back ks u b (all-pickable ks u b (g .pre)) (l .bits) (l .at) (l .taken) (l .inv) _ back
+    ∙ picked-all ks u b (g .pre)
 
 pub pick-spec : {M : Type 1} → statement M
 pick-spec =
@@ -68,12 +146,30 @@ pick-spec =
     Inv-loop
     μ-loop
     loop-holds
-    shared-slice-read-if1
-    shared-slice-read-bits
-    slice-write-bits
+    sub-loop
+    sub-pick-eight
+    part-pick-eight-start
+    part-pick-eight-end
+    sub-pick-eight-2
+    part-pick-eight-start-2
+    part-pick-eight-end-2
+    sub-pick-eight-3
+    part-pick-eight-start-3
+    part-pick-eight-end-3
+    pick-eight-requires
     add-taken
-    add-i
+    add-at
     loop-less
     loop-again
+    sub-pick-each
+    part-pick-each-start
+    part-pick-each-end
+    sub-pick-each-2
+    part-pick-each-start-2
+    part-pick-each-end-2
+    sub-pick-each-3
+    part-pick-each-start-3
+    part-pick-each-end-3
+    pick-each-requires
     same-length
     returns)
