@@ -1,6 +1,6 @@
 -- What is proved of telegrams, sentence by sentence, over the definitions that the contracts cite. That it holds is proved in TheoremsMet.
 use mathlib.Core.Path.{_≡_}
-use mathlib.Core.Logic.{_↔_}
+use mathlib.Core.Logic.{_⊎_, _↔_}
 use mathlib.Core.List.{List, map}
 use Prim.Native.Nat.{ℕ, _+_, _-_, _*_, _≤_, _<_}
 use lib.IntN.{ℤ, negℤ}
@@ -57,6 +57,17 @@ NeverShown =
     (t : Telegram) → Writable t → (l : List ℤ) (allowed allowed′ : ℕ) → Finds allowed l t
     → (let o = readingTelegram allowed′ (turned l) in (0 < o .carry .number) × (o .telegram ≡ noTelegram))
 
+-- Of all readings, whatever their search finds, and the same readings negated:
+pub record TurnedOver (l : List ℤ) : Type 0 where
+  -- no two readers show a telegram both ways, whatever they allow.
+  pub never-both : (allowed allowed′ : ℕ) → readingTelegram allowed l .carry .number ≡ 0 → readingTelegram allowed′ (turned l) .carry .number ≡ 0 → ⊥
+  -- Under one allowance the negated ones are refused by their marker exactly if the upright ones pass that test: they are read, or refused as 14 or 15.
+  pub marked-exactly : (allowed : ℕ) → let n = readingTelegram allowed l .carry .number in
+      (readingTelegram allowed (turned l) .carry .number ≡ 13) ↔ ((n ≡ 0) ⊎ (n ≡ 14) ⊎ (n ≡ 15))
+  -- And the upright ones exactly if the negated ones do.
+  pub upright-exactly : (allowed : ℕ) → let n = readingTelegram allowed (turned l) .carry .number in
+      (readingTelegram allowed l .carry .number ≡ 13) ↔ ((n ≡ 0) ⊎ (n ≡ 14) ⊎ (n ≡ 15))
+
 -- how many telegrams these are: numbered from 0, each once
 abbrev pub telegrams : ℕ
 telegrams = 8 * 2 * 1501 - 8
@@ -74,4 +85,5 @@ pub record Theorems : Type 0 where
   pub reads : ReadTheorems
   pub turns : (t : Telegram) → Writable t → (allowed : ℕ) (l : List ℤ) → Finds allowed l t → TurnedTheorems l
   pub never-shown : NeverShown
+  pub either-way : (l : List ℤ) → TurnedOver l
   pub counted : Counted
