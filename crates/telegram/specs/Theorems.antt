@@ -31,6 +31,11 @@ pub record WriteTheorems : Type 0 where
   -- No two telegrams have one word.
   pub one-word : (t t′ : Telegram) → Writable t → Writable t′ → wordOf t ≡ wordOf t′ → t ≡ t′
 
+-- A larger allowance changes nothing that was shown or refused, but for 6: every number and every field stay.
+abbrev pub TelegramLargerAllowance : List ℤ → Type 0
+TelegramLargerAllowance l = (allowed more : ℕ) → allowed ≤ more
+    → (readingTelegram allowed l .carry .number ≡ 6 → ⊥) → readingTelegram more l ≡ readingTelegram allowed l
+
 pub record ReadTheorems : Type 0 where
   -- What was written is read, for any readings whose search finds the written word.
   pub written-read : (t : Telegram) → Writable t → (allowed : ℕ) (l : List ℤ) → Finds allowed l t
@@ -41,6 +46,7 @@ pub record ReadTheorems : Type 0 where
   -- With the standing allowance the reader never gives 6, since it is above the whole tree.
   pub whole-tree : tree (kinds 2 5) ≡ 131759
   pub never-out : (l : List ℤ) → readingTelegram defaultAllowance l .carry .number ≡ 6 → ⊥
+  pub larger : (l : List ℤ) → TelegramLargerAllowance l
 
 pub record TurnedTheorems (l : List ℤ) : Type 0 where
   -- If every reading is negated, the reader refuses with 13 and shows nothing if the walk on the negated readings stays within its allowance,

@@ -23,7 +23,8 @@ use Rattle.code.specs.Sound.{defaultAllowance}
 use Rattle.code.specs.Demand1.{NoneApplies}
 use Rattle.search.specs.Outcome as Search
 use Rattle.search.specs.Demand1Met.{search-demand-1}
-use Rattle.search.specs.DemandsMet.{outcome-demands}
+use Rattle.search.specs.RunnerUp.{WholeOutcome}
+use Rattle.search.specs.DemandsMet.{larger-allowance, outcome-demands}
 use Rattle.telegram.specs.declared.Telegram.{Telegram}
 use Rattle.telegram.specs.declared.Fault.the-variants.{Link, Marker}
 use Rattle.telegram.specs.declared.Tested.{Tested}
@@ -32,12 +33,12 @@ use Rattle.telegram.specs.Telegram.{binary, bitsWith, telegramBits, tele
 use Rattle.telegram.specs.TelegramLaws.{length-bits, bits-bits, marker-bits, telegram-bits, fits-telegram, bits-telegram}
 use Rattle.telegram.specs.Faults.{Writable, writerFault, readerFault}
 use Rattle.telegram.specs.FaultLaws.{fault-above, Own, own-reader, writer-good, good-writer, reader-good, good-reader, writable-fits, read-writable}
-use Rattle.telegram.specs.Outcome.{WriteOutcome, writtenIf, ReadOutcome, showing, faulted, shownIf, judged, linkSearch, readingTelegram}
+use Rattle.telegram.specs.Outcome.{WriteOutcome, writtenIf, ReadOutcome, showing, faulted, shownIf, judged, heard, linkSearch, readingTelegram}
 use Rattle.telegram.specs.OutcomeLaws.{dimension-25, sum-25, writing-tested, reading-found, reading-other, reading-refused}
 use Rattle.telegram.specs.OutcomeLaws.{Passed, tests, passed, stopped, FoundBest, found-all, found-again, out-of-visits, found-long, found-bits}
 use Rattle.telegram.specs.Demand1.{linkChecks}
 use Rattle.telegram.specs.Demand1Met.{read-demand-1, unmarked}
-use Rattle.telegram.specs.Theorems.{Finds, turned, WriteTheorems, ReadTheorems, TurnedTheorems, NeverShown, TurnedOver}
+use Rattle.telegram.specs.Theorems.{Finds, turned, WriteTheorems, TelegramLargerAllowance, ReadTheorems, TurnedTheorems, NeverShown, TurnedOver}
 use Rattle.telegram.specs.Theorems.{telegrams, ordinal, Counted, Theorems}
 
 -- ---- words of RM(2,5)
@@ -230,6 +231,13 @@ read-six allowed l e =
       | no n ↦ ap (λ (r : ReadOutcome). r .carry .number) (sym (reading-other allowed l n)) ∙ e
     ]
 
+telegram-larger-allowance : (l : List ℤ) → TelegramLargerAllowance l
+unfolding readingTelegram
+telegram-larger-allowance l allowed more h n =
+    let six-passed : linkSearch allowed l .number ≡ 6 → readingTelegram allowed l .carry .number ≡ 6 =
+    λ e. ap (λ (r : ReadOutcome). r .carry .number) (reading-other allowed l (λ z. omega (arith, e, z))) ∙ e in
+    ap (λ (w : WholeOutcome). heard (w .outcome)) (larger-allowance 2 5 l (replicate 16 0) (replicate 32 0) allowed more h (λ e. n (six-passed e)))
+
 tree-25 : tree (kinds 2 5) ≡ 131759
 unfolding tree total sum kinds kind ones digit tabulate
 tree-25 = refl
@@ -250,6 +258,7 @@ read-theorems =
             | passed x ↦ outcome-demands (replicate 16 0) (replicate 32 0) x .whole-tree defaultAllowance (omega (arith, tree-25)) six
             | stopped why f h ↦ omega (arith, six, ap (λ (o : Search.Outcome). o .number) f)
           ];
+      larger = telegram-larger-allowance;
     }
 
 -- ---- all readings, upright and negated
