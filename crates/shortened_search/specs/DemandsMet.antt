@@ -1,7 +1,7 @@
 -- The outcomes of the search on a shortened set meet the demands.
 use mathlib.Core.Path.{_≡_, refl, ap, sym, _∙_}
 use mathlib.Core.List.{List, [], _∷_}
-use Prim.Native.Nat.{ℕ, _^_, _≤_}
+use Prim.Native.Nat.{ℕ, _^_}
 use native.Mathlib.Omega.{arith}
 use lib.IntN.{ℤ}
 use lib.ListN.{length, replicate}
@@ -33,9 +33,10 @@ use Rattle.search.specs.RunnerUpMet.{runner-up-shown}
 use Rattle.search.specs.Demand1Met.{answer-decides}
 use Rattle.shortened.specs.Outcome.{leftOf}
 use Rattle.shortened.specs.WorkLaws.{long-left, are-left}
+use Rattle.shortened.specs.OutcomeLaws.{good-allowed}
 use Rattle.shortened.specs.DemandsMet.{decides-row, afterOne}
 use Rattle.shortened_search.specs.Outcome.{refusedWhole, searchingOver, searchingShortened}
-use Rattle.shortened_search.specs.OutcomeLaws.{searching-refused, searching-left, over-refused, over-answered, good-allowed}
+use Rattle.shortened_search.specs.OutcomeLaws.{searching-refused, searching-left, over-refused, over-answered}
 use Rattle.shortened_search.specs.Demands.{searchChecks, ShortenedDemand1, ShortenedLargerAllowance, smallerSet, ShortenedDemands, RunnerUpLeft}
 
 module _ (r m allowed : ℕ) (named : List ℕ) (l : List ℤ) (bits word : List ℕ) where
