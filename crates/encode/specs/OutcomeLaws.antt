@@ -68,7 +68,7 @@ good-or-bad (Good c) = inl (c, refl)
 good-or-bad Bad = inr refl
 
 module _ (r m : ℕ) (input : List ℕ) (long : ℕ) (output : List ℕ) (room : ℕ) (rest : Outcome) where
-  passes-all : Sound (rm r m) → length input ≡ long → length output ≡ room → Bits input → tested r m input long output room rest ≡ rest
+  pub passes-all : Sound (rm r m) → length input ≡ long → length output ≡ room → Bits input → tested r m input long output room rest ≡ rest
   passes-all s i o b =
       let place = first-none 0 (λ x. x) 1 input (length input) (λ j k. omega (arith, b j)) refl in
       sym (tested-all r m input long output room rest (made-good r m (s .m-small) (s .r-small)) refl i refl o place (omega arith))
@@ -100,7 +100,7 @@ module _ (r m : ℕ) (input : List ℕ) (long : ℕ) (output : List ℕ) (room :
   pub tested-small : rest .number < 6 → tested r m input long output room rest .number < 6
   tested-small h = ⊎-elim (λ p. rw (passes-all (p .0) (p .1) (p .2) (p .3)) h) (λ n. omega arith) decided
 
-  passes : (tested r m input long output room rest .number ≡ 0) ⊎ (5 ≤ tested r m input long output room rest .number)
+  pub passes : (tested r m input long output room rest .number ≡ 0) ⊎ (5 ≤ tested r m input long output room rest .number)
       → Sound (rm r m) × (length input ≡ long) × (length output ≡ room) × Bits input
   passes h = ⊎-elim (λ p. p) (λ n. absurd (⊎-elim (λ e. omega arith) (λ e. omega arith) h)) decided
 

@@ -1,9 +1,9 @@
 -- Demand 1 of a record's header, the checks 1, 8 and 9, of its search, these and then 3, 6 and 7, and of the writer, the checks 1, 2, 4 and 3, in these
--- orders. That it is met is proved in DemandsMet and WritingDemandMet.
+-- orders; and what a larger allowance changes. That this is met is proved in DemandsMet and WritingDemandMet.
 use mathlib.Core.Path.{_≡_}
 use mathlib.Core.Logic.{_⊎_}
 use mathlib.Core.List.{List, [], _∷_}
-use Prim.Native.Nat.{ℕ, suc, _+_, _/_, _%_, _^_, _<_}
+use Prim.Native.Nat.{ℕ, suc, _+_, _/_, _%_, _^_, _≤_, _<_}
 use lib.IntN.{ℤ, pos, natAbs}
 use lib.ListN.{length, getD}
 use Rattle.words.specs.Kinds.{dimension}
@@ -13,7 +13,7 @@ use Rattle.code.specs.Demand1.{View, Checks, passed, check, checkAt, LowestBad,
 use Rattle.search.specs.Demands.{view, walkChecks}
 use Rattle.packing.specs.Layout.{recordOf, partLength, padOf}
 use Rattle.record.specs.Reader.{partOf, readingsOf, HeaderOutcome, headerOf, told}
-use Rattle.record.specs.Searching.{searchingRecord}
+use Rattle.record.specs.Searching.{searchingRecord, searchingRecordWhole}
 use Rattle.record.specs.Writing.{WrittenOutcome, writing}
 
 -- r and m stand in the first byte; with no byte at all both read as 0, so that it is 8
@@ -57,6 +57,11 @@ recordChecks allowed s bits word =
 
 abbrev pub RecordDemand1 : ℕ → List ℕ → List ℕ → List ℕ → Type 0
 RecordDemand1 allowed s bits word = Demand1 (recordChecks allowed s bits word) (bits ∷ word ∷ []) (view (searchingRecord allowed s bits word))
+
+-- a larger allowance changes nothing that was answered or refused, but for 6, as with the search of plain readings: numbers, buffers and runner-up stay
+abbrev pub RecordLargerAllowance : List ℕ → List ℕ → List ℕ → Type 0
+RecordLargerAllowance s bits word = (allowed more : ℕ) → allowed ≤ more
+    → (searchingRecord allowed s bits word .number ≡ 6 → ⊥) → searchingRecordWhole more s bits word ≡ searchingRecordWhole allowed s bits word
 
 -- 4 is given neither by the header nor by the search, whatever the bytes are
 pub record Never4 (allowed : ℕ) (s bits word : List ℕ) : Type 0 where

@@ -1,4 +1,4 @@
--- A record's header and the outcomes of its search meet demand 1, and 4 is never given for a record.
+-- A record's header and the outcomes of its search meet demand 1; a larger allowance changes no answer; and 4 is never given for a record.
 use mathlib.Core.Path.{_≡_, refl, ap, _∙_}
 use mathlib.Core.Logic.{inl, inr, ⊎-elim}
 use mathlib.Core.List.{List, [], _∷_}
@@ -20,14 +20,15 @@ use Rattle.code.specs.Demand1Laws.{Decides, demand-1}
 use Rattle.search.specs.Outcome.{searching}
 use Rattle.search.specs.Demands.{view, walkChecks}
 use Rattle.search.specs.Demand1Met.{search-decides}
+use Rattle.search.specs.DemandsMet.{larger-allowance}
 use Rattle.packing.specs.Layout.{partLength, padOf}
 use Rattle.record.specs.declared.Header.{Header}
 use Rattle.record.specs.declared.Header.the-variants.{Record, Refused}
 use Rattle.record.specs.Reader.{partOf, readingsOf, headedBy, headerOf, told}
 use Rattle.record.specs.ReaderLaws.{frame-torn, frame-pad, frame-whole, framed-record, length-readings-of}
-use Rattle.record.specs.Searching.{searchingBy, searchingRecord}
+use Rattle.record.specs.Searching.{searchingBy, searchingRecord, searchingWholeBy}
 use Rattle.record.specs.Accepted.{readings-allowed}
-use Rattle.record.specs.Demands.{saidR, saidM, headerChecks, headerView, HeaderDemand1, recordChecks, RecordDemand1, Never4}
+use Rattle.record.specs.Demands.{saidR, saidM, headerChecks, headerView, HeaderDemand1, recordChecks, RecordDemand1, RecordLargerAllowance, Never4}
 
 -- the checks on the bytes, for all that goes by the header: refused as the header is, and decided by the rest for a record
 module _ (before : List (List ℕ)) (o : View) (rest : Checks) where
@@ -129,6 +130,16 @@ module _ (allowed : ℕ) (bits word : List ℕ) where
 
   pub record-demand-1 : (s : List ℕ) → RecordDemand1 allowed s bits word
   record-demand-1 s = demand-1 (bits ∷ word ∷ []) (view (searchingRecord allowed s bits word)) (recordChecks allowed s bits word) (record-decides s)
+
+-- ---- a larger allowance
+headed-kept : (h : Header) (s bits word : List ℕ) (allowed more : ℕ) → allowed ≤ more → (searchingBy h allowed s bits word .number ≡ 6 → ⊥)
+    → searchingWholeBy h more s bits word ≡ searchingWholeBy h allowed s bits word
+headed-kept (Refused why) s bits word allowed more h n = refl
+headed-kept (Record c) s bits word allowed more h n = larger-allowance (c .r) (c .m) (readingsOf c s) bits word allowed more h n
+
+pub record-larger-allowance : (s bits word : List ℕ) → RecordLargerAllowance s bits word
+unfolding searchingRecord
+record-larger-allowance s bits word = headed-kept (headerOf s) s bits word
 
 -- ---- 4 is never given
 pub never-4 : (allowed : ℕ) (s bits word : List ℕ) → Never4 allowed s bits word

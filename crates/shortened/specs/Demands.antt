@@ -1,21 +1,20 @@
 -- The demands on calls over a shortened set. That they are met is proved in DemandsMet.
 use mathlib.Core.Path.{_≡_}
 use mathlib.Core.List.{List, [], _∷_}
-use Prim.Native.Nat.{ℕ, _^_, _≤_}
+use Prim.Native.Nat.{ℕ, _^_}
 use lib.IntN.{ℤ}
 use lib.ListN.{length}
 use Rattle.numbers.specs.Sums.{sum}
-use Rattle.words.specs.Kinds.{kinds, encoded, Word}
-use Rattle.decoding.specs.Readings.{penalty}
-use Rattle.decoding.specs.Best.{leastPenalty}
+use Rattle.words.specs.Kinds.{kinds}
 use Rattle.code.specs.declared.Refusal.{Refusal}
 use Rattle.code.specs.declared.Refusal.the-variants.{Named}
 use Rattle.code.specs.Sound.{rm}
+use Rattle.code.specs.SoundInput.{GoodReadings, SoundFor}
 use Rattle.code.specs.Demand1.{Checks, passed, check, checkAt, bitChecks, readingChecksFor, Demand1}
 use Rattle.named.specs.Named.{GoodRow}
 use Rattle.encode.specs.Demands as encoder
-use Rattle.quick.specs.Outcome as reader
 use Rattle.quick.specs.Demands as quick
+use Rattle.quick.specs.QuickOutcome.{QuickDone}
 use Rattle.shortened.specs.Outcome.{leftOf, encodingShortened, invertingShortened, quickShortened}
 
 -- ---- Demand 1: the plain calls' checks, with the numbers of information bits that are left, and 12 right after 1
@@ -51,9 +50,11 @@ abbrev pub QuickShortenedDemand1 : ℕ → ℕ → List ℕ → List ℤ → Lis
 QuickShortenedDemand1 r m named l bits word =
     Demand1 (quickChecks r m named l bits word) (bits ∷ word ∷ []) (quick.view (quickShortened r m named l bits word))
 
--- ---- what a quick reading that is done says: a word of the smaller set, with its bits and its own penalty
-pub record QuickDone (m : ℕ) (ks : List ℕ) (l : List ℤ) (o : reader.Outcome) : Type 0 where
-  pub encodes : encoded m ks (o .bits) ≡ o .word
-  pub is-word : Word m ks (o .word)
-  pub own-penalty : o .penalty ≡ penalty l (o .word)
-  pub not-below : leastPenalty m ks l ≤ o .penalty
+-- ---- what a quick reading that is done says: the row is a good one, the tests 2 to 4 find nothing, and what is left in the buffers is a word of the smaller
+-- set with its bits, which has the penalty that is told
+abbrev pub ShortenedQuickDone : ℕ → ℕ → List ℕ → List ℤ → List ℕ → List ℕ → Type 0
+ShortenedQuickDone r m named l bits word =
+    let ks = leftOf named (rm r m) in
+    quickShortened r m named l bits word .number ≡ 0
+    → GoodRow named (kinds r m) × SoundFor (rm r m) (sum ks) (length bits) (length word) (GoodReadings (rm r m) l)
+    × QuickDone m ks l (quickShortened r m named l bits word)

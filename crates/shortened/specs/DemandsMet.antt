@@ -1,5 +1,5 @@
 -- The outcomes of calls on a shortened set meet the demands; C-14 holds with the full code's distance.
-use mathlib.Core.Path.{_≡_, refl, ap, sym, _∙_}
+use mathlib.Core.Path.{_≡_, refl, ap, sym, subst, _∙_}
 use mathlib.Core.Logic.{_⊎_, inl, inr, ⊎-elim}
 use mathlib.Core.List.{List, [], _∷_}
 use Prim.Native.Nat.{ℕ, _^_, _≤_, _<_}
@@ -10,11 +10,10 @@ use Rattle.numbers.specs.Choice.{lt-or-le}
 use Rattle.numbers.specs.Sums.{sum}
 use Rattle.words.specs.Kinds.{kinds, encoded, Word}
 use Rattle.words.specs.Inverse.{takenBack}
-use Rattle.decoding.specs.Quick.{quickPenalty}
-use Rattle.decoding.specs.QuickLaws.{encoded-quick, quick-word, quick-least}
 use Rattle.sure.specs.Sure.{Sure, Inside, SurelyRight}
 use Rattle.sure.specs.SureLaws.{surely-right}
 use Rattle.code.specs.declared.Made.the-variants.{Bad}
+use Rattle.code.specs.declared.Code.{Code}
 use Rattle.code.specs.declared.Refusal.{Refusal}
 use Rattle.code.specs.declared.Refusal.the-variants.{Parameters, Named}
 use Rattle.code.specs.declared.Admitted.the-variants.{Allowed, Refused}
@@ -22,8 +21,8 @@ use Rattle.code.specs.Sound.{Sound, largestM, made, rm}
 use Rattle.code.specs.SoundLaws.{made-good}
 use Rattle.code.specs.SoundInput.{GoodReadings, SoundFor}
 use Rattle.code.specs.Admitted.{admittedFor}
-use Rattle.code.specs.AdmittedLaws.{tested-made, refused-small-for, sound-allowed-for}
-use Rattle.code.specs.RefusalLaws.{carries-none}
+use Rattle.code.specs.AdmittedLaws.{allows, refuses, decided-for, tested-made, refused-small-for, sound-allowed-for}
+use Rattle.code.specs.RefusalLaws.{number-above, carries-none}
 use Rattle.code.specs.Demand1.{View, refusedAs, Checks, passed, check, checkAt, bitChecks, readingChecksFor}
 use Rattle.code.specs.Demand1Laws.{Decides, demand-1, decides-readings-for}
 use Rattle.named.specs.Named.{GoodRow, rowAdmitted}
@@ -33,11 +32,12 @@ use Rattle.encode.specs.Demands as encoders
 use Rattle.encode.specs.DemandsMet.{decides-tested, decides-frozen}
 use Rattle.quick.specs.Outcome as reader
 use Rattle.quick.specs.Demands as readers
+use Rattle.quick.specs.QuickOutcome.{done-by}
 use Rattle.shortened.specs.Outcome.{leftOf, readingOver, quickOver, encodingShortened, invertingShortened, quickShortened}
 use Rattle.shortened.specs.WorkLaws.{long-left, are-left}
 use Rattle.shortened.specs.OutcomeLaws.{encoding-refused, inverting-refused, quick-refused, over-refused}
 use Rattle.shortened.specs.OutcomeLaws.{encoding-left, inverting-left, quick-left, over-done}
-use Rattle.shortened.specs.Demands.{encodeChecks, inverseChecks, quickChecks, QuickDone}
+use Rattle.shortened.specs.Demands.{encodeChecks, inverseChecks, quickChecks, ShortenedQuickDone}
 use Rattle.shortened.specs.Demands.{EncodeShortenedDemand1, InverseShortenedDemand1, QuickShortenedDemand1}
 
 -- ---- the tests 1 and 12, before any others
@@ -129,19 +129,25 @@ module _ (r m : ℕ) (named : List ℕ) where
         (decides-readings-for (λ c. sum ks) r m l (length bits) (length word) before (readers.view (quickOver ks (rm r m) l bits word)) passed
         (tests-refuse s) (λ a. rw (← sound-read a) (refl, refl)))))
 
--- ---- what the quick reading gives
-pub quick-done : (r m : ℕ) (named : List ℕ) (l : List ℤ) → let ks = leftOf named (rm r m) in QuickDone m ks l (readingOver m ks l)
-unfolding quickPenalty
-quick-done r m named l =
-    let ks = leftOf named (rm r m) in
-    let long = long-left named (rm r m) in
-    let are = are-left named (rm r m) in
-    record {
-      encodes = encoded-quick m ks l long are;
-      is-word = quick-word m ks l long are;
-      own-penalty = refl;
-      not-below = quick-least m ks l long are;
-    }
+    -- what the quick reading gives
+    not-done : (why : Refusal) → reader.refused why bits word ≡ quickShortened r m named l bits word → quickShortened r m named l bits word .number ≡ 0 → ⊥
+    not-done why e z = omega (arith, number-above why, ap (λ (o : reader.Outcome). o .number) e)
+
+    pub shortened-quick-done : ShortenedQuickDone r m named l bits word
+    shortened-quick-done z =
+        elim (row-decided r m named) [
+          | bad-parameters b e ↦ absurd (not-done Parameters (quick-refused r m named Parameters e l bits word) z)
+          | bad-row s bad e ↦ absurd (not-done Named (quick-refused r m named Named e l bits word) z)
+          | sound-row s g e ↦
+              let left = quick-left r m named (rm r m) e l bits word in
+              let same = tested-made (λ c. sum ks) r m l (length bits) (length word) (rm r m) (made-good r m (s .m-small) (s .r-small)) in
+              elim (decided-for (λ c. sum ks) r m l (length bits) (length word)) [
+                | refuses why f h ↦ absurd (not-done why (over-refused ks (rm r m) l bits word why (f ∙ sym same) ∙ left) z)
+                | allows c f is a ↦
+                    let sound = subst (λ (d : Code). SoundFor d (sum ks) (length bits) (length word) (GoodReadings d l)) is a in
+                    (g, sound, rw (← left, ← sound-read sound) (done-by m ks l (long-left named (rm r m)) (are-left named (rm r m))))
+              ]
+        ]
 
 -- ---- C-14: the set lies in RM(r,m), so that the sum is compared with the full code's distance
 pub left-inside : (r m : ℕ) (named : List ℕ) → Inside r m (leftOf named (rm r m))

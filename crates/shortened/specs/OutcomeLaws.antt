@@ -5,15 +5,18 @@ use Prim.Native.Nat.{ℕ}
 use lib.IntN.{ℤ}
 use lib.ListN.{length}
 use Rattle.numbers.specs.Sums.{sum}
+use Rattle.words.specs.Kinds.{kinds}
+use Rattle.words.specs.KindLaws.{bits-kinds}
 use Rattle.code.specs.declared.Code.{Code}
 use Rattle.code.specs.declared.Refusal.{Refusal}
 use Rattle.code.specs.declared.Admitted.the-variants.{Allowed, Refused}
-use Rattle.code.specs.Sound.{Sound}
+use Rattle.code.specs.Sound.{Sound, rm}
 use Rattle.code.specs.SoundLaws.{made-good}
 use Rattle.code.specs.SoundInput.{GoodReadings, SoundFor}
 use Rattle.code.specs.Admitted.{admittedBy}
 use Rattle.code.specs.AdmittedLaws.{tested-made, allowed-sound-for}
-use Rattle.named.specs.Named.{rowAdmitted}
+use Rattle.named.specs.Named.{GoodRow, rowAdmitted}
+use Rattle.named.specs.NamedLaws.{good-row, row-allowed}
 use Rattle.encode.specs.Outcome as encoder
 use Rattle.quick.specs.Outcome as reader
 use Rattle.shortened.specs.Outcome.{leftOf, encodingOver, invertingOver, readingOver, quickOver, encodingShortened, invertingShortened, quickShortened}
@@ -44,6 +47,10 @@ module _ (r m : ℕ) (named : List ℕ) where
     pub quick-left : (l : List ℤ) (bits word : List ℕ) → quickOver (leftOf named c) c l bits word ≡ quickShortened r m named l bits word
     unfolding quickShortened
     quick-left l bits word = rw (← e)
+
+-- a good row of a sound code is allowed
+pub good-allowed : (r m : ℕ) (named : List ℕ) → Sound (rm r m) → GoodRow named (kinds r m) → Allowed (rm r m) ≡ rowAdmitted r m named
+good-allowed r m named s g = row-allowed r m named (rm r m) (made-good r m (s .m-small) (s .r-small)) (good-row named (kinds r m) (bits-kinds r m) g)
 
 -- ---- tests 2 to 4 of readings
 pub allowed-over : (c : Code) (due : ℕ) (l : List ℤ) (k n : ℕ) → Sound c → (d : Code) → Allowed d ≡ admittedBy c due l k n

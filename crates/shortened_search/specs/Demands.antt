@@ -1,7 +1,8 @@
--- The demands on the search over a shortened set: 1 with its checks, 2 and 3 over the smaller set of words. That they are met is proved in DemandsMet.
+-- The demands on the search over a shortened set: 1 with its checks, 2 and 3 over the smaller set of words; and what a larger allowance changes. That they
+-- are met is proved in DemandsMet.
 use mathlib.Core.Path.{_≡_}
 use mathlib.Core.List.{List, [], _∷_}
-use Prim.Native.Nat.{ℕ}
+use Prim.Native.Nat.{ℕ, _≤_}
 use lib.IntN.{ℤ}
 use lib.ListN.{length, replicate}
 use Rattle.numbers.specs.Sums.{sum}
@@ -20,6 +21,12 @@ searchChecks r m allowed named l bits word =
 abbrev pub ShortenedDemand1 : ℕ → ℕ → ℕ → List ℕ → List ℤ → List ℕ → List ℕ → Type 0
 ShortenedDemand1 r m allowed named l bits word =
     Demand1 (searchChecks r m allowed named l bits word) (bits ∷ word ∷ []) (view (searchingShortened r m allowed named l bits word .outcome))
+
+-- A larger allowance changes nothing that was answered or refused, but for 6, as with the plain search: numbers, buffers and runner-up stay
+abbrev pub ShortenedLargerAllowance : ℕ → ℕ → List ℕ → List ℤ → List ℕ → List ℕ → Type 0
+ShortenedLargerAllowance r m named l bits word = (allowed more : ℕ) → allowed ≤ more
+    → (searchingShortened r m allowed named l bits word .outcome .number ≡ 6 → ⊥)
+    → searchingShortened r m more named l bits word ≡ searchingShortened r m allowed named l bits word
 
 -- the search over the smaller set: the word c of demand 3 is one of its words
 abbrev pub smallerSet : ℕ → ℕ → List ℕ → Searching

@@ -13,6 +13,8 @@ use Rattle.decoding.specs.DemandsMet.{demands}
 use Rattle.code.specs.declared.Code.{Code}
 use Rattle.code.specs.declared.Refusal.{Refusal}
 use Rattle.code.specs.declared.Refusal.the-variants.{Parameters, Named}
+use Rattle.code.specs.declared.Admitted.{Admitted}
+use Rattle.code.specs.declared.Admitted.the-variants as admission
 use Rattle.code.specs.Sound.{Sound, rm}
 use Rattle.code.specs.SoundLaws.{made-good}
 use Rattle.code.specs.SoundInput.{GoodReadings, SoundFor}
@@ -21,20 +23,21 @@ use Rattle.code.specs.AdmittedLaws.{allows, refuses, decided-for, tested-made, 
 use Rattle.code.specs.RefusalLaws.{number-above}
 use Rattle.code.specs.Demand1.{View, readingChecksFor}
 use Rattle.code.specs.Demand1Laws.{demand-1, decides-readings-for}
-use Rattle.named.specs.Named.{GoodRow}
+use Rattle.named.specs.Named.{GoodRow, rowAdmitted, afterTest}
 use Rattle.named.specs.NamedLaws.{bad-parameters, bad-row, sound-row, row-decided}
 use Rattle.search.specs.Outcome.{byAnswer}
-use Rattle.search.specs.RunnerUp.{WholeOutcome, wholeBy}
+use Rattle.search.specs.RunnerUp.{WholeOutcome, runnerUp, shownWith, wholeBy}
 use Rattle.search.specs.Demands.{view, walkChecksOver, Passes}
-use Rattle.search.specs.DemandsMet.{demands-of}
+use Rattle.search.specs.DemandsMet.{answered-kept, demands-of}
 use Rattle.search.specs.RunnerUpMet.{runner-up-shown}
 use Rattle.search.specs.Demand1Met.{answer-decides}
 use Rattle.shortened.specs.Outcome.{leftOf}
 use Rattle.shortened.specs.WorkLaws.{long-left, are-left}
+use Rattle.shortened.specs.OutcomeLaws.{good-allowed}
 use Rattle.shortened.specs.DemandsMet.{decides-row, afterOne}
 use Rattle.shortened_search.specs.Outcome.{refusedWhole, searchingOver, searchingShortened}
-use Rattle.shortened_search.specs.OutcomeLaws.{searching-refused, searching-left, over-refused, over-answered, good-allowed}
-use Rattle.shortened_search.specs.Demands.{searchChecks, ShortenedDemand1, smallerSet, ShortenedDemands, RunnerUpLeft}
+use Rattle.shortened_search.specs.OutcomeLaws.{searching-refused, searching-left, over-refused, over-answered}
+use Rattle.shortened_search.specs.Demands.{searchChecks, ShortenedDemand1, ShortenedLargerAllowance, smallerSet, ShortenedDemands, RunnerUpLeft}
 
 module _ (r m allowed : ℕ) (named : List ℕ) (l : List ℤ) (bits word : List ℕ) where
   abbrev ks : List ℕ
@@ -66,6 +69,22 @@ module _ (r m allowed : ℕ) (named : List ℕ) (l : List ℤ) (bits word : List
       (decides-readings-for (λ c. sum ks) r m l (length bits) (length word) before (view (over .outcome)) (walkChecksOver m ks allowed l)
       (λ why f. ap shown (sym (over-refused ks (rm r m) allowed l bits word why (f ∙ sym (same-tests s)))))
       (λ a. rw (← over-sound a) (answer-decides m ks allowed l bits word)))))
+
+-- ---- a larger allowance
+-- a test does not look at it
+test-kept : (t : Admitted) (refuse : Refusal → WholeOutcome) (then then′ : Code → WholeOutcome)
+    → ((c : Code) → (then c .outcome .number ≡ 6 → ⊥) → then′ c ≡ then c)
+    → (afterTest t refuse then .outcome .number ≡ 6 → ⊥) → afterTest t refuse then′ ≡ afterTest t refuse then
+test-kept (admission.Refused why) refuse then then′ f n = refl
+test-kept (admission.Allowed c) refuse then then′ f n = f c n
+
+pub shortened-larger-allowance : (r m : ℕ) (named : List ℕ) (l : List ℤ) (bits word : List ℕ) → ShortenedLargerAllowance r m named l bits word
+unfolding searchingShortened
+shortened-larger-allowance r m named l bits word allowed more h =
+    test-kept (rowAdmitted r m named) _ _ _
+    (λ c. let ks = leftOf named c in
+    test-kept (admittedBy c (sum ks) l (length bits) (length word)) _ _ _
+    (λ d n. ap (shownWith (runnerUp (d .m) ks l)) (answered-kept (d .m) ks l bits word allowed more h n)))
 
 -- ---- Demands 2 and 3
 module _ (r m : ℕ) (named : List ℕ) (g : GoodRow named (kinds r m)) where

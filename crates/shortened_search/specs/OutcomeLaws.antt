@@ -7,17 +7,15 @@ use lib.IntN.{ℤ}
 use lib.ListN.{length}
 use Rattle.numbers.specs.Sums.{sum}
 use Rattle.words.specs.Kinds.{kinds}
-use Rattle.words.specs.KindLaws.{bits-kinds}
 use Rattle.decoding.specs.StepLaws.{sizes-within}
 use Rattle.code.specs.declared.Code.{Code}
 use Rattle.code.specs.declared.Refusal.{Refusal}
 use Rattle.code.specs.declared.Admitted.the-variants.{Allowed, Refused}
-use Rattle.code.specs.Sound.{Sound, largestReading, rm}
-use Rattle.code.specs.SoundLaws.{made-good, length-most}
+use Rattle.code.specs.Sound.{largestReading}
+use Rattle.code.specs.SoundLaws.{length-most}
 use Rattle.code.specs.SoundInput.{GoodReadings, SoundFor}
 use Rattle.code.specs.Admitted.{admittedBy}
 use Rattle.named.specs.Named.{GoodRow, rowAdmitted}
-use Rattle.named.specs.NamedLaws.{good-row, row-allowed}
 use Rattle.search.specs.RunnerUp.{wholeBy}
 use Rattle.search.specs.Work.{Searchable}
 use Rattle.shortened.specs.Outcome.{leftOf}
@@ -42,10 +40,6 @@ module _ (ks : List ℕ) (c : Code) (allowed : ℕ) (l : List ℤ) (bits word : 
   pub over-answered : (d : Code) → Allowed d ≡ admittedBy c (sum ks) l (length bits) (length word)
       → wholeBy (d .m) ks l allowed bits word ≡ searchingOver ks c allowed l bits word
   over-answered d e = rw (← e)
-
--- a good row of a sound code is allowed
-pub good-allowed : (r m : ℕ) (named : List ℕ) → Sound (rm r m) → GoodRow named (kinds r m) → Allowed (rm r m) ≡ rowAdmitted r m named
-good-allowed r m named s g = row-allowed r m named (rm r m) (made-good r m (s .m-small) (s .r-small)) (good-row named (kinds r m) (bits-kinds r m) g)
 
 -- the kinds that are left, and readings x that are l, can be searched
 pub left-searchable : (c : Code) (named ks : List ℕ) (l x : List ℤ) (bits word : List ℕ) → ks ≡ leftOf named c → x ≡ l → GoodRow named (kinds (c .r) (c .m))

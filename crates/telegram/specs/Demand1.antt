@@ -13,8 +13,7 @@ use Rattle.search.specs.Demands.{searchChecks}
 use Rattle.telegram.specs.declared.Telegram.{Telegram}
 use Rattle.telegram.specs.declared.Fault.the-variants.{Link}
 use Rattle.telegram.specs.Telegram.{telegramOf, markerOf}
-use Rattle.telegram.specs.Faults.{largestCylinder, largestDirection, largestTilt, Writable}
-use Rattle.telegram.specs.FaultLaws.{TiltGood}
+use Rattle.telegram.specs.Faults.{largestCylinder, largestDirection, largestTilt, TiltGood, Writable}
 use Rattle.telegram.specs.Outcome.{WriteOutcome, writingTelegram, ReadOutcome, noTelegram, faulted, linkSearch, readingTelegram}
 
 -- what 14, 15 and 16 are given for; TiltGood says that neither 14 nor 15 is

@@ -1,6 +1,6 @@
 -- The telegram's writer and reader meet demand 1: one of the cases holds, and each case has its outcome.
 use mathlib.Core.Path.{_≡_, refl, ap, sym, _∙_}
-use mathlib.Core.Logic.{inl, inr, ⊎-elim}
+use mathlib.Core.Logic.{_⊎_, inl, inr, ⊎-elim}
 use mathlib.Core.List.{List}
 use Prim.Native.Nat.{ℕ, _≤_, _<_}
 use native.Mathlib.Omega.{arith}
@@ -20,8 +20,8 @@ use Rattle.telegram.specs.declared.Fault.the-variants.{Link, Marker, Til
 use Rattle.telegram.specs.declared.Tested.{Tested}
 use Rattle.telegram.specs.declared.Tested.the-variants.{Good, Bad}
 use Rattle.telegram.specs.Telegram.{telegramOf, markerOf, wordOf}
-use Rattle.telegram.specs.Faults.{largestCylinder, largestDirection, largestTilt, Writable, writerFault, readerFault}
-use Rattle.telegram.specs.FaultLaws.{number-below, TiltGood, tilt-high, tilt-level, tilt-good, field-beyond, writer-good, read-writable}
+use Rattle.telegram.specs.Faults.{largestCylinder, largestDirection, largestTilt, TiltGood, Writable, writerFault, readerFault}
+use Rattle.telegram.specs.FaultLaws.{number-below, tilt-high, tilt-level, tilt-good, field-beyond, writer-good, read-writable}
 use Rattle.telegram.specs.Outcome.{WriteOutcome, done, refused, writtenIf, writingTelegram}
 use Rattle.telegram.specs.Outcome.{ReadOutcome, noTelegram, showing, faulted, shownIf, linkSearch, readingTelegram}
 use Rattle.telegram.specs.OutcomeLaws.{writing-short, writing-tested, reading-found, reading-other, found-all, found-bits}
@@ -299,6 +299,15 @@ module _ (allowed : ℕ) (l : List ℤ) where
 
   number-read : (c : Case) → readingTelegram allowed l .carry .number ≡ readBy c .carry .number
   number-read c = ap (λ (o : ReadOutcome). o .carry .number) (read-is c)
+
+  -- the search finds something, and its marker is not set
+  pub unmarked : NoneApplies checks → markerOf b ≡ 0 → let n = readingTelegram allowed l .carry .number in (n ≡ 0) ⊎ (n ≡ 14) ⊎ (n ≡ 15)
+  unmarked none m =
+      elim (tilt-case (telegramOf b)) [
+        | fine g ↦ inl (number-read (clear none m g))
+        | high h ↦ inr (inl (number-read (inclined none m h)))
+        | level h ↦ inr (inr (number-read (upright none m h)))
+      ]
 
   -- the number that the search's first check gives
   link-given : (n : ℕ) → First (λ why. numberOf why ≡ n) checks → readingTelegram allowed l .carry .number ≡ n

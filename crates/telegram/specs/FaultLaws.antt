@@ -18,7 +18,7 @@ use Rattle.telegram.specs.declared.Fault.the-variants.{Link, Marker, Til
 use Rattle.telegram.specs.declared.Tested.{Tested}
 use Rattle.telegram.specs.declared.Tested.the-variants.{Good, Bad}
 use Rattle.telegram.specs.Faults.{largestCylinder, largestDirection, largestTilt, tiltFault, fieldFault, markerFault, writerFault, readerFault}
-use Rattle.telegram.specs.Faults.{before, faultCarries, Writable}
+use Rattle.telegram.specs.Faults.{before, faultCarries, TiltGood, Writable}
 use Rattle.telegram.specs.TelegramLaws.{Fits}
 
 -- ---- a fault by what it carries
@@ -107,11 +107,6 @@ testNumber (Bad why) = faultNumber why
 good-before : (x y : Tested) → before x y ≡ Good → (x ≡ Good) × (y ≡ Good)
 good-before Good y e = (refl, e)
 good-before (Bad why) y e = absurd (omega (arith, ap testNumber e, fault-above why))
-
--- what the tests 14 and 15 let through
-pub record TiltGood (t : Telegram) : Type 0 where
-  pub small : t .tilt ≤ largestTilt
-  pub zero-level : t .tilt ≡ 0 → t .direction ≡ 1 → ⊥
 
 module _ (t : Telegram) where
   -- each test where it finds its fault

@@ -44,6 +44,11 @@ writerFault t = before (tiltFault t) (fieldFault t)
 abbrev pub readerFault : ℕ → Telegram → Tested
 readerFault marker t = before (markerFault marker) (tiltFault t)
 
+-- what the tests 14 and 15 let through
+pub record TiltGood (t : Telegram) : Type 0 where
+  pub small : t .tilt ≤ largestTilt
+  pub zero-level : t .tilt ≡ 0 → t .direction ≡ 1 → ⊥
+
 -- the telegrams in which the writer finds no fault
 pub record Writable (t : Telegram) : Type 0 where
   pub cylinder-small : t .cylinder ≤ largestCylinder

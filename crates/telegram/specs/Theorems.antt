@@ -1,6 +1,6 @@
 -- What is proved of telegrams, sentence by sentence, over the definitions that the contracts cite. That it holds is proved in TheoremsMet.
 use mathlib.Core.Path.{_≡_}
-use mathlib.Core.Logic.{_↔_}
+use mathlib.Core.Logic.{_⊎_, _↔_}
 use mathlib.Core.List.{List, map}
 use Prim.Native.Nat.{ℕ, _+_, _-_, _*_, _≤_, _<_}
 use lib.IntN.{ℤ, negℤ}
@@ -31,6 +31,11 @@ pub record WriteTheorems : Type 0 where
   -- No two telegrams have one word.
   pub one-word : (t t′ : Telegram) → Writable t → Writable t′ → wordOf t ≡ wordOf t′ → t ≡ t′
 
+-- A larger allowance changes nothing that was shown or refused, but for 6: every number and every field stay.
+abbrev pub TelegramLargerAllowance : List ℤ → Type 0
+TelegramLargerAllowance l = (allowed more : ℕ) → allowed ≤ more
+    → (readingTelegram allowed l .carry .number ≡ 6 → ⊥) → readingTelegram more l ≡ readingTelegram allowed l
+
 pub record ReadTheorems : Type 0 where
   -- What was written is read, for any readings whose search finds the written word.
   pub written-read : (t : Telegram) → Writable t → (allowed : ℕ) (l : List ℤ) → Finds allowed l t
@@ -41,6 +46,7 @@ pub record ReadTheorems : Type 0 where
   -- With the standing allowance the reader never gives 6, since it is above the whole tree.
   pub whole-tree : tree (kinds 2 5) ≡ 131759
   pub never-out : (l : List ℤ) → readingTelegram defaultAllowance l .carry .number ≡ 6 → ⊥
+  pub larger : (l : List ℤ) → TelegramLargerAllowance l
 
 pub record TurnedTheorems (l : List ℤ) : Type 0 where
   -- If every reading is negated, the reader refuses with 13 and shows nothing if the walk on the negated readings stays within its allowance,
@@ -56,6 +62,17 @@ abbrev pub NeverShown : Type 0
 NeverShown =
     (t : Telegram) → Writable t → (l : List ℤ) (allowed allowed′ : ℕ) → Finds allowed l t
     → (let o = readingTelegram allowed′ (turned l) in (0 < o .carry .number) × (o .telegram ≡ noTelegram))
+
+-- Of all readings, whatever their search finds, and the same readings negated:
+pub record TurnedOver (l : List ℤ) : Type 0 where
+  -- no two readers show a telegram both ways, whatever they allow.
+  pub never-both : (allowed allowed′ : ℕ) → readingTelegram allowed l .carry .number ≡ 0 → readingTelegram allowed′ (turned l) .carry .number ≡ 0 → ⊥
+  -- Under one allowance the negated ones are refused by their marker exactly if the upright ones pass that test: they are read, or refused as 14 or 15.
+  pub marked-exactly : (allowed : ℕ) → let n = readingTelegram allowed l .carry .number in
+      (readingTelegram allowed (turned l) .carry .number ≡ 13) ↔ ((n ≡ 0) ⊎ (n ≡ 14) ⊎ (n ≡ 15))
+  -- And the upright ones exactly if the negated ones do.
+  pub upright-exactly : (allowed : ℕ) → let n = readingTelegram allowed (turned l) .carry .number in
+      (readingTelegram allowed l .carry .number ≡ 13) ↔ ((n ≡ 0) ⊎ (n ≡ 14) ⊎ (n ≡ 15))
 
 -- how many telegrams these are: numbered from 0, each once
 abbrev pub telegrams : ℕ
@@ -74,4 +91,5 @@ pub record Theorems : Type 0 where
   pub reads : ReadTheorems
   pub turns : (t : Telegram) → Writable t → (allowed : ℕ) (l : List ℤ) → Finds allowed l t → TurnedTheorems l
   pub never-shown : NeverShown
+  pub either-way : (l : List ℤ) → TurnedOver l
   pub counted : Counted

@@ -1,11 +1,11 @@
 -- The theorems on telegrams are met: by what the encoder and the search promise, and by the demands.
-use mathlib.Core.Path.{_≡_, refl, ap, ap₂, sym, _∙_}
-use mathlib.Core.Logic.{_⊎_, inl, inr, ⊎-elim}
+use mathlib.Core.Path.{_≡_, refl, ap, ap₂, sym, subst, _∙_}
+use mathlib.Core.Logic.{_⊎_, inl, inr, ⊎-elim, _↔_}
 use mathlib.Core.List.{List, [], _∷_, _++_}
 use Prim.Native.Nat.{ℕ, _+_, _-_, _*_, _/_, _%_, _≤_, _<_}
 use native.Mathlib.Omega.{arith}
 use native.Mathlib.Decide.{ℕ-discrete}
-use lib.IntN.{ℤ}
+use lib.IntN.{ℤ, negℤ-negℤ}
 use lib.ListN.{replicate}
 use Rattle.numbers.specs.Choice.{lt-or-le}
 use Rattle.numbers.specs.Sums.{total, tabulate, sum}
@@ -15,13 +15,16 @@ use Rattle.words.specs.Kinds.{kind, kinds, encoded, InformationBits, Word, allO
 use Rattle.words.specs.Inverse.{TakenBack, taken, frozenOne, takenBack}
 use Rattle.words.specs.InverseLaws.{taken-encoded}
 use Rattle.words.specs.KindLaws.{length-kinds, bits-kinds}
-use Rattle.words.specs.TransformLaws.{bits-more, bits-zeros}
+use Rattle.words.specs.TransformLaws.{getD-xors, bits-more, bits-zeros}
 use Rattle.decoding.specs.Walk.{needed, tree}
 use Rattle.decoding.specs.DemandsMet.{demands-code}
 use Rattle.code.specs.declared.Refusal.the-variants.{OutOfVisits}
 use Rattle.code.specs.Sound.{defaultAllowance}
+use Rattle.code.specs.Demand1.{NoneApplies}
 use Rattle.search.specs.Outcome as Search
-use Rattle.search.specs.DemandsMet.{outcome-demands}
+use Rattle.search.specs.Demand1Met.{search-demand-1}
+use Rattle.search.specs.RunnerUp.{WholeOutcome}
+use Rattle.search.specs.DemandsMet.{larger-allowance, outcome-demands}
 use Rattle.telegram.specs.declared.Telegram.{Telegram}
 use Rattle.telegram.specs.declared.Fault.the-variants.{Link, Marker}
 use Rattle.telegram.specs.declared.Tested.{Tested}
@@ -30,10 +33,13 @@ use Rattle.telegram.specs.Telegram.{bitsWith, telegramBits, telegramOf, 
 use Rattle.telegram.specs.TelegramLaws.{length-bits, bits-bits, marker-bits, telegram-bits, fits-telegram, bits-telegram}
 use Rattle.telegram.specs.Faults.{Writable, writerFault, readerFault}
 use Rattle.telegram.specs.FaultLaws.{fault-above, Own, own-reader, writer-good, good-writer, reader-good, good-reader, writable-fits, read-writable}
-use Rattle.telegram.specs.Outcome.{WriteOutcome, writtenIf, ReadOutcome, showing, faulted, shownIf, judged, linkSearch, readingTelegram}
+use Rattle.telegram.specs.Outcome.{WriteOutcome, writtenIf, ReadOutcome, showing, faulted, shownIf, judged, heard, linkSearch, readingTelegram}
 use Rattle.telegram.specs.OutcomeLaws.{dimension-25, sum-25, writing-tested, reading-found, reading-other, reading-refused}
 use Rattle.telegram.specs.OutcomeLaws.{Passed, tests, passed, stopped, FoundBest, found-all, found-again, out-of-visits, found-long, found-bits}
-use Rattle.telegram.specs.Theorems.{Finds, turned, WriteTheorems, ReadTheorems, TurnedTheorems, NeverShown, telegrams, ordinal, Counted, Theorems}
+use Rattle.telegram.specs.Demand1.{linkChecks}
+use Rattle.telegram.specs.Demand1Met.{read-demand-1, unmarked}
+use Rattle.telegram.specs.Theorems.{Finds, turned, WriteTheorems, TelegramLargerAllowance, ReadTheorems, TurnedTheorems, NeverShown, TurnedOver}
+use Rattle.telegram.specs.Theorems.{telegrams, ordinal, Counted, Theorems}
 
 -- ---- words of RM(2,5)
 takenBits : TakenBack → List ℕ
@@ -89,6 +95,16 @@ judged-turned : (t : Telegram) (p g v : ℕ) → judged (xors (telegramBits t) m
 unfolding digits
 judged-turned t p g v = refl
 
+-- the search of the negated readings finds a word where the upright one does: it has the marker added
+turned-found : (allowed : ℕ) (l : List ℤ) → linkSearch allowed l .number ≡ 0
+    → (linkSearch allowed (turned l) .number ≡ 0) × (linkSearch allowed (turned l) .bits ≡ xors (linkSearch allowed l .bits) markerAlone)
+unfolding ones-word
+turned-found allowed l n =
+    let plus =
+    outcome-demands (replicate 16 0) (replicate 32 0) (found-all allowed l n .passes) .demand-3-all-ones ones-word (replicate 16 0) (replicate 32 0)
+    (sym dimension-25) refl .same-search allowed .0 in
+    (plus .same-number ∙ n, plus .bits-added n)
+
 -- the bits that the search found are the telegram's
 module _ (allowed : ℕ) (l : List ℤ) (t : Telegram) (w : Writable t) (h : Finds allowed l t) where
   sent : FoundBest allowed l
@@ -127,15 +143,12 @@ module _ (allowed : ℕ) (l : List ℤ) (t : Telegram) (w : Writable t) (h : Fin
           }
 
       marked : readingTelegram allowed′ (turned l) ≡ faulted Marker
-      unfolding ones-word
       marked =
           let o = linkSearch allowed′ (turned l) in
-          let plus =
-          outcome-demands (replicate 16 0) (replicate 32 0) (sent .passes) .demand-3-all-ones ones-word (replicate 16 0) (replicate 32 0)
-          (sym dimension-25) refl .same-search allowed′ .0 in
+          let plus = turned-found allowed′ l (still-finds .answers) in
           let bits : o .bits ≡ xors (telegramBits t) markerAlone =
-          plus .bits-added (still-finds .answers) ∙ ap (λ (b : List ℕ). xors b markerAlone) (ap (λ (s : Search.Outcome). s .bits) again ∙ sent-bits) in
-          reading-found allowed′ (turned l) (plus .same-number ∙ still-finds .answers)
+          plus .1 ∙ ap (λ (b : List ℕ). xors b markerAlone) (ap (λ (s : Search.Outcome). s .bits) again ∙ sent-bits) in
+          reading-found allowed′ (turned l) (plus .0)
           ∙ ap (λ (b : List ℕ). judged b (o .penalty) (o .gap) (o .visits)) bits
           ∙ judged-turned t (o .penalty) (o .gap) (o .visits)
 
@@ -218,6 +231,13 @@ read-six allowed l e =
       | no n ↦ ap (λ (r : ReadOutcome). r .carry .number) (sym (reading-other allowed l n)) ∙ e
     ]
 
+telegram-larger-allowance : (l : List ℤ) → TelegramLargerAllowance l
+unfolding readingTelegram
+telegram-larger-allowance l allowed more h n =
+    let six-passed : linkSearch allowed l .number ≡ 6 → readingTelegram allowed l .carry .number ≡ 6 =
+    λ e. ap (λ (r : ReadOutcome). r .carry .number) (reading-other allowed l (λ z. omega (arith, e, z))) ∙ e in
+    ap (λ (w : WholeOutcome). heard (w .outcome)) (larger-allowance 2 5 l (replicate 16 0) (replicate 32 0) allowed more h (λ e. n (six-passed e)))
+
 tree-25 : tree (kinds 2 5) ≡ 131759
 unfolding tree total sum kinds kind ones digit tabulate
 tree-25 = refl
@@ -238,6 +258,66 @@ read-theorems =
             | passed x ↦ outcome-demands (replicate 16 0) (replicate 32 0) x .whole-tree defaultAllowance (omega (arith, tree-25)) six
             | stopped why f h ↦ omega (arith, six, ap (λ (o : Search.Outcome). o .number) f)
           ];
+      larger = telegram-larger-allowance;
+    }
+
+-- ---- all readings, upright and negated
+turned-twice : (l : List ℤ) → turned (turned l) ≡ l
+turned-twice [] = refl
+turned-twice (x ∷ l) = ap₂ _∷_ (negℤ-negℤ x) (turned-twice l)
+
+module _ (l : List ℤ) (allowed : ℕ) where
+  abbrev upright : List ℕ
+  upright = linkSearch allowed l .bits
+
+  abbrev negated : List ℕ
+  negated = linkSearch allowed (turned l) .bits
+
+  found-back : linkSearch allowed (turned l) .number ≡ 0 → linkSearch allowed l .number ≡ 0
+  found-back n = subst (λ (k : List ℤ). linkSearch allowed k .number ≡ 0) (turned-twice l) (turned-found allowed (turned l) n .0)
+
+  one-marker : linkSearch allowed l .number ≡ 0 → markerOf upright + markerOf negated ≡ 1
+  one-marker n =
+      let f = found-all allowed l n in
+      let added : markerOf negated ≡ (markerOf upright + 1) % 2 =
+      ap markerOf (turned-found allowed l n .1) ∙ getD-xors upright markerAlone 15 (found-long allowed l f) in
+      omega (arith, added, found-bits allowed l f 15)
+
+  passes-marker : let n = readingTelegram allowed l .carry .number in
+      (n ≡ 0) ⊎ (n ≡ 14) ⊎ (n ≡ 15) → NoneApplies (linkChecks allowed l) × (markerOf upright ≡ 0)
+  passes-marker =
+      let d = read-demand-1 allowed l in
+      ⊎-elim (λ e. let x = d .shown .0 e in (x .0, x .1))
+      (⊎-elim (λ e. let x = d .fourteen .0 e in (x .0, x .1)) (λ e. let x = d .fifteen .0 e in (x .0, x .1)))
+
+  marked-exactly : let n = readingTelegram allowed l .carry .number in
+      (readingTelegram allowed (turned l) .carry .number ≡ 13) ↔ ((n ≡ 0) ⊎ (n ≡ 14) ⊎ (n ≡ 15))
+  marked-exactly =
+      let none = search-demand-1 2 5 allowed l (replicate 16 0) (replicate 32 0) .done in
+      let none′ = search-demand-1 2 5 allowed (turned l) (replicate 16 0) (replicate 32 0) .done in
+      let d = read-demand-1 allowed (turned l) .thirteen in (
+        λ e.
+            let x = d .0 e in
+            let n = found-back (none′ .1 (x .0)) in
+            unmarked allowed l (none .0 n) (omega (arith, x .1, one-marker n)),
+        λ e.
+            let x = passes-marker e in
+            let n = none .1 (x .0) in
+            d .1 (none′ .0 (turned-found allowed l n .0), omega (arith, x .1, one-marker n)),
+      )
+
+either-way : (l : List ℤ) → TurnedOver l
+either-way l =
+    record {
+      never-both = λ allowed allowed′ e e′.
+          let x = read-theorems .read-written allowed l e in
+          let r = never-shown (readingTelegram allowed l .telegram) (x .0) l allowed allowed′ (x .1) in
+          omega (arith, e′, r .0);
+      marked-exactly = marked-exactly l;
+      upright-exactly = λ allowed.
+          let n = readingTelegram allowed (turned l) .carry .number in
+          subst (λ (k : List ℤ). (readingTelegram allowed k .carry .number ≡ 13) ↔ ((n ≡ 0) ⊎ (n ≡ 14) ⊎ (n ≡ 15)))
+          (turned-twice l) (marked-exactly (turned l) allowed);
     }
 
 -- ---- how many there are
@@ -306,5 +386,6 @@ theorems =
       reads = read-theorems;
       turns = λ t w allowed l h. turned-theorems allowed l t w h;
       never-shown = never-shown;
+      either-way = either-way;
       counted = counted;
     }
