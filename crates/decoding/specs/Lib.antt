@@ -29,6 +29,8 @@ pub mod TurnLaws
 pub mod TurnedWalk
 pub mod TurnedBest
 pub mod AllOnes
+-- What the gap is good for
+pub mod GapLaws
 -- The demands, that they are met, and examples
 pub mod Demands
 pub mod DemandsMet
