@@ -29,6 +29,7 @@ pub mod TurnLaws
 pub mod TurnedWalk
 pub mod TurnedBest
 pub mod AllOnes
+pub mod PolarityLaws
 -- What the gap is good for
 pub mod GapLaws
 -- The demands, that they are met, and examples
