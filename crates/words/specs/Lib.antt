@@ -14,6 +14,7 @@ pub mod InverseLaws
 -- Laws: the published forms are one, and the least distance of RM(r,m)
 pub mod TableLaws
 pub mod PublishedLaws
+pub mod ParityLaws
 pub mod HalfLaws
 pub mod PolynomialLaws
 pub mod DistanceLaws
