@@ -16,5 +16,6 @@ pub mod TableLaws
 pub mod PublishedLaws
 pub mod ParityLaws
 pub mod HalfLaws
+pub mod PlotkinLaws
 pub mod PolynomialLaws
 pub mod DistanceLaws
