@@ -135,7 +135,7 @@ module _ (m : ℕ) (ks : List ℕ) (l l′ : List ℤ) (information : 1 ≤ sum 
 -- ---- the gap itself
 module _ (m : ℕ) (ks : List ℕ) (f : length ks ≡ 2 ^ m) (kinds : Bits ks) (information : 1 ≤ sum ks) where
   -- some other word has the next penalty
-  some-next : (l : List ℤ) → length l ≡ 2 ^ m
+  pub some-next : (l : List ℤ) → length l ≡ 2 ^ m
       → (b : List ℕ) × InformationBits ks b × (b ≡ bestBits m ks l → ⊥) × (penaltyOf m ks l b ≤ leastPenalty m ks l + gap m ks l)
   some-next l e =
       let two = best-two m ks l e f kinds information in
