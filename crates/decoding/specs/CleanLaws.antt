@@ -69,8 +69,8 @@ pub record CleanBest (m : ℕ) (ks c bits : List ℕ) (l : List ℤ) : Type 0 wh
   pub no-penalty : leastPenalty m ks l ≡ 0
 
 module _ (m : ℕ) (ks : List ℕ) (f : length ks ≡ 2 ^ m) (h : Bits ks) (c : List ℕ) (w : Word m ks c) (s : ℕ) (above : 1 ≤ s) where
-  own-penalty : (x : List ℕ) → Word m ks x → penalty (clean s c) x ≡ s * distance c x
-  own-penalty x v = penalty-clean s c x (word-bits m ks c f w) (word-bits m ks x f v)
+  penalty-far : (x : List ℕ) → Word m ks x → penalty (clean s c) x ≡ s * distance c x
+  penalty-far x v = penalty-clean s c x (word-bits m ks c f w) (word-bits m ks x f v)
 
   -- a word of penalty 0 is c
   only-clean : (x : List ℕ) → Word m ks x → penalty (clean s c) x ≡ 0 → x ≡ c
@@ -78,7 +78,7 @@ module _ (m : ℕ) (ks : List ℕ) (f : length ks ≡ 2 ^ m) (h : Bits ks) (c : 
     | yes i ↦ sym i
     | no i ↦
         let far = distance-apart c x (word-length m ks c f w ∙ sym (word-length m ks x f v)) i in
-        absurd (omega (arith, z, own-penalty x v, mul-le-mul-left s far))
+        absurd (omega (arith, z, penalty-far x v, mul-le-mul-left s far))
   ]
 
   pub clean-best : CleanBest m ks c (w .bits) (clean s c)
@@ -86,7 +86,7 @@ module _ (m : ℕ) (ks : List ℕ) (f : length ks ≡ 2 ^ m) (h : Bits ks) (c : 
   clean-best =
       let l = clean s c in
       let none : leastPenalty m ks l ≡ 0 =
-      le-antisymm (rw (w .gives, own-penalty c w, distance-self c, mul-zero s) at (none-less m ks l (w .bits) (w .long, w .are-bits))) (omega arith) in
+      le-antisymm (rw (w .gives, penalty-far c w, distance-self c, mul-zero s) at (none-less m ks l (w .bits) (w .long, w .are-bits))) (omega arith) in
       let b = best-bits-are m ks l in
       let v : Word m ks (bestWord m ks l) = record { bits = bestBits m ks l; long = b .0; are-bits = b .1; gives = refl } in
       let best : bestWord m ks l ≡ c = only-clean (bestWord m ks l) v (best-attains m ks l ∙ none) in
@@ -108,7 +108,7 @@ module _ (m : ℕ) (ks : List ℕ) (f : length ks ≡ 2 ^ m) (h : Bits ks) (c : 
       let same : n .0 ≡ bestBits m ks l =
       cc (taken-encoded m ks (n .0) f h (n .1 .0) (n .1 .1), word-taken m ks c f h w, z, clean-best .best-bits) in
       n .2 same in
-      omega (arith, n .3, clean-best .no-penalty, own-penalty x v, mul-le-mul-left s (far x v other))
+      omega (arith, n .3, clean-best .no-penalty, penalty-far x v, mul-le-mul-left s (far x v other))
 
 -- of RM(r,m)
 module _ (r m : ℕ) (below : r ≤ m) (c : List ℕ) (w : Word m (kinds r m) c) (s : ℕ) (above : 1 ≤ s) where
@@ -142,7 +142,7 @@ module _ (r m : ℕ) (below : r ≤ m) (c : List ℕ) (w : Word m (kinds r m) c)
       omega (arith, nearest, ap (distance c) same, distance-self c, pow-pos (m - r)) in
       let most : gap m ks l ≤ penalty l y = rw (v .gives, clean-best-code .no-penalty, zero-add) at
       (others-more m ks l (sum-kinds-pos r m) (v .bits) (v .long, v .are-bits) other) in
-      le-antisymm (rw (own-penalty m ks e bits c w s above y v, nearest) at most)
+      le-antisymm (rw (penalty-far m ks e bits c w s above y v, nearest) at most)
       (clean-apart m ks e bits c w s above (sum-kinds-pos r m) (2 ^ (m - r)) (λ x u z. distance-least r m c x below w u z))
 
   -- so noise is borne whose sizes together stay below s × 2^(m-r), wherever it falls
