@@ -19,3 +19,4 @@ pub mod HalfLaws
 pub mod PlotkinLaws
 pub mod PolynomialLaws
 pub mod DistanceLaws
+pub mod DualLaws
