@@ -41,28 +41,28 @@ common-append (x ∷ a) b [] d e = absurd (suc-ne-zero (length a) e)
 common-append (x ∷ a) b (y ∷ c) d e = omega (arith, common-append a b c d (suc-inj e))
 
 -- modulo 2, a·c + b·d = (a + b)·c + b·(c + d)
-crossed-one : (p q s t : ℕ) → p < 2 → q < 2 → (p * s + q * t) % 2 ≡ ((p + q) % 2 * s + q * ((s + t) % 2)) % 2
-crossed-one zero zero s t h k = omega arith
-crossed-one zero (suc zero) s t h k = omega arith
-crossed-one (suc zero) zero s t h k = omega arith
-crossed-one (suc zero) (suc zero) s t h k = omega arith
-crossed-one zero (suc (suc q)) s t h k = absurd (omega arith)
-crossed-one (suc zero) (suc (suc q)) s t h k = absurd (omega arith)
-crossed-one (suc (suc p)) q s t h k = absurd (omega arith)
+common-crossed-one : (p q s t : ℕ) → p < 2 → q < 2 → (p * s + q * t) % 2 ≡ ((p + q) % 2 * s + q * ((s + t) % 2)) % 2
+common-crossed-one zero zero s t h k = omega arith
+common-crossed-one zero (suc zero) s t h k = omega arith
+common-crossed-one (suc zero) zero s t h k = omega arith
+common-crossed-one (suc zero) (suc zero) s t h k = omega arith
+common-crossed-one zero (suc (suc q)) s t h k = absurd (omega arith)
+common-crossed-one (suc zero) (suc (suc q)) s t h k = absurd (omega arith)
+common-crossed-one (suc (suc p)) q s t h k = absurd (omega arith)
 
-crossed : (a b c d : List ℕ) → length a ≡ length b → length a ≡ length c → length a ≡ length d → Bits a → Bits b
+common-crossed : (a b c d : List ℕ) → length a ≡ length b → length a ≡ length c → length a ≡ length d → Bits a → Bits b
     → (commonOnes a c + commonOnes b d) % 2 ≡ (commonOnes (xors a b) c + commonOnes b (xors c d)) % 2
 unfolding commonOnes
-crossed [] [] c d e f g h k = refl
-crossed [] (q ∷ b) c d e f g h k = absurd (suc-ne-zero (length b) (sym e))
-crossed (p ∷ a) [] c d e f g h k = absurd (suc-ne-zero (length a) e)
-crossed (p ∷ a) (q ∷ b) [] d e f g h k = absurd (suc-ne-zero (length a) f)
-crossed (p ∷ a) (q ∷ b) (s ∷ c) [] e f g h k = absurd (suc-ne-zero (length a) g)
-crossed (p ∷ a) (q ∷ b) (s ∷ c) (t ∷ d) e f g h k =
+common-crossed [] [] c d e f g h k = refl
+common-crossed [] (q ∷ b) c d e f g h k = absurd (suc-ne-zero (length b) (sym e))
+common-crossed (p ∷ a) [] c d e f g h k = absurd (suc-ne-zero (length a) e)
+common-crossed (p ∷ a) (q ∷ b) [] d e f g h k = absurd (suc-ne-zero (length a) f)
+common-crossed (p ∷ a) (q ∷ b) (s ∷ c) [] e f g h k = absurd (suc-ne-zero (length a) g)
+common-crossed (p ∷ a) (q ∷ b) (s ∷ c) (t ∷ d) e f g h k =
     omega (
       arith,
-      crossed-one p q s t (h 0) (k 0),
-      crossed a b c d (suc-inj e) (suc-inj f) (suc-inj g) (λ i. h (suc i)) (λ i. k (suc i)),
+      common-crossed-one p q s t (h 0) (k 0),
+      common-crossed a b c d (suc-inj e) (suc-inj f) (suc-inj g) (λ i. h (suc i)) (λ i. k (suc i)),
     )
 
 -- the zero row has none with any row
@@ -97,7 +97,7 @@ below-dual (suc m) (suc d) (suc e) x y h v w =
     omega (
       arith,
       cut,
-      crossed x1 x2 y1 y2 (lx1 ∙ sym lx2) (lx1 ∙ sym ly1) (lx1 ∙ sym ly2) (bits-take n x (v .are-bits)) (bits-drop n x (v .are-bits)),
+      common-crossed x1 x2 y1 y2 (lx1 ∙ sym lx2) (lx1 ∙ sym ly1) (lx1 ∙ sym ly2) (bits-take n x (v .are-bits)) (bits-drop n x (v .are-bits)),
       below-dual m (suc d - 1) (suc e) (xors x1 x2) y1 (omega arith) sx w1,
       below-dual m (suc d) (suc e - 1) x2 (xors y1 y2) (omega arith) (below-second (suc d) m x v) sy,
     )
