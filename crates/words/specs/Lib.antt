@@ -18,5 +18,6 @@ pub mod ParityLaws
 pub mod HalfLaws
 pub mod PlotkinLaws
 pub mod PolynomialLaws
+pub mod BasisLaws
 pub mod DistanceLaws
 pub mod DualLaws
