@@ -32,6 +32,7 @@ pub mod AllOnes
 pub mod PolarityLaws
 -- What the gap is good for, and readings without noise
 pub mod GapLaws
+pub mod GapReachedLaws
 pub mod CleanLaws
 -- The demands, that they are met, and examples
 pub mod Demands

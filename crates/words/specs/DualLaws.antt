@@ -1,5 +1,5 @@
 -- Duality: words of RM(r,m) and of RM(m-r-1,m) have an even number of common ones, and the dimensions of the two add up to 2^m.
--- So the words of the one are the parity checks of the other.
+-- So, by counting, the words of the one are all the parity checks of the other.
 use mathlib.Core.Path.{_≡_, refl, ap, ap₂, sym, subst, _∙_}
 use mathlib.Core.List.{List, [], _∷_, _++_}
 use Prim.Native.Nat.{ℕ, zero, suc, _+_, _-_, _*_, _^_, _%_, _≤_, _<_}
