@@ -64,9 +64,9 @@ penalty-clean s (a ∷ c) (b ∷ x) h k =
 
 -- ---- the best word
 pub record CleanBest (m : ℕ) (ks c bits : List ℕ) (l : List ℤ) : Type 0 where
-  pub best-word : bestWord m ks l ≡ c
-  pub best-bits : bestBits m ks l ≡ bits
-  pub no-penalty : leastPenalty m ks l ≡ 0
+  pub clean-word : bestWord m ks l ≡ c
+  pub clean-bits : bestBits m ks l ≡ bits
+  pub clean-penalty : leastPenalty m ks l ≡ 0
 
 module _ (m : ℕ) (ks : List ℕ) (f : length ks ≡ 2 ^ m) (h : Bits ks) (c : List ℕ) (w : Word m ks c) (s : ℕ) (above : 1 ≤ s) where
   penalty-far : (x : List ℕ) → Word m ks x → penalty (clean s c) x ≡ s * distance c x
@@ -92,7 +92,7 @@ module _ (m : ℕ) (ks : List ℕ) (f : length ks ≡ 2 ^ m) (h : Bits ks) (c : 
       let best : bestWord m ks l ≡ c = only-clean (bestWord m ks l) v (best-attains m ks l ∙ none) in
       let bits : bestBits m ks l ≡ w .bits =
       cc (taken-encoded m ks (bestBits m ks l) f h (b .0) (b .1), word-taken m ks c f h w, best) in
-      record { best-word = best; best-bits = bits; no-penalty = none }
+      record { clean-word = best; clean-bits = bits; clean-penalty = none }
 
   long-clean : length (clean s c) ≡ 2 ^ m
   long-clean = length-map c (λ b. turn b (pos s)) ∙ word-length m ks c f w
@@ -106,9 +106,9 @@ module _ (m : ℕ) (ks : List ℕ) (f : length ks ≡ 2 ^ m) (h : Bits ks) (c : 
       let v : Word m ks x = record { bits = n .0; long = n .1 .0; are-bits = n .1 .1; gives = refl } in
       let other : c ≡ x → ⊥ = λ z.
       let same : n .0 ≡ bestBits m ks l =
-      cc (taken-encoded m ks (n .0) f h (n .1 .0) (n .1 .1), word-taken m ks c f h w, z, clean-best .best-bits) in
+      cc (taken-encoded m ks (n .0) f h (n .1 .0) (n .1 .1), word-taken m ks c f h w, z, clean-best .clean-bits) in
       n .2 same in
-      omega (arith, n .3, clean-best .no-penalty, penalty-far x v, mul-le-mul-left s (far x v other))
+      omega (arith, n .3, clean-best .clean-penalty, penalty-far x v, mul-le-mul-left s (far x v other))
 
 -- of RM(r,m)
 module _ (r m : ℕ) (below : r ≤ m) (c : List ℕ) (w : Word m (kinds r m) c) (s : ℕ) (above : 1 ≤ s) where
@@ -138,9 +138,9 @@ module _ (r m : ℕ) (below : r ≤ m) (c : List ℕ) (w : Word m (kinds r m) c)
       let y = xors c (lightest r m) in
       let v = word-xors m ks c (lightest r m) e w (lightest-word r m below) in
       let other : v .bits ≡ bestBits m ks l → ⊥ = λ z.
-      let same : y ≡ c = sym (v .gives) ∙ ap (encoded m ks) z ∙ clean-best-code .best-word in
+      let same : y ≡ c = sym (v .gives) ∙ ap (encoded m ks) z ∙ clean-best-code .clean-word in
       omega (arith, nearest, ap (distance c) same, distance-self c, pow-pos (m - r)) in
-      let most : gap m ks l ≤ penalty l y = rw (v .gives, clean-best-code .no-penalty, zero-add) at
+      let most : gap m ks l ≤ penalty l y = rw (v .gives, clean-best-code .clean-penalty, zero-add) at
       (others-more m ks l (sum-kinds-pos r m) (v .bits) (v .long, v .are-bits) other) in
       le-antisymm (rw (penalty-far m ks e bits c w s above y v, nearest) at most)
       (clean-apart m ks e bits c w s above (sum-kinds-pos r m) (2 ^ (m - r)) (λ x u z. distance-least r m c x below w u z))
@@ -149,4 +149,4 @@ module _ (r m : ℕ) (below : r ≤ m) (c : List ℕ) (w : Word m (kinds r m) c)
   pub noise-borne : (l : List ℤ) → length l ≡ 2 ^ m → drift (clean s c) l < s * 2 ^ (m - r) → (bestWord m (kinds r m) l ≡ c) × (0 < gap m (kinds r m) l)
   noise-borne l e small =
       let kept = undrifted-code r m (clean s c) l (long-clean m (kinds r m) (length-kinds r m) (bits-kinds r m) c w s above) e (rw clean-gap small) in
-      (kept .same-word ∙ clean-best-code .best-word, kept .gap-left)
+      (kept .same-word ∙ clean-best-code .clean-word, kept .gap-left)
