@@ -29,6 +29,11 @@ pub mod TurnLaws
 pub mod TurnedWalk
 pub mod TurnedBest
 pub mod AllOnes
+pub mod PolarityLaws
+-- What the gap is good for, and readings without noise
+pub mod GapLaws
+pub mod GapReachedLaws
+pub mod CleanLaws
 -- The demands, that they are met, and examples
 pub mod Demands
 pub mod DemandsMet

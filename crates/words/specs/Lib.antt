@@ -14,6 +14,10 @@ pub mod InverseLaws
 -- Laws: the published forms are one, and the least distance of RM(r,m)
 pub mod TableLaws
 pub mod PublishedLaws
+pub mod ParityLaws
 pub mod HalfLaws
+pub mod PlotkinLaws
 pub mod PolynomialLaws
+pub mod BasisLaws
 pub mod DistanceLaws
+pub mod DualLaws
