@@ -1,9 +1,8 @@
 /* Times the library's transform of 256 bits, which no export hands out, beside the recursion by halves in plain C (plain.h), in one run:
  * the least of several alternating rounds. Both must give the same bits. bench/run makes `half_transform` of the library's module. */
-#define _POSIX_C_SOURCE 199309L
+#include "draw.h"
 #include "plain.h"
 #include <stdio.h>
-#include <time.h>
 
 #define ROUNDS 25
 #define REPEATS 20000
@@ -16,12 +15,6 @@ typedef struct {
 void half_transform(part *word, size_t m);
 
 static uint8_t library_bits[256], plain_bits[256];
-
-static double now(void) {
-    struct timespec t;
-    clock_gettime(CLOCK_PROCESS_CPUTIME_ID, &t);
-    return (double)t.tv_sec * 1e9 + (double)t.tv_nsec;
-}
 
 static double library_round(void) {
     part word = {library_bits, sizeof library_bits};

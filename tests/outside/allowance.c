@@ -12,15 +12,6 @@
 static guarded gb, gw;
 static ref_walk_t walk;
 
-static inline answer early(uint32_t r, uint32_t m, const int16_t *l, size_t n_, uint8_t *bits, size_t k, uint8_t *word, size_t w) {
-    CALL(cinorbis_early, r, m, l, n_, bits, k, word, w);
-}
-
-static inline answer early_within(uint32_t r, uint32_t m, uint32_t allowed, const int16_t *l, size_t n_, uint8_t *bits, size_t k, uint8_t *word,
-                                  size_t w) {
-    CALL(cinorbis_early_within, r, m, allowed, l, n_, bits, k, word, w);
-}
-
 static void arm_both(void) {
     arm(&gb);
     arm(&gw);

@@ -36,6 +36,15 @@ static inline answer quick(uint32_t r, uint32_t m, const int16_t *l, size_t n_, 
     CALL(cinorbis_quick, r, m, l, n_, bits, k, word, w);
 }
 
+static inline answer early(uint32_t r, uint32_t m, const int16_t *l, size_t n_, uint8_t *bits, size_t k, uint8_t *word, size_t w) {
+    CALL(cinorbis_early, r, m, l, n_, bits, k, word, w);
+}
+
+static inline answer early_within(uint32_t r, uint32_t m, uint32_t allowed, const int16_t *l, size_t n_, uint8_t *bits, size_t k, uint8_t *word,
+                                  size_t w) {
+    CALL(cinorbis_early_within, r, m, allowed, l, n_, bits, k, word, w);
+}
+
 /* the searches with their runner-up, and without: then it goes into bytes that nobody looks at */
 static inline answer search_second(uint32_t r, uint32_t m, const int16_t *l, size_t n_, uint8_t *bits, size_t k, uint8_t *word, size_t w,
                                    uint8_t *second) {

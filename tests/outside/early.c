@@ -6,15 +6,6 @@
 
 static guarded gb, gw;
 
-static inline answer early(uint32_t r, uint32_t m, const int16_t *l, size_t n_, uint8_t *bits, size_t k, uint8_t *word, size_t w) {
-    CALL(cinorbis_early, r, m, l, n_, bits, k, word, w);
-}
-
-static inline answer early_within(uint32_t r, uint32_t m, uint32_t allowed, const int16_t *l, size_t n_, uint8_t *bits, size_t k, uint8_t *word,
-                                  size_t w) {
-    CALL(cinorbis_early_within, r, m, allowed, l, n_, bits, k, word, w);
-}
-
 /* whether the sum along the word is below M times the distance, and not with M = 0 */
 static int surely_right(int r, int m, const int16_t *l, const uint8_t *x) {
     long most = 0, sum = 0;

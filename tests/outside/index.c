@@ -78,6 +78,16 @@ static void keep(void) {
 
 static int kept(void) { return memcmp(capture_before, capture, sizeof capture) == 0 && memcmp(table_before, table, sizeof table) == 0; }
 
+/* a record of k bytes and its entry were added to what was kept, and nothing else; both are taken off again */
+static void only_appended(cinorbis_index before, size_t k) {
+    memcpy(capture + EDGE + before.used, capture_before + EDGE + before.used, k);
+    if (before.records % 16 == 0) {
+        CHECK(table[EDGE + before.records / 16] == before.used, "another entry");
+        table[EDGE + before.records / 16] = table_before[EDGE + before.records / 16];
+    }
+    CHECK(kept(), "a byte or an entry beside it");
+}
+
 static void scramble(void) {
     for (size_t i = 0; i < sizeof capture; i++) capture[i] = (uint8_t)random64();
     for (size_t i = 0; i < sizeof table / sizeof table[0]; i++) table[i] = (size_t)random64();
@@ -219,12 +229,7 @@ static void appends(void) {
             cinorbis_written plain;
             uint8_t record[400];
             CHECK(cinorbis_write_record(r, m, 0, l, n, record, k, &plain) == 0 && memcmp(record, capture + EDGE + before.used, k) == 0, "other bytes");
-            memcpy(capture + EDGE + before.used, capture_before + EDGE + before.used, k);
-            if (before.records % 16 == 0) {
-                CHECK(table[EDGE + before.records / 16] == before.used, "another entry");
-                table[EDGE + before.records / 16] = table_before[EDGE + before.records / 16];
-            }
-            CHECK(kept(), "a byte or an entry beside it");
+            only_appended(before, k);
             memcpy(capture + EDGE + before.used, record, k);
             if (before.records % 16 == 0) table[EDGE + before.records / 16] = before.used;
             keep();
@@ -266,12 +271,7 @@ static void append_refused(void) {
             CHECK(w.next == 0 && w.place == (e == 4 ? at : 0), "numbers under %u", e);
         } else {
             CHECK(index.records == before.records + 1 && index.used == before.used + k && w.next == index.used, "another index");
-            memcpy(capture + EDGE + before.used, capture_before + EDGE + before.used, k);
-            if (before.records % 16 == 0) {
-                CHECK(table[EDGE + before.records / 16] == before.used, "another entry");
-                table[EDGE + before.records / 16] = table_before[EDGE + before.records / 16];
-            }
-            CHECK(kept(), "a byte or an entry beside it");
+            only_appended(before, k);
         }
     }
     end();

@@ -13,24 +13,21 @@ typedef struct {
 } heard;
 
 /* the struct holds arbitrary bytes before each call, so that a field that is not written shows */
+#define HEAR(name, ...)                               \
+    heard h;                                          \
+    cinorbis_numbers n;                               \
+    memset(&h.t, 0x5A, sizeof h.t);                   \
+    memset(&n, 0xA5, sizeof n);                       \
+    uint32_t refusal = name(__VA_ARGS__, &h.t, &n);   \
+    h.a = joined(refusal, n);                         \
+    return h
+
 static heard read_within(uint32_t allowed, const int16_t *l, size_t n_) {
-    heard h;
-    cinorbis_numbers n;
-    memset(&h.t, 0x5A, sizeof h.t);
-    memset(&n, 0xA5, sizeof n);
-    uint32_t refusal = cinorbis_telegram_read_within(allowed, l, n_, &h.t, &n);
-    h.a = joined(refusal, n);
-    return h;
+    HEAR(cinorbis_telegram_read_within, allowed, l, n_);
 }
 
 static heard read_default(const int16_t *l, size_t n_) {
-    heard h;
-    cinorbis_numbers n;
-    memset(&h.t, 0x5A, sizeof h.t);
-    memset(&n, 0xA5, sizeof n);
-    uint32_t refusal = cinorbis_telegram_read(l, n_, &h.t, &n);
-    h.a = joined(refusal, n);
-    return h;
+    HEAR(cinorbis_telegram_read, l, n_);
 }
 
 static answer write_telegram(uint32_t cylinder, uint32_t direction, uint32_t tilt, uint8_t *word, size_t w) {
