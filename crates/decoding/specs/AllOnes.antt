@@ -13,8 +13,7 @@ use Rattle.words.specs.Bits.{Bits}
 use Rattle.words.specs.Word.{transform}
 use Rattle.words.specs.Kinds.{Word, allOnes}
 use Rattle.words.specs.TransformLaws.{bits-more, length-transform, bits-transform, transform-twice}
-use Rattle.words.specs.BitLaws.{ones-early}
-use Rattle.words.specs.HalfLaws.{below-ones}
+use Rattle.words.specs.AllOnesLaws.{zero-early}
 use Rattle.words.specs.InverseLaws.{word-length, word-bits, word-frozen}
 use Rattle.decoding.specs.Readings.{loss, turn, turns}
 use Rattle.decoding.specs.Quick.{hard}
@@ -101,10 +100,7 @@ module _ (m : ℕ) (l : List ℤ) (v : List ℕ) (e : length l ≡ 2 ^ m) (f : l
       (λ b b′ q t t′ i z w. ap (λ (c : ℕ). bare (walk m l′ (j ∷ ks) (u ++ c ∷ []) q t′)) (z still)
       ∙ walk-early (j ∷ ks) (u ++ b ∷ []) q t t′ (omega (arith, length-more u b)) (bits-more u b h i) (later v u b (suc k) (j ∷ ks) frozen) w)
 
--- ---- the row of the all-ones word is such a row
-zero-early : (m i : ℕ) → suc i < 2 ^ m → getD (transform m (allOnes m)) i 0 ≡ 0
-zero-early m i h = below-ones m .frozen i (omega arith) (omega (arith, ones-early m i h))
-
+-- ---- the row of the all-ones word is such a row (`zero-early`)
 -- and the readings are all negated
 pub turns-ones : (n : ℕ) (l : List ℤ) → length l ≡ n → turns (replicate n 1) l ≡ map negℤ l
 turns-ones zero [] e = refl

@@ -1,22 +1,18 @@
 -- Readings of the wrong sign are found out by a set without the all-ones word, as shortening can leave one: RM(r,m) has it, so its answer cannot tell.
 -- Where the best word of RM(r,m) is in that set, each of its words has, for the negated readings, at least the gap of RM(r,m) more than the best word had.
 use mathlib.Core.Path.{_≡_, refl, ap, sym, subst, _∙_}
-use mathlib.Core.Logic.{⊎-elim}
 use mathlib.Core.List.{List, map}
-use Prim.Native.Nat.{ℕ, suc, _+_, _-_, _^_, _≤_, _<_}
+use Prim.Native.Nat.{ℕ, _+_, _-_, _^_, _≤_}
 use native.Mathlib.Omega.{arith}
-use lib.ListN.{length, getD, replicate, getD-replicate}
-use lib.Pow.{pow-pos}
+use lib.ListN.{length, getD}
 use lib.IntN.{ℤ, negℤ}
-use Rattle.numbers.specs.Choice.{lt-or-le}
 use Rattle.words.specs.Bits.{Bits, xors}
-use Rattle.words.specs.Word.{transform}
 use Rattle.words.specs.Kinds.{kinds, encoded, Frozen, Word, allOnes}
 use Rattle.words.specs.TransformLaws.{length-xors, bits-xors, xors-twice, xors-undo}
-use Rattle.words.specs.BitLaws.{ones-early}
 use Rattle.words.specs.KindLaws.{length-kinds, bits-kinds, sum-kinds-pos}
 use Rattle.words.specs.InverseLaws.{word-length, word-bits, word-frozen, frozen-word, word-xors}
-use Rattle.words.specs.HalfLaws.{Below, below-zero, below-ones, word-ones}
+use Rattle.words.specs.HalfLaws.{below-ones, word-ones}
+use Rattle.words.specs.AllOnesLaws.{not-zero-last}
 use Rattle.decoding.specs.Readings.{penalty, turns}
 use Rattle.decoding.specs.Best.{leastPenalty, gap, bestBits, bestWord}
 use Rattle.decoding.specs.BestLaws.{none-less, best-bits-are, best-attains, others-more}
@@ -37,21 +33,7 @@ penalty-negated m l x e f h =
 
 -- a set whose last index is frozen does not have the all-ones word
 pub last-frozen : (m : ℕ) (ks : List ℕ) → length ks ≡ 2 ^ m → getD ks (2 ^ m - 1) 0 ≡ 0 → Word m ks (allOnes m) → ⊥
-last-frozen m ks f z w =
-    let ones = below-ones m in
-    let last : getD (transform m (allOnes m)) (2 ^ m - 1) 0 ≡ 0 = word-frozen m ks (allOnes m) f w (2 ^ m - 1) z in
-    let none : Below 0 m (allOnes m) =
-    record {
-      long = ones .long;
-      are-bits = ones .are-bits;
-      frozen = λ i h k.
-          ⊎-elim
-          (λ (j : suc i < 2 ^ m). ones .frozen i h (omega (arith, ones-early m i j)))
-          (λ j. let i-is : i ≡ 2 ^ m - 1 = omega arith in ap (λ (n : ℕ). getD (transform m (allOnes m)) n 0) i-is ∙ last)
-          (lt-or-le (suc i) (2 ^ m));
-    } in
-    let same : getD (allOnes m) 0 0 ≡ getD (replicate (2 ^ m) 0) 0 0 = ap (λ (x : List ℕ). getD x 0 0) (below-zero m (allOnes m) none) in
-    omega (arith, same, getD-replicate {A = ℕ} (2 ^ m) 0 1 0 (pow-pos m), getD-replicate {A = ℕ} (2 ^ m) 0 0 0 (pow-pos m))
+last-frozen m ks f z w = not-zero-last m (word-frozen m ks (allOnes m) f w (2 ^ m - 1) z)
 
 -- the information indices of ks are some of those of RM(r,m); the best word of RM(r,m) is a word of ks, and the all-ones word is none
 module _ (r m : ℕ) (ks : List ℕ) (l : List ℤ) (e : length l ≡ 2 ^ m) (f : length ks ≡ 2 ^ m) (inside : Frozen (kinds r m) ks)

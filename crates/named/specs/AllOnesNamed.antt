@@ -1,50 +1,22 @@
 -- The all-ones word is in a shortened set exactly if the row does not name the last index, n - 1. A link that is turned over adds it to what was sent: where
 -- the last index is named, that turns no word of the set into another.
 use mathlib.Core.Path.{_≡_, ap, subst, sym, _∙_}
-use mathlib.Core.Logic.{_↔_, ⊎-elim}
+use mathlib.Core.Logic.{_↔_}
 use mathlib.Core.List.{List}
 use Prim.Native.Nat.{ℕ, _-_, _^_}
-use native.Mathlib.Omega.{arith}
 use native.Mathlib.Decide.{ℕ-discrete}
-use lib.ListN.{length, getD, getD-replicate, List·getD-eq-default}
-use lib.Pow.{pow-pos}
-use Rattle.numbers.specs.Choice.{lt-or-le}
+use lib.ListN.{length, getD}
 use Rattle.words.specs.Bits.{xors}
-use Rattle.words.specs.Word.{transform}
 use Rattle.words.specs.Kinds.{kinds, Word, allOnes}
-use Rattle.words.specs.BitLaws.{ones-early}
 use Rattle.words.specs.KindLaws.{length-kinds, bits-kinds}
-use Rattle.words.specs.TransformLaws.{length-transform, xors-comm, xors-twice}
+use Rattle.words.specs.TransformLaws.{xors-comm, xors-twice}
 use Rattle.words.specs.InverseLaws.{word-length, word-frozen, frozen-word, word-xors}
-use Rattle.words.specs.HalfLaws.{below-zero, below-ones, word-ones}
+use Rattle.words.specs.HalfLaws.{below-ones, word-ones}
+use Rattle.words.specs.AllOnesLaws.{zero-but-last, not-zero-last}
 use Rattle.named.specs.Named.{left}
 use Rattle.named.specs.NamedLaws.{kindLeft-named, left-at, length-left, bits-left, left-other}
 
--- ---- the row that the all-ones word comes from: 1 at the last index alone
-module _ (m : ℕ) where
-  abbrev lastRow : List ℕ
-  lastRow = transform m (allOnes m)
-
-  zero-but-last : (i : ℕ) → (i ≡ 2 ^ m - 1 → ⊥) → getD lastRow i 0 ≡ 0
-  zero-but-last i f =
-      ⊎-elim
-      (λ h. below-ones m .frozen i (omega arith) (omega (arith, ones-early m i (omega (arith, f, pow-pos m)))))
-      (λ h. List·getD-eq-default lastRow 0 {n = i} (rw (length-transform m (allOnes m) (below-ones m .long)) h))
-      (lt-or-le i (2 ^ m))
-
-  not-zero-last : getD lastRow (2 ^ m - 1) 0 ≡ 0 → ⊥
-  not-zero-last e =
-      let all-zero : (i : ℕ) → getD lastRow i 0 ≡ 0 = λ i.
-      elim (ℕ-discrete i (2 ^ m - 1)) [
-        | yes last ↦ ap (λ (j : ℕ). getD lastRow j 0) last ∙ e
-        | no f ↦ zero-but-last i f
-      ] in
-      let b = below-ones m in
-      let zeros = below-zero m (allOnes m) (record { long = b .long; are-bits = b .are-bits; frozen = λ i h k. all-zero i }) in
-      let some = pow-pos m in
-      omega (arith, ap (λ (l : List ℕ). getD l 0 0) zeros, getD-replicate {A = ℕ} (2 ^ m) 0 1 0 some, getD-replicate {A = ℕ} (2 ^ m) 0 0 0 some)
-
--- ---- of any code and any row, good or not: with a good one the byte is 0 or 1
+-- of any code and any row, good or not: with a good one the byte is 0 or 1
 module _ (r m : ℕ) (named : List ℕ) where
   abbrev ks : List ℕ
   ks = left named (kinds r m)

@@ -27,28 +27,28 @@ afterFirst why applies (checkAt first when rest) = checkAt first when (check why
 abbrev pub withRow : ℕ → ℕ → List ℕ → Checks → Checks
 withRow r m named = afterFirst Named (GoodRow named (kinds r m) → ⊥)
 
-abbrev pub encodeChecks : ℕ → ℕ → List ℕ → List ℕ → List ℕ → Checks
-encodeChecks r m named bits word = withRow r m named (bitChecks r m bits (sum (leftOf named (rm r m))) (length word) (2 ^ m) passed)
+abbrev pub encodeShortenedChecks : ℕ → ℕ → List ℕ → List ℕ → List ℕ → Checks
+encodeShortenedChecks r m named bits word = withRow r m named (bitChecks r m bits (sum (leftOf named (rm r m))) (length word) (2 ^ m) passed)
 
-abbrev pub inverseChecks : ℕ → ℕ → List ℕ → List ℕ → List ℕ → Checks
-inverseChecks r m named word bits =
+abbrev pub inverseShortenedChecks : ℕ → ℕ → List ℕ → List ℕ → List ℕ → Checks
+inverseShortenedChecks r m named word bits =
     let ks = leftOf named (rm r m) in
     withRow r m named (bitChecks r m word (2 ^ m) (length bits) (sum ks) (encoder.frozenCheck m ks word))
 
-abbrev pub quickChecks : ℕ → ℕ → List ℕ → List ℤ → List ℕ → List ℕ → Checks
-quickChecks r m named l bits word = withRow r m named (readingChecksFor (sum (leftOf named (rm r m))) r m l (length bits) (length word) passed)
+abbrev pub quickShortenedChecks : ℕ → ℕ → List ℕ → List ℤ → List ℕ → List ℕ → Checks
+quickShortenedChecks r m named l bits word = withRow r m named (readingChecksFor (sum (leftOf named (rm r m))) r m l (length bits) (length word) passed)
 
 abbrev pub EncodeShortenedDemand1 : ℕ → ℕ → List ℕ → List ℕ → List ℕ → Type 0
 EncodeShortenedDemand1 r m named bits word =
-    Demand1 (encodeChecks r m named bits word) (word ∷ []) (encoder.view (encodingShortened r m named bits word))
+    Demand1 (encodeShortenedChecks r m named bits word) (word ∷ []) (encoder.view (encodingShortened r m named bits word))
 
 abbrev pub InverseShortenedDemand1 : ℕ → ℕ → List ℕ → List ℕ → List ℕ → Type 0
 InverseShortenedDemand1 r m named word bits =
-    Demand1 (inverseChecks r m named word bits) (bits ∷ []) (encoder.view (invertingShortened r m named word bits))
+    Demand1 (inverseShortenedChecks r m named word bits) (bits ∷ []) (encoder.view (invertingShortened r m named word bits))
 
 abbrev pub QuickShortenedDemand1 : ℕ → ℕ → List ℕ → List ℤ → List ℕ → List ℕ → Type 0
 QuickShortenedDemand1 r m named l bits word =
-    Demand1 (quickChecks r m named l bits word) (bits ∷ word ∷ []) (quick.view (quickShortened r m named l bits word))
+    Demand1 (quickShortenedChecks r m named l bits word) (bits ∷ word ∷ []) (quick.view (quickShortened r m named l bits word))
 
 -- ---- what a quick reading that is done says: the row is a good one, the tests 2 to 4 find nothing, and what is left in the buffers is a word of the smaller
 -- set with its bits, which has the penalty that is told

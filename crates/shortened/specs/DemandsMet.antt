@@ -37,7 +37,7 @@ use Rattle.shortened.specs.Outcome.{leftOf, readingOver, quickOver, enco
 use Rattle.shortened.specs.WorkLaws.{long-left, are-left}
 use Rattle.shortened.specs.OutcomeLaws.{encoding-refused, inverting-refused, quick-refused, over-refused}
 use Rattle.shortened.specs.OutcomeLaws.{encoding-left, inverting-left, quick-left, over-done}
-use Rattle.shortened.specs.Demands.{encodeChecks, inverseChecks, quickChecks, ShortenedQuickDone}
+use Rattle.shortened.specs.Demands.{encodeShortenedChecks, inverseShortenedChecks, quickShortenedChecks, ShortenedQuickDone}
 use Rattle.shortened.specs.Demands.{EncodeShortenedDemand1, InverseShortenedDemand1, QuickShortenedDemand1}
 
 -- ---- the tests 1 and 12, before any others
@@ -79,22 +79,22 @@ module _ (r m : ℕ) (named : List ℕ) where
   abbrev ks : List ℕ
   ks = leftOf named (rm r m)
 
-  pub encode-demand-1 : (bits word : List ℕ) → EncodeShortenedDemand1 r m named bits word
-  encode-demand-1 bits word =
+  pub encode-shortened-demand-1 : (bits word : List ℕ) → EncodeShortenedDemand1 r m named bits word
+  encode-shortened-demand-1 bits word =
       let before = word ∷ [] in
       let o = encoders.view (encodingShortened r m named bits word) in
-      demand-1 before o (encodeChecks r m named bits word)
+      demand-1 before o (encodeShortenedChecks r m named bits word)
       (decides-row r m named before o (afterOne (bitChecks r m bits (sum ks) (length word) (2 ^ m) passed))
       (λ e. ap encoders.view (sym (encoding-refused r m named Parameters e bits word)))
       (λ e. ap encoders.view (sym (encoding-refused r m named Named e bits word)))
       (λ s e. rw (← encoding-left r m named (rm r m) e bits word)
       (decides-tested r m bits (sum ks) word (2 ^ m) (encoder.done (encoded m ks bits)) passed (λ long are. (refl, refl)))))
 
-  pub inverse-demand-1 : (word bits : List ℕ) → InverseShortenedDemand1 r m named word bits
-  inverse-demand-1 word bits =
+  pub inverse-shortened-demand-1 : (word bits : List ℕ) → InverseShortenedDemand1 r m named word bits
+  inverse-shortened-demand-1 word bits =
       let before = bits ∷ [] in
       let o = encoders.view (invertingShortened r m named word bits) in
-      demand-1 before o (inverseChecks r m named word bits)
+      demand-1 before o (inverseShortenedChecks r m named word bits)
       (decides-row r m named before o (afterOne (bitChecks r m word (2 ^ m) (length bits) (sum ks) (encoders.frozenCheck m ks word)))
       (λ e. ap encoders.view (sym (inverting-refused r m named Parameters e word bits)))
       (λ e. ap encoders.view (sym (inverting-refused r m named Named e word bits)))
@@ -117,11 +117,11 @@ module _ (r m : ℕ) (named : List ℕ) where
         let same = tested-made (λ c. sum ks) r m l (length bits) (length word) (rm r m) (made-good r m (a .sound .m-small) (a .sound .r-small)) in
         over-done ks (rm r m) l bits word (rm r m) (sound-allowed-for (λ c. sum ks) r m l (length bits) (length word) a ∙ sym same)
 
-    pub quick-demand-1 : QuickShortenedDemand1 r m named l bits word
-    quick-demand-1 =
+    pub quick-shortened-demand-1 : QuickShortenedDemand1 r m named l bits word
+    quick-shortened-demand-1 =
         let before = bits ∷ word ∷ [] in
         let o = readers.view (quickShortened r m named l bits word) in
-        demand-1 before o (quickChecks r m named l bits word)
+        demand-1 before o (quickShortenedChecks r m named l bits word)
         (decides-row r m named before o (afterOne (readingChecksFor (sum ks) r m l (length bits) (length word) passed))
         (λ e. ap readers.view (sym (quick-refused r m named Parameters e l bits word)))
         (λ e. ap readers.view (sym (quick-refused r m named Named e l bits word)))

@@ -13,14 +13,14 @@ use Rattle.shortened.specs.Outcome.{leftOf}
 use Rattle.shortened.specs.Demands.{withRow}
 use Rattle.shortened_search.specs.Outcome.{searchingShortened}
 
-abbrev pub searchChecks : ℕ → ℕ → ℕ → List ℕ → List ℤ → List ℕ → List ℕ → Checks
-searchChecks r m allowed named l bits word =
+abbrev pub searchShortenedChecks : ℕ → ℕ → ℕ → List ℕ → List ℤ → List ℕ → List ℕ → Checks
+searchShortenedChecks r m allowed named l bits word =
     let ks = leftOf named (rm r m) in
     withRow r m named (readingChecksFor (sum ks) r m l (length bits) (length word) (walkChecksOver m ks allowed l))
 
 abbrev pub ShortenedDemand1 : ℕ → ℕ → ℕ → List ℕ → List ℤ → List ℕ → List ℕ → Type 0
 ShortenedDemand1 r m allowed named l bits word =
-    Demand1 (searchChecks r m allowed named l bits word) (bits ∷ word ∷ []) (view (searchingShortened r m allowed named l bits word .outcome))
+    Demand1 (searchShortenedChecks r m allowed named l bits word) (bits ∷ word ∷ []) (view (searchingShortened r m allowed named l bits word .outcome))
 
 -- A larger allowance changes nothing that was answered or refused, but for 6, as with the plain search: numbers, buffers and runner-up stay
 abbrev pub ShortenedLargerAllowance : ℕ → ℕ → List ℕ → List ℤ → List ℕ → List ℕ → Type 0

@@ -37,7 +37,7 @@ use Rattle.shortened.specs.OutcomeLaws.{good-allowed}
 use Rattle.shortened.specs.DemandsMet.{decides-row, afterOne}
 use Rattle.shortened_search.specs.Outcome.{refusedWhole, searchingOver, searchingShortened}
 use Rattle.shortened_search.specs.OutcomeLaws.{searching-refused, searching-left, over-refused, over-answered}
-use Rattle.shortened_search.specs.Demands.{searchChecks, ShortenedDemand1, ShortenedLargerAllowance, smallerSet, ShortenedDemands, RunnerUpLeft}
+use Rattle.shortened_search.specs.Demands.{searchShortenedChecks, ShortenedDemand1, ShortenedLargerAllowance, smallerSet, ShortenedDemands, RunnerUpLeft}
 
 module _ (r m allowed : ℕ) (named : List ℕ) (l : List ℤ) (bits word : List ℕ) where
   abbrev ks : List ℕ
@@ -56,12 +56,12 @@ module _ (r m allowed : ℕ) (named : List ℕ) (l : List ℤ) (bits word : List
       (sound-allowed-for (λ c. sum ks) r m l (length bits) (length word) a ∙ sym (same-tests (a .sound)))
 
   -- ---- Demand 1
-  pub search-demand-1 : ShortenedDemand1 r m allowed named l bits word
-  search-demand-1 =
+  pub search-shortened-demand-1 : ShortenedDemand1 r m allowed named l bits word
+  search-shortened-demand-1 =
       let before = bits ∷ word ∷ [] in
       let o = view (searchingShortened r m allowed named l bits word .outcome) in
       let shown : WholeOutcome → View = λ w. view (w .outcome) in
-      demand-1 before o (searchChecks r m allowed named l bits word)
+      demand-1 before o (searchShortenedChecks r m allowed named l bits word)
       (decides-row r m named before o (afterOne (readingChecksFor (sum ks) r m l (length bits) (length word) (walkChecksOver m ks allowed l)))
       (λ e. ap shown (sym (searching-refused r m allowed named l bits word Parameters e)))
       (λ e. ap shown (sym (searching-refused r m allowed named l bits word Named e)))

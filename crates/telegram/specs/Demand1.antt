@@ -37,8 +37,8 @@ pub record WriterMeets (t : Telegram) (word : List ℕ) (o : WriteOutcome) : Typ
   pub refused : 0 < o .carry .number → o ≡ record { carry = carrying (o .carry .number) 0 0 0; word = word }
   pub no-place : o .carry .number ≡ 0 → o .carry .place ≡ 0
 
-abbrev pub WriteDemand1 : Telegram → List ℕ → Type 0
-WriteDemand1 t word = WriterMeets t word (writingTelegram (t .cylinder) (t .direction) (t .tilt) word)
+abbrev pub TelegramWriteDemand1 : Telegram → List ℕ → Type 0
+TelegramWriteDemand1 t word = WriterMeets t word (writingTelegram (t .cylinder) (t .direction) (t .tilt) word)
 
 -- ---- the reader, which tells o; the checks are those of its search, and b the bits that this finds
 pub record ReaderMeets (checks : Checks) (b : List ℕ) (o : ReadOutcome) : Type 0 where
@@ -59,5 +59,5 @@ pub record ReaderMeets (checks : Checks) (b : List ℕ) (o : ReadOutcome) : Type
 abbrev pub linkChecks : ℕ → List ℤ → Checks
 linkChecks allowed l = searchChecks 2 5 allowed l (replicate 16 0) (replicate 32 0)
 
-abbrev pub ReadDemand1 : ℕ → List ℤ → Type 0
-ReadDemand1 allowed l = ReaderMeets (linkChecks allowed l) (linkSearch allowed l .bits) (readingTelegram allowed l)
+abbrev pub TelegramReadDemand1 : ℕ → List ℤ → Type 0
+TelegramReadDemand1 allowed l = ReaderMeets (linkChecks allowed l) (linkSearch allowed l .bits) (readingTelegram allowed l)

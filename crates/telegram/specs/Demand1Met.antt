@@ -25,7 +25,7 @@ use Rattle.telegram.specs.FaultLaws.{number-below, tilt-high, tilt-level
 use Rattle.telegram.specs.Outcome.{WriteOutcome, done, refused, writtenIf, writingTelegram}
 use Rattle.telegram.specs.Outcome.{ReadOutcome, noTelegram, showing, faulted, shownIf, linkSearch, readingTelegram}
 use Rattle.telegram.specs.OutcomeLaws.{writing-short, writing-tested, reading-found, reading-other, found-all, found-bits}
-use Rattle.telegram.specs.Demand1.{TooTilted, LevelToPort, BeyondField, WriteDemand1, linkChecks, ReadDemand1}
+use Rattle.telegram.specs.Demand1.{TooTilted, LevelToPort, BeyondField, TelegramWriteDemand1, linkChecks, TelegramReadDemand1}
 
 -- ---- the tilt
 data TiltCase (t : Telegram) : Type 0 where
@@ -149,8 +149,8 @@ module _ (t : Telegram) (word : List ℕ) where
   number-is : (c : WriterCase t word) → written .carry .number ≡ writtenBy c .carry .number
   number-is c = ap (λ (o : WriteOutcome). o .carry .number) (written-is c)
 
-  pub write-demand-1 : WriteDemand1 t word
-  write-demand-1 =
+  pub telegram-write-demand-1 : TelegramWriteDemand1 t word
+  telegram-write-demand-1 =
       let c = writer-case in
       let is = written-is c in
       let same = sym (number-is c) in
@@ -313,8 +313,8 @@ module _ (allowed : ℕ) (l : List ℤ) where
   link-given : (n : ℕ) → First (λ why. numberOf why ≡ n) checks → readingTelegram allowed l .carry .number ≡ n
   link-given n f = let first = first-why (λ why. numberOf why ≡ n) checks f in number-read (linked (first .0) (first .2)) ∙ first .1
 
-  pub read-demand-1 : ReadDemand1 allowed l
-  read-demand-1 =
+  pub telegram-read-demand-1 : TelegramReadDemand1 allowed l
+  telegram-read-demand-1 =
       let c = reader-case in
       let is = read-is c in
       let same = sym (number-read c) in

@@ -37,7 +37,7 @@ use Rattle.telegram.specs.Outcome.{WriteOutcome, writtenIf, ReadOutcome,
 use Rattle.telegram.specs.OutcomeLaws.{dimension-25, sum-25, writing-tested, reading-found, reading-other, reading-refused}
 use Rattle.telegram.specs.OutcomeLaws.{Passed, tests, passed, stopped, FoundBest, found-all, found-again, out-of-visits, found-long, found-bits}
 use Rattle.telegram.specs.Demand1.{linkChecks}
-use Rattle.telegram.specs.Demand1Met.{read-demand-1, unmarked}
+use Rattle.telegram.specs.Demand1Met.{telegram-read-demand-1, unmarked}
 use Rattle.telegram.specs.Theorems.{Finds, turned, WriteTheorems, TelegramLargerAllowance, ReadTheorems, TurnedTheorems, NeverShown, TurnedOver}
 use Rattle.telegram.specs.Theorems.{telegrams, ordinal, Counted, Theorems}
 
@@ -286,7 +286,7 @@ module _ (l : List ℤ) (allowed : ℕ) where
   passes-marker : let n = readingTelegram allowed l .carry .number in
       (n ≡ 0) ⊎ (n ≡ 14) ⊎ (n ≡ 15) → NoneApplies (linkChecks allowed l) × (markerOf upright ≡ 0)
   passes-marker =
-      let d = read-demand-1 allowed l in
+      let d = telegram-read-demand-1 allowed l in
       ⊎-elim (λ e. let x = d .shown .0 e in (x .0, x .1))
       (⊎-elim (λ e. let x = d .fourteen .0 e in (x .0, x .1)) (λ e. let x = d .fifteen .0 e in (x .0, x .1)))
 
@@ -295,7 +295,7 @@ module _ (l : List ℤ) (allowed : ℕ) where
   marked-exactly =
       let none = search-demand-1 2 5 allowed l (replicate 16 0) (replicate 32 0) .done in
       let none′ = search-demand-1 2 5 allowed (turned l) (replicate 16 0) (replicate 32 0) .done in
-      let d = read-demand-1 allowed (turned l) .thirteen in (
+      let d = telegram-read-demand-1 allowed (turned l) .thirteen in (
         λ e.
             let x = d .0 e in
             let n = found-back (none′ .1 (x .0)) in

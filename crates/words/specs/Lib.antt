@@ -16,6 +16,7 @@ pub mod TableLaws
 pub mod PublishedLaws
 pub mod ParityLaws
 pub mod HalfLaws
+pub mod AllOnesLaws
 pub mod PlotkinLaws
 pub mod PolynomialLaws
 pub mod BasisLaws
