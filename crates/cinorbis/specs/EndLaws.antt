@@ -16,7 +16,7 @@ use Rattle.program.specs.Program.{Result, answered, refused, resultOf, stops, n
 use Rattle.program.specs.OutputLaws.{goes-on-there}
 use Rattle.turns.specs.Situation.{room, longest, starting, Ready, unread, isThere, after, afterRead, afterWrite}
 use Rattle.turns.specs.SituationLaws.{next-shown, there-first, absent-short}
-use Rattle.cinorbis.specs.Runs.{Turned, writes, takes, totals, reads, Passed, nothing, withRead, passing, Chain, start, turn, Ran}
+use Rattle.cinorbis.specs.Runs.{TurnTaken, writes, takes, totals, reads, Passed, nothing, withRead, passing, Chain, start, turn, Ran}
 use Rattle.cinorbis.specs.RunsLaws.{Stands, chain-holds}
 
 -- as many turns may still come if no other byte does
@@ -80,7 +80,7 @@ module _ (n most : ℕ) (s : Situation) (input output : List ℕ) (r : Ready s i
       (rw b at before) one (at-most-one (s .going)))
 
   due-turned : (p : Passed) → most ≡ 3 * length (p .came) + 4 → (t : Situation) (input′ output′ : List ℕ) → length input′ ≡ length input
-      → (w : Turned s input output t input′ output′) → suc n + due t ≤ 3 * length (passing s input output t input′ output′ w p .came) + 4
+      → (w : TurnTaken s input output t input′ output′) → suc n + due t ≤ 3 * length (passing s input output t input′ output′ w p .came) + 4
   due-turned p b t input′ output′ same (writes next k i o) =
       subst (λ (x : Situation). suc n + due x ≤ 3 * length (p .came) + 4) (sym (k .is))
       (rw (← b) (due-written (k .done) (next-shown s input (length output) Write next)))
@@ -124,7 +124,7 @@ module _ (left : ℕ) (s : Situation) (input output : List ℕ) (a : Along left 
   along-stands = chain-holds (a .turns) s input output (a .passed) (a .chain) .stands
 
   pub along-turn : (t : Situation) (input′ output′ : List ℕ) → 0 < left → s .going ≡ true → length input′ ≡ length input → length output′ ≡ length output
-      → Turned s input output t input′ output′ → Along (left - 1) t input′ output′
+      → TurnTaken s input output t input′ output′ → Along (left - 1) t input′ output′
   along-turn t input′ output′ h g e f w =
       record {
         turns = suc (a .turns);

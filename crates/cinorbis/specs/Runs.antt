@@ -12,11 +12,11 @@ use Rattle.program.specs.Program.{output}
 use Rattle.turns.specs.Situation.{starting, nextOf, textOf, Took, Finished, Flushed, Refilled}
 
 -- a turn does what is next, and only that
-pub data Turned (s : Situation) (input output : List ℕ) (t : Situation) (input′ output′ : List ℕ) : Type 0 where
-  writes : nextOf s input (length output) ≡ Write → Flushed s t → input′ ≡ input → output′ ≡ output → Turned s input output t input′ output′
-  takes : nextOf s input (length output) ≡ Take → Took s input output t output′ → input′ ≡ input → Turned s input output t input′ output′
-  totals : nextOf s input (length output) ≡ Total → Finished s output t output′ → input′ ≡ input → Turned s input output t input′ output′
-  reads : nextOf s input (length output) ≡ Read → Refilled s input t input′ → output′ ≡ output → Turned s input output t input′ output′
+pub data TurnTaken (s : Situation) (input output : List ℕ) (t : Situation) (input′ output′ : List ℕ) : Type 0 where
+  writes : nextOf s input (length output) ≡ Write → Flushed s t → input′ ≡ input → output′ ≡ output → TurnTaken s input output t input′ output′
+  takes : nextOf s input (length output) ≡ Take → Took s input output t output′ → input′ ≡ input → TurnTaken s input output t input′ output′
+  totals : nextOf s input (length output) ≡ Total → Finished s output t output′ → input′ ≡ input → TurnTaken s input output t input′ output′
+  reads : nextOf s input (length output) ≡ Read → Refilled s input t input′ → output′ ≡ output → TurnTaken s input output t input′ output′
 
 -- what has passed so far: the bytes that came, one read after another; whether a read returned 0; and the texts handed to the writer, one after another
 pub record Passed : Type 0 where
@@ -38,7 +38,7 @@ withRead p (pos (suc k)) fresh = record { came = p .came ++ take (suc k) fresh; 
 
 -- what a turn adds: all of the text that waits is handed over, and each byte that a read gave came
 abbrev pub passing : (s : Situation) (input output : List ℕ) (t : Situation) (input′ output′ : List ℕ)
-    → Turned s input output t input′ output′ → Passed → Passed
+    → TurnTaken s input output t input′ output′ → Passed → Passed
 passing s input output t input′ output′ (writes next f i o) p = withText p (textOf s output)
 passing s input output t input′ output′ (takes next f i) p = p
 passing s input output t input′ output′ (totals next f i) p = p
@@ -49,7 +49,7 @@ pub data Chain : ℕ → Situation → List ℕ → List ℕ → Passed → Type
   start : (input output : List ℕ) → Chain 0 starting input output nothing
   turn : (n : ℕ) (s : Situation) (input output : List ℕ) (p : Passed) (t : Situation) (input′ output′ : List ℕ)
       → Chain n s input output p → s .going ≡ true → length input′ ≡ length input → length output′ ≡ length output
-      → (w : Turned s input output t input′ output′) → Chain (suc n) t input′ output′ (passing s input output t input′ output′ w p)
+      → (w : TurnTaken s input output t input′ output′) → Chain (suc n) t input′ output′ (passing s input output t input′ output′ w p)
 
 -- A run that leaves this situation and these buffers is a chain of turns from the start on. It has ended, unless more than 2^62 bytes came.
 pub record Ran (s : Situation) (input output : List ℕ) : Type 0 where

@@ -20,7 +20,7 @@ use Rattle.program.specs.Program.{Result, answered, refused, resultOf, lineOf, 
 use Rattle.program.specs.OutputLaws.{linesOf, linesAfter, lines-end, lines-first, result-before, goes-on-there}
 use Rattle.turns.specs.Situation.{starting, Ready, unread, isThere, after, afterRead, afterWrite, Took, Finished}
 use Rattle.turns.specs.SituationLaws.{next-shown, there-first, there-whole, absent-none}
-use Rattle.cinorbis.specs.Runs.{Turned, writes, takes, totals, reads, Passed, nothing, withText, withRead, passing}
+use Rattle.cinorbis.specs.Runs.{TurnTaken, writes, takes, totals, reads, Passed, nothing, withText, withRead, passing}
 use Rattle.cinorbis.specs.Runs.{Chain, start, turn, Ran, Tells, Beginning}
 
 -- what is still to be told, if these bytes are still to come
@@ -280,7 +280,7 @@ module _ (n : ℕ) (s : Situation) (input output₁ : List ℕ) (p : Passed) (h 
 
   -- ---- any turn
   holds-turned : (t : Situation) (input′ output′ : List ℕ) → length input′ ≡ length input → length output′ ≡ length output₁
-      → (w : Turned s input output₁ t input′ output′) → Holds (suc n) t input′ output′ (passing s input output₁ t input′ output′ w p)
+      → (w : TurnTaken s input output₁ t input′ output′) → Holds (suc n) t input′ output′ (passing s input output₁ t input′ output′ w p)
   holds-turned t input′ output′ e f (writes next k i o) =
       rw (i, o, k .is) (holds-written (k .done))
   holds-turned t input′ output′ e f (takes next k i) =

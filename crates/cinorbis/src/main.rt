@@ -8,7 +8,7 @@ use turns::Situation;
 ghost use Prim.Native.Nat.{_+_, _-_, _^_, _≤_, _<_};
 ghost use lib.ListN.{length};
 ghost use Rattle.turns.specs.Situation.{room, longest, Ready, Flushed, Refilled};
-ghost use Rattle.cinorbis.specs.Runs.{Turned, Ran};
+ghost use Rattle.cinorbis.specs.Runs.{TurnTaken, Ran};
 
 // Hands the text that waits to the writer.
 fn flush(output: &[u8], s: Situation) -> Situation
@@ -44,7 +44,7 @@ fn refill(input: &mut [u8], s: Situation) -> Situation
 fn turn(input: &mut [u8], output: &mut [u8], s: Situation) -> Situation
     requires { ⌜ Ready s (now input) (now output)
         × (longest ≤ length (now input)) × (s .read + s .refused + 1 < 2 ^ 64) ⌝ }
-    ensures { λ t. ⌜ Turned s (now (input .entry)) (now (output .entry)) t
+    ensures { λ t. ⌜ TurnTaken s (now (input .entry)) (now (output .entry)) t
         (now (input .exit)) (now (output .exit)) ⌝ }
 {
     match turns::next_turn(input, output.len(), s) {

@@ -1,3 +1,4 @@
+-- The rules' figures, each file one statement
 pub mod BenchFigures
 pub mod LargestReadings
 pub mod RunnerUpFigures

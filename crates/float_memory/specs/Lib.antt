@@ -1,1 +1,2 @@
+-- What is read of the memory's arrays where the sums are floats
 pub mod FloatMemoryLaws

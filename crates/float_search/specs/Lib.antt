@@ -1,2 +1,3 @@
+-- That the float search is the search: stated, then proved
 pub mod Same
 pub mod SameLaws

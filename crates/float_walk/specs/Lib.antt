@@ -1,3 +1,4 @@
+-- What the float walk holds and counts, and its laws
 pub mod Held
 pub mod PenaltyLaws
 pub mod HeldLaws

@@ -1,3 +1,4 @@
+-- The transform by folds, layers and eights; filling and picking; what the functions ask
 pub mod Fold
 pub mod FoldLaws
 pub mod Layers

@@ -1,3 +1,4 @@
+-- Where the walk's rows stand and for which index, and laws of remaking them
 pub mod Memory
 pub mod RowLaws
 pub mod MadeLaws

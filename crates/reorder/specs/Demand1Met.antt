@@ -1,4 +1,4 @@
--- The calls meet Demand 1: each number exactly if the first check that applies gives it, 11 among them.
+-- The calls meet demand 1: each number exactly if the first check that applies gives it, 11 among them.
 use mathlib.Core.Path.{_≡_, refl, sym, subst, _∙_}
 use mathlib.Core.Logic.{_↔_, inl, inr, ⊎-elim}
 use mathlib.Core.Bool.{Bool, true, false, not, cond, _&&_}
@@ -27,8 +27,8 @@ use Rattle.images.specs.WorkLaws.{both-good, bits-map}
 use Rattle.reorder.specs.Outcome.{Outcome, done, refused, isLong, sized, mapTested, entryTested, reordering, reorderingWord, undoing, multiplying}
 use Rattle.reorder.specs.Outcome.{undoingLong}
 use Rattle.reorder.specs.OutcomeLaws.{both-true, AllRight, sized-right, map-allowed}
-use Rattle.reorder.specs.Turned.{Good, LongMap, mapChecks, reorderChecks, reorderWordChecks, undoChecks, productChecks, reorderView}
-use Rattle.reorder.specs.Turned.{ReorderDemand1, ReorderDemands}
+use Rattle.reorder.specs.Demands.{Good, LongMap, mapChecks, reorderChecks, reorderWordChecks, undoChecks, productChecks, reorderView}
+use Rattle.reorder.specs.Demands.{ReorderDemand1, ReorderDemands}
 
 -- ---- the test 11
 all-bits : (l : List ℕ) → Bits l → length l ≤ firstBadBit l

@@ -1,3 +1,4 @@
+-- Rows of running sums in a scratch array; the order of two numbers
 pub mod Order
 pub mod OrderLaws
 pub mod Rows

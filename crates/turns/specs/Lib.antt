@@ -1,2 +1,3 @@
+-- Where the program stands between two turns, and its laws
 pub mod Situation
 pub mod SituationLaws

@@ -66,7 +66,7 @@ counted s at ended text answers refusals =
       failed = s .failed;
     }
 
--- after a record with this result, whose line ends at text and after which the next one starts at at: no byte is used where no next start is known
+-- after a record with this result, whose line ends at text and after which the next one starts at `at`: no byte is used where no next start is known
 abbrev pub after : Situation → Result → ℕ → ℕ → Situation
 after s (answered bits penalty gap visits) text at = counted s at (s .ended) text (s .read + 1) (s .refused)
 after s (refused why) text at =

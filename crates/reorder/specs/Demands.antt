@@ -1,4 +1,5 @@
--- C-20 of the calls: Demand 1, with 11 exactly; the undo map that is handed back; and two searches, of readings and of reordered readings. Proved in TurnedMet.
+-- C-20 of the calls: demand 1, with 11 exactly; the undo map that is handed back; and two searches, of readings and of reordered readings. Proved in Demand1Met
+-- and DemandsMet.
 use mathlib.Core.Path.{_≡_}
 use mathlib.Core.List.{List, []}
 use Prim.Native.Nat.{ℕ, _*_, _^_, _<_}

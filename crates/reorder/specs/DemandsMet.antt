@@ -22,7 +22,7 @@ use Rattle.search.specs.Demands.{SoundSearch}
 use Rattle.search.specs.DemandsMet.{sound-answered}
 use Rattle.reorder.specs.Outcome.{Outcome, done, isLong, entryTested, reordering, reorderingLong}
 use Rattle.reorder.specs.OutcomeLaws.{both-true, sized-right, map-allowed, entry-allowed, mapped}
-use Rattle.reorder.specs.Turned.{Good, WordReordered, SearchReordered, Buffers}
+use Rattle.reorder.specs.Demands.{Good, WordReordered, SearchReordered, Buffers}
 use Rattle.reorder.specs.Demand1Met.{map-exactly, sized-zero, map-zero, entry-zero}
 
 -- ---- where `reorder` is done
