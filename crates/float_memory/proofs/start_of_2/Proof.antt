@@ -3,8 +3,8 @@ use borrow.Author.Needs.{needs}
 use mathlib.Core.Path.{_≡_, refl}
 use native.Mathlib.Omega.{arith}
 use Rattle.rows.specs.Rows.{rowOf}
-use Rattle.memory.specs.LowLaws.{low-small, low-next, remade-one, remade-more, start-odd, start-here, start-even}
-use Rattle.memory.specs.CodeLaws.{upper-here, lower-made}
+use Rattle.memory.specs.LowLaws.{low-small, low-next, remade-one, remade-more, start-odd, start-here, lower-new}
+use Rattle.memory.specs.CodeLaws.{upper-here}
 use Rattle.memory.specs.Memory.{newRow}
 use Rattle.float_numbers.specs.Whole.{wholes}
 use Rattle.float_memory.specs.FloatMemoryLaws.{floats-room}
@@ -49,8 +49,7 @@ returns c =
     let s = start .args in
     let x = wholes (made .upper-row .last .0) in
     remade-more 1 (s .i) (s .path .now) (wholes (s .rows .now)) (upper made) (remade-one (s .i) (s .path .now) x
-    (lower-made 0 1 (s .i) (s .path .now) (rowOf 2 x) x refl (λ k. omega (arith, k, start-even 1 (s .i) (start .pre .0) 0 (omega arith)))
-    (c .before .before .lower-row .ensures)))
+    (lower-new 1 (s .i) (start .pre .0) 0 1 (s .path .now) x (omega arith) refl (c .before .before .lower-row .ensures)))
 
 pub start-of-2-spec : {M : Type 1} → statement M
 start-of-2-spec =

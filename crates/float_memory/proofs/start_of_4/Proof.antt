@@ -3,8 +3,8 @@ use borrow.Author.Needs.{needs}
 use mathlib.Core.Path.{_≡_, refl}
 use native.Mathlib.Omega.{arith}
 use Rattle.rows.specs.Rows.{rowOf}
-use Rattle.memory.specs.LowLaws.{low-small, low-next, remade-one, remade-more, start-odd, start-here, start-even}
-use Rattle.memory.specs.CodeLaws.{upper-here, lower-made}
+use Rattle.memory.specs.LowLaws.{low-small, low-next, remade-one, remade-more, start-odd, start-here, lower-new}
+use Rattle.memory.specs.CodeLaws.{upper-here}
 use Rattle.memory.specs.Memory.{newRow}
 use Rattle.float_numbers.specs.Whole.{wholes}
 use Rattle.float_memory.specs.FloatMemoryLaws.{floats-room}
@@ -27,9 +27,7 @@ two c =
     let upper-made = c .before .before .before .before in
     let start = upper-made .before .before .before .before .before .before .before .before .before .before in
     let s = start .args in
-    let x = wholes (upper-made .upper-row .last .0) in
-    lower-made 1 2 (s .i) (s .path .now) (rowOf 4 x) x refl (λ k. omega (arith, k, start-even 2 (s .i) (start .pre .0) 1 (omega arith)))
-    (c .lower-row .ensures)
+    lower-new 2 (s .i) (start .pre .0) 1 2 (s .path .now) (wholes (upper-made .upper-row .last .0)) (omega arith) refl (c .lower-row .ensures)
 
 word-of-4-requires : tie.Need-word-of-4-requires
 word-of-4-requires c κs = search needs
@@ -70,8 +68,7 @@ returns c =
     let x = wholes (made .lower-row .last .0) in
     remade-more 2 (s .i) (s .path .now) (wholes (s .rows .now)) (upper above)
     (remade-more 1 (s .i) (s .path .now) (wholes (above .upper-row .last .0)) (two made) (remade-one (s .i) (s .path .now) x
-    (lower-made 0 1 (s .i) (s .path .now) (rowOf 2 x) x refl (λ k. omega (arith, k, start-even 2 (s .i) (start .pre .0) 0 (omega arith)))
-    (c .before .before .lower-row2 .ensures))))
+    (lower-new 2 (s .i) (start .pre .0) 0 1 (s .path .now) x (omega arith) refl (c .before .before .lower-row2 .ensures))))
 
 pub start-of-4-spec : {M : Type 1} → statement M
 start-of-4-spec =

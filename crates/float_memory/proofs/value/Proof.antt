@@ -2,7 +2,7 @@
 use borrow.Author.Needs.{needs}
 use native.Mathlib.Omega.{arith}
 use Rattle.memory.specs.Memory.{Top}
-use Rattle.memory.specs.TopLaws.{top-of-1, top-of-2, top-of-4}
+use Rattle.memory.specs.TopLaws.{top-next}
 use Rattle.float_memory.specs.FloatMemoryLaws.{short-asked, short-read}
 use Rattle.float_memory.proofs.value.Statement.{statement}
 use Rattle.float_memory.proofs.value.Tie as tie
@@ -21,7 +21,7 @@ start-of-1-requires c κs =
     let o = c .before .before .if3 .taken in
     let next = c .before .before .before in
     let start = next .before .before in
-    let top : Top (start .args .m) (start .args .was) (start .args .i) 0 = top-of-1 (omega arith) (next .if2 .taken) o in
+    let top : Top (start .args .m) (start .args .was) (start .args .i) 0 = top-next 0 (omega arith) (next .if2 .taken) o in
     (o, short-asked (start .args .rows .now) (start .pre) top (omega arith) (omega arith) (omega arith) (omega arith))
 
 element-copy-out-result : tie.Need-element-copy-out-result
@@ -33,7 +33,7 @@ returns-2 c =
     let next = c .before .before .before .before .before in
     let start = next .before .before in
     let made = c .before .start-of-1 in
-    let top : Top (start .args .m) (start .args .was) (start .args .i) 0 = top-of-1 (omega arith) (next .if2 .taken) o in
+    let top : Top (start .args .m) (start .args .was) (start .args .i) 0 = top-next 0 (omega arith) (next .if2 .taken) o in
     short-read (start .args .rows .now) (start .pre) top (omega arith) (omega arith) (omega arith) (made .last .0) (omega arith) (made .ensures)
 
 start-of-2-requires : tie.Need-start-of-2-requires
@@ -41,7 +41,7 @@ start-of-2-requires c κs =
     let o = c .before .before .before .if4 .taken in
     let next = c .before .before .before .before .before in
     let start = next .before .before in
-    let top : Top (start .args .m) (start .args .was) (start .args .i) 1 = top-of-2 (omega arith) (next .if2 .taken) o in
+    let top : Top (start .args .m) (start .args .was) (start .args .i) 1 = top-next 1 (omega arith) (next .if2 .taken) o in
     (o, short-asked (start .args .rows .now) (start .pre) top (omega arith) (omega arith) (omega arith) (omega arith), omega arith)
 
 element-copy-out-result-2 : tie.Need-element-copy-out-result-2
@@ -53,7 +53,7 @@ returns-3 c =
     let next = c .before .before .before .before .before .before .before in
     let start = next .before .before in
     let made = c .before .start-of-2 in
-    let top : Top (start .args .m) (start .args .was) (start .args .i) 1 = top-of-2 (omega arith) (next .if2 .taken) o in
+    let top : Top (start .args .m) (start .args .was) (start .args .i) 1 = top-next 1 (omega arith) (next .if2 .taken) o in
     short-read (start .args .rows .now) (start .pre) top (omega arith) (omega arith) (omega arith) (made .last .0) (omega arith) (made .ensures)
 
 start-of-4-requires : tie.Need-start-of-4-requires
@@ -61,7 +61,7 @@ start-of-4-requires c κs =
     let o = c .before .before .before .if5 .taken in
     let next = c .before .before .before .before .before .before in
     let start = next .before .before in
-    let top : Top (start .args .m) (start .args .was) (start .args .i) 2 = top-of-4 (omega arith) (next .if2 .taken) o in
+    let top : Top (start .args .m) (start .args .was) (start .args .i) 2 = top-next 2 (omega arith) (next .if2 .taken) o in
     (o, short-asked (start .args .rows .now) (start .pre) top (omega arith) (omega arith) (omega arith) (omega arith), omega arith)
 
 element-copy-out-result-3 : tie.Need-element-copy-out-result-3
@@ -73,7 +73,7 @@ returns-4 c =
     let next = c .before .before .before .before .before .before .before .before in
     let start = next .before .before in
     let made = c .before .start-of-4 in
-    let top : Top (start .args .m) (start .args .was) (start .args .i) 2 = top-of-4 (omega arith) (next .if2 .taken) o in
+    let top : Top (start .args .m) (start .args .was) (start .args .i) 2 = top-next 2 (omega arith) (next .if2 .taken) o in
     short-read (start .args .rows .now) (start .pre) top (omega arith) (omega arith) (omega arith) (made .last .0) (omega arith) (made .ensures)
 
 any-value-requires-2 : tie.Need-any-value-requires-2
