@@ -252,7 +252,7 @@ static int out_of_visits(work w) {
     return out;
 }
 
-/* readings of no word need the whole tree, so they are cut short; a word with noise has the default allowance */
+/* readings of no word may need more visits than any allowance, so they are cut short; a word with noise has the default allowance */
 static void search_figures(uint32_t r, uint32_t m, double noise, const char *kind) {
     char name[120];
     work w = {r, m, noise < 0 ? 20000 : CINORBIS_DEFAULT_ALLOWANCE, 1};

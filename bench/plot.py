@@ -2,6 +2,7 @@
 """Reads what `bench grow` printed and writes a table (Markdown) and a plot (SVG) of visits per word over the number k of information
 bits, for three noise levels: plot.py GROW.txt TABLE.md PLOT.svg"""
 import math
+import os
 import platform
 import subprocess
 import sys
@@ -12,9 +13,9 @@ COLOURS = {"0.3": "#2a7f9e", "0.5": "#c9822b", "0.8": "#a03a4a"}
 
 def machine():
     """the processor's name, as lscpu has it"""
-    told = subprocess.run(["lscpu"], stdout=subprocess.PIPE, text=True, check=True).stdout
+    told = subprocess.run(["lscpu"], stdout=subprocess.PIPE, text=True, check=True, env={**os.environ, "LC_ALL": "C"}).stdout
     names = [line.split(":", 1)[1].strip() for line in told.split("\n") if line.startswith("Model name")]
-    return f"a {names[0]} ({platform.machine()})"
+    return f"{names[0] if names else 'a processor without a name'} ({platform.machine()})"
 
 
 def rows(path):

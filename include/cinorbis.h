@@ -206,7 +206,8 @@ CINORBIS_CALL uint32_t cinorbis_early_within(uint32_t r, uint32_t m, uint32_t al
                                              cinorbis_numbers *numbers);
 
 /* First-order words (§13): the best word of RM(1,m), m from 1 to 8, without a walk. In: n readings. Out: as cinorbis_search with an allowance as large as
- * the whole tree, but visits are always 0, and there is no runner-up. Refuses 1 (also for r other than 1, and m = 0), 2, 3, 4, then 7; never 6. Promise: first_order::first_order. */
+ * the whole tree, but visits are always 0, and there is no runner-up. Refuses 1 (also for r other than 1, and m = 0), 2, 3, 4, then 7; never 6.
+ * Promise: first_order::first_order. */
 CINORBIS_CALL uint32_t cinorbis_first_order(uint32_t r, uint32_t m, const int16_t *readings, size_t readings_length, uint8_t *bits,
                                             size_t bits_length, uint8_t *word, size_t word_length, cinorbis_numbers *numbers);
 
@@ -215,7 +216,8 @@ CINORBIS_CALL uint32_t cinorbis_first_order(uint32_t r, uint32_t m, const int16_
  * A row of n bytes names information indices that are to be 0 as well: 1 where named, 0 where not. These calls do what the plain ones do with a named
  * index frozen: k counts the indices that are left, and the inverse gives 5 at a named index that is 1. A row of n zero bytes names none, and all is as
  * without it. The row is refused as 12, after 1 and before 2. Where the last index, n - 1, is named, the all-ones word is not in the set: a link that is
- * turned over then gives some other word of the set with a larger penalty, or a tie. No call refuses for it (§15). */
+ * turned over then gives some other word of the set, or a tie: with a larger penalty, if the best word that the whole code has for the right signs is in
+ * the set. No call refuses for it (§15). */
 
 /* In: the row, and the information bits that are left. Out: word, n bits. Refuses 1, 12, 2, 3, 4. Promise: shortened::encode_shortened. */
 CINORBIS_CALL uint32_t cinorbis_encode_shortened(uint32_t r, uint32_t m, const uint8_t *named, size_t named_length, const uint8_t *bits,
@@ -281,18 +283,20 @@ CINORBIS_CALL uint32_t cinorbis_search_record(uint32_t allowed, const uint8_t *b
  * stepping look at first bytes and lengths only: a pad bit is refused, as 9, only in the record asked for. */
 
 /* Makes the table of a whole capture. Out: the starts of the records 0, 16, 32 and so on, entries past those as they were, and the index. (records + 15)
- * / 16 entries are enough, and (capture_length / 3 + 15) / 16 always are, since a record has 3 bytes at least. Refuses 1 or 8, whichever is met first, then 3 where the table has too few entries. Promise: index::make. */
+ * / 16 entries are enough, and (capture_length / 3 + 15) / 16 always are, since a record has 3 bytes at least. Refuses 1 or 8, whichever is met first,
+ * then 3 where the table has too few entries. Promise: index::make. */
 CINORBIS_CALL uint32_t cinorbis_index_make(const uint8_t *capture, size_t capture_length, size_t *table, size_t entries, cinorbis_index *index);
 
-/* Record w, counted from 0, by the table's entry for its block. In: the part that is in use, index.used bytes and (index.records + 15) / 16 entries; an entry
- * past those is taken as it stands. Out: its code and where its packed part stands. Refuses 10 with no entry, 8 for an entry at or past the end, 1 and 8 as
- * met in stepping, 10 where the capture ends right before w, then 1, 8, 9 of the record itself. With a table of another capture it still only refuses or gives some part of the capture.
- * Promise: index::header_of, index::find, index::part_start. */
+/* Record w, counted from 0, by the table's entry for its block. In: the part that is in use, index.used bytes and (index.records + 15) / 16 entries; an
+ * entry past those is taken as it stands. Out: its code and where its packed part stands. Refuses 10 with no entry, 8 for an entry at or past the end, 1
+ * and 8 as met in stepping, 10 where the capture ends right before w, then 1, 8, 9 of the record itself. With a table of another capture it still only
+ * refuses or gives some part of the capture. Promise: index::header_of, index::find, index::part_start. */
 CINORBIS_CALL uint32_t cinorbis_index_find(size_t w, const uint8_t *capture, size_t capture_length, const size_t *table, size_t entries,
                                            cinorbis_entry *entry);
 
-/* Writes a record at the end of the used part of a capture's buffer, and its entry where its number is a multiple of 16. The index goes in and comes out; on
- * refusal it stays as it is. A new capture begins with an index of {0, 0}, and its table need not be set. Both lengths are the room here, not what is used. With the capture's own index and table, both are then those that cinorbis_index_make gives for the longer capture.
+/* Writes a record at the end of the used part of a capture's buffer, and its entry where its number is a multiple of 16. The index goes in and comes out;
+ * on refusal it stays as it is. A new capture begins with an index of {0, 0}, and its table need not be set. Both lengths are the room here, not what is
+ * used. With the capture's own index and table, both are then those that cinorbis_index_make gives for the longer capture.
  * Refuses 1, 2, 4, then 3 where either buffer has too little room, or the index counts 2^64 - 1 records. Promise: index::append. */
 CINORBIS_CALL uint32_t cinorbis_index_append(uint32_t r, uint32_t m, const int16_t *readings, size_t readings_length, uint8_t *capture,
                                              size_t capture_length, size_t *table, size_t entries, cinorbis_index *index,

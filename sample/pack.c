@@ -29,12 +29,26 @@ static int numbers_of(char *line, long *values) {
     return count;
 }
 
+/* the next line, without its end: its length, -1 where there is none, -2 where it is too long or has a NUL */
+static long line_of(FILE *in, char *line, size_t room) {
+    size_t length = 0;
+    int c = getc(in);
+    if (c == EOF) return -1;
+    for (; c != EOF && c != '\n'; c = getc(in)) {
+        if (c == 0 || length + 2 == room) return -2;
+        line[length++] = (char)c;
+    }
+    line[length] = 0;
+    return (long)length;
+}
+
 int main(int count, char **arguments) {
     static char line[1 << 16];
     FILE *in = count > 1 ? fopen(arguments[1], "r") : stdin;
     if (!in) return perror(arguments[1]), 1;
-    for (unsigned long number = 1; fgets(line, sizeof line, in); number++) {
-        if (!strchr(line, '\n') && !feof(in)) return refuse(number, "a line of more than 65,534 characters, or a NUL in it");
+    long length;
+    for (unsigned long number = 1; (length = line_of(in, line, sizeof line)) != -1; number++) {
+        if (length == -2) return refuse(number, "a line of more than 65,534 characters, or a NUL in it");
         long values[MOST];
         int16_t readings[MOST];
         uint8_t record[CINORBIS_LARGEST_RECORD];

@@ -305,7 +305,7 @@ static void in_their_order(void) {
     end();
 }
 
-/* where the last index is named, the all-ones word is no word, and a turned-over link is seen as distance */
+/* where the last index is named, the all-ones word is no word, and a turned-over link gives another word or a tie */
 static void turned_over(void) {
     static const uint8_t named[8] = {0, 0, 0, 0, 0, 0, 0, 1};
     uint8_t ones[8], bits[3] = {1, 0, 1}, word[8], b[3], x[8], s[256];

@@ -42,7 +42,7 @@ pub enum Refusal {
     NoEntry,
     // a map of positions that is not of bits, or that nothing undoes
     Map,
-    // a row that is no choice of information indices that leaves one
+    // a row that has not n bits, names a frozen index, or leaves no information index
     Named,
 }
 

@@ -116,7 +116,7 @@ least-drift m ks l l′ e =
     omega (arith, none-less m ks l′ b (best-bits-are m ks l), penalty-drift l l′ (encoded m ks b) e, best-attains m ks l)
 
 module _ (m : ℕ) (ks : List ℕ) (l l′ : List ℤ) (information : 1 ≤ sum ks) (e : length l ≡ length l′) where
-  -- two rows of readings with different best words are as far apart as both their gaps together
+  -- two rows of readings with different best words are at least as far apart as both their gaps together
   pub differ-drift : (bestBits m ks l ≡ bestBits m ks l′ → ⊥) → gap m ks l + gap m ks l′ ≤ drift l l′
   differ-drift differ =
       let b = bestBits m ks l in

@@ -302,7 +302,8 @@ pub fn fill_code(r: u32, m: u32, bits: &[u8], row: &mut [u8])
     }
 }
 
-// Puts the bits of a row at the information indices in front, one by one; how many they are.
+// Copies what a row has at the information indices to the front of bits, one by one; how many they
+// are.
 fn pick_each(kinds: &[u8], row: &[u8], bits: &mut [u8]) -> usize
     requires { ⌜ Pickable (now kinds) (now row) (now bits) ⌝ }
     ensures { λ taken. ⌜ (now (bits .exit)

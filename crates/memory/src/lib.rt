@@ -331,9 +331,9 @@ fn any_value(
 }
 
 // The value at index i of the path. The rows stand for index was, and then for i. Most often i
-// comes next, and then only the rows of the blocks that start at i change: three of up to four sums
-// for seven indices in eight. Two places call any_value, so that the compiler keeps it out of that
-// short way.
+// comes next, and then only the rows of the blocks that start at i change: at most three, of up to
+// four sums, for seven indices in eight. Two places call any_value, so that the compiler keeps it
+// out of that short way.
 pub fn value(
     readings: &[i16; 256],
     rows: &mut [i32; 256],

@@ -43,7 +43,7 @@ pub record ReadTheorems : Type 0 where
   -- Every readable telegram is one that the writer accepts, and its word is the one that was found.
   pub read-written : (allowed : ℕ) (l : List ℤ) → readingTelegram allowed l .carry .number ≡ 0
       → Writable (readingTelegram allowed l .telegram) × Finds allowed l (readingTelegram allowed l .telegram)
-  -- With the standing allowance the reader never gives 6, since it is above the whole tree.
+  -- With the default allowance the reader never gives 6, since it is above the whole tree.
   pub whole-tree : tree (kinds 2 5) ≡ 131759
   pub never-out : (l : List ℤ) → readingTelegram defaultAllowance l .carry .number ≡ 6 → ⊥
   pub larger : (l : List ℤ) → TelegramLargerAllowance l
