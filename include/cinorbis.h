@@ -109,7 +109,7 @@ static inline const char *cinorbis_refusal_text(uint32_t refusal) {
 /* The numbers of an answer, written by every call, refused ones too. Those that the call or its refusal does not carry are 0. */
 typedef struct {
     uint64_t penalty; /* of the word found: the sum of the sizes of the readings that it contradicts; the least one under 7 */
-    uint64_t gap;     /* to the next best word's penalty */
+    uint64_t gap;     /* to the next best word's penalty: how much all readings together must change before another word is found */
     uint64_t visits;  /* extensions that the walk looked at; the allowance under 6 */
     uint64_t place;   /* under 4 and 5 */
 } cinorbis_numbers;

@@ -1,17 +1,20 @@
--- Duality: words of RM(r,m) and of RM(m-r-1,m) have an even number of common ones, and the dimensions of the two add up to 2^m.
--- So, by counting, the words of the one are all the parity checks of the other.
+-- Duality: RM(m-r-1,m) is the dual code of RM(r,m). A row of n bits is a word of the one exactly if it has an even number of common ones with every word of
+-- the other; the dimensions of the two add up to 2^m.
 use mathlib.Core.Path.{_≡_, refl, ap, ap₂, sym, subst, _∙_}
+use mathlib.Core.Logic.{_↔_}
 use mathlib.Core.List.{List, [], _∷_, _++_}
 use Prim.Native.Nat.{ℕ, zero, suc, _+_, _-_, _*_, _^_, _%_, _≤_, _<_}
 use native.Mathlib.Omega.{arith}
 use native.Mathlib.Nat.{suc-inj, suc-ne-zero, mul-comm, two-pow-succ}
-use lib.ListN.{length, take, drop, replicate, take-append-drop}
+use lib.ListN.{length, getD, take, drop, replicate, take-append-drop}
 use Rattle.numbers.specs.Halves.{length-first, length-second}
-use Rattle.words.specs.Bits.{Bits, xors}
+use Rattle.words.specs.Bits.{Bits, xors, ones}
+use Rattle.words.specs.Word.{transform}
 use Rattle.words.specs.Kinds.{kinds, dimension, Word}
-use Rattle.words.specs.TransformLaws.{xors-twice, bits-take, bits-drop}
+use Rattle.words.specs.TransformLaws.{length-xors, bits-xors, xors-comm, xors-self, xors-zeros, xors-twice, bits-more, bits-take, bits-drop}
 use Rattle.words.specs.KindLaws.{dimension-zero, dimension-one, dimension-suc}
-use Rattle.words.specs.HalfLaws.{Below, word-below, below-xors, below-more, below-first, below-second, below-zero}
+use Rattle.words.specs.HalfLaws.{Below, word-below, below-word, below-xors, below-more, below-first, below-second, below-joined}
+use Rattle.words.specs.HalfLaws.{below-zero, below-zeros}
 use Rattle.words.specs.ParityLaws.{Even}
 
 -- the number of places where both rows have 1
@@ -105,6 +108,64 @@ below-dual (suc m) (suc d) (suc e) x y h v w =
 -- r + s < m: of RM(m-r-1,m), and so of all that lie in it
 pub dual-even : (r s m : ℕ) (x y : List ℕ) → r + s < m → Word m (kinds r m) x → Word m (kinds s m) y → Even (commonOnes x y)
 dual-even r s m x y h v w = below-dual m (suc r) (suc s) x y (omega arith) (word-below r m x v) (word-below s m y w)
+
+-- ---- and no other row has that: orthogonal to (a, 0) and to (b, b), x = (x1, x2) has x1 and x1 + x2 orthogonal to all such a and b
+common-added : (x y c : List ℕ) → length x ≡ length y → length x ≡ length c → Bits x → Bits y
+    → (commonOnes x c + commonOnes y c) % 2 ≡ commonOnes (xors x y) c % 2
+common-added x y c e f h k =
+    let none : commonOnes y (xors c c) ≡ 0 = ap (commonOnes y) (xors-self c) ∙ common-swapped y (replicate (length c) 0) ∙ common-zeros (length c) y in
+    omega (arith, common-crossed x y c c e f f h k, none)
+
+even-below : (m d e : ℕ) (x : List ℕ) → suc m ≤ d + e → length x ≡ 2 ^ m → Bits x → ((y : List ℕ) → Below e m y → Even (commonOnes x y)) → Below d m x
+unfolding ones transform commonOnes
+even-below zero d e [] h l b f = absurd (suc-ne-zero 0 (sym l))
+even-below zero d e (a ∷ p ∷ x) h l b f = absurd (omega arith)
+even-below zero d e (a ∷ []) h l b f =
+    record {
+      long = l;
+      are-bits = b;
+      frozen = λ i k few.
+          let one : Below e 0 (1 ∷ []) =
+          record { long = refl; are-bits = bits-more [] 1 (λ j. omega arith) (omega arith); frozen = λ j n z. absurd (omega arith) } in
+          let first : i ≡ 0 = omega arith in
+          ap (λ (j : ℕ). getD (a ∷ []) j 0) first ∙ omega (arith, f (1 ∷ []) one, b 0);
+    }
+even-below (suc m) d e x h l b f =
+    let n = 2 ^ m in
+    let x1 = take n x in
+    let x2 = drop n x in
+    let l1 = length-first m x l in
+    let l2 = length-second m x l in
+    let b1 = bits-take n x b in
+    let b2 = bits-drop n x b in
+    let zeros : List ℕ = replicate n 0 in
+    let cut : (c y : List ℕ) → length c ≡ n → commonOnes x (c ++ y) ≡ commonOnes x1 c + commonOnes x2 y = λ c y k.
+    ap (λ (z : List ℕ). commonOnes z (c ++ y)) (sym (take-append-drop n x)) ∙ common-append x1 x2 c y (l1 ∙ sym k) in
+    let first : Below d m x1 =
+    even-below m d (e - 1) x1 (omega arith) l1 b1
+    (λ a w.
+    let whole : Below e (suc m) (a ++ zeros) =
+    subst (λ (z : List ℕ). Below e (suc m) (z ++ zeros)) (xors-zeros n a (w .long) (w .are-bits)) (below-joined e m a zeros w (below-zeros e m)) in
+    omega (arith, f (a ++ zeros) whole, cut a zeros (w .long), common-swapped x2 zeros, common-zeros n x2)) in
+    let sum : Below (d - 1) m (xors x1 x2) =
+    even-below m (d - 1) e (xors x1 x2) (omega arith) (length-xors x1 x2 (l1 ∙ sym l2) ∙ l1) (bits-xors x1 x2)
+    (λ c w.
+    let whole : Below e (suc m) (c ++ c) =
+    subst (λ (z : List ℕ). Below e (suc m) (z ++ c)) (xors-comm zeros c ∙ xors-zeros n c (w .long) (w .are-bits))
+    (below-joined e m zeros c (below-zeros (e - 1) m) w) in
+    omega (arith, f (c ++ c) whole, cut c c (w .long), common-added x1 x2 c (l1 ∙ sym l2) (l1 ∙ sym (w .long)) b1 b2)) in
+    let second : Below d m x2 =
+    subst (Below d m) (ap (λ (z : List ℕ). xors z x1) (xors-comm x1 x2) ∙ xors-twice x2 x1 (l2 ∙ sym l1) b2)
+    (below-xors d m (xors x1 x2) x1 (below-more (d - 1) d m (xors x1 x2) (omega arith) sum) first) in
+    subst (Below d (suc m)) (ap (λ (z : List ℕ). z ++ x2) (xors-twice x1 x2 (l1 ∙ sym l2) b1) ∙ take-append-drop n x)
+    (below-joined d m (xors x1 x2) x2 sum second)
+
+pub dual : (r s m : ℕ) (x : List ℕ) → suc (r + s) ≡ m → length x ≡ 2 ^ m → Bits x
+    → Word m (kinds r m) x ↔ ((y : List ℕ) → Word m (kinds s m) y → Even (commonOnes x y))
+dual r s m x h l b = (
+  λ v y w. dual-even r s m x y (omega arith) v w,
+  λ f. below-word r m x (even-below m (suc r) (suc s) x (omega arith) l b (λ y w. f y (below-word s m y w))),
+)
 
 -- ---- dimensions
 dimension-full : (r m : ℕ) → m ≤ r → dimension r m ≡ 2 ^ m
