@@ -2,12 +2,10 @@
 use mathlib.Core.Path.{_≡_, refl, ap, sym, _∙_}
 use mathlib.Core.List.{List}
 use mathlib.Core.Logic.{⊎-elim}
-use Prim.Native.Nat.{ℕ, zero, suc, _-_, _/_, _%_, _≤_, _<_}
+use Prim.Native.Nat.{ℕ, zero, suc, _/_, _%_, _≤_, _<_}
 use native.Mathlib.Omega.{arith}
 use native.Mathlib.Decide.{ℕ-discrete}
-use lib.ListN.{length, getD, drop, length-drop}
-use lib.Seq.{take-all}
-use borrow.Rule.Slice.PartMut.{midOf}
+use lib.ListN.{length, getD}
 use borrow.Author.Tests.{le-leb, lt-leb, eq-eqb, ne-eqb}
 use Rattle.numbers.specs.Choice.{lt-or-le}
 use Rattle.code.specs.declared.Refusal.{Refusal}
@@ -77,7 +75,3 @@ start-inside s table w p e =
     (lt-or-le (entry s table w) (length s)))
     (λ none. let z : _≡_ {A = ℕ} 0 1 = cc (start-none s table w none) in absurd (omega arith))
     (lt-or-le (w / 16) (length table))
-
--- the bytes from a start on, as code lends them
-pub lent-on : (s : List ℕ) (p : ℕ) → midOf p (length s - p) s ≡ drop p s
-lent-on s p = take-all (length s - p) (drop p s) (simp length-drop (omega arith))

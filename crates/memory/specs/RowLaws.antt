@@ -57,9 +57,6 @@ start-le t i = div-mul-le-self i (2 ^ t)
 pub start-odd : (t i : ℕ) → i / 2 ^ t % 2 ≡ 1 → startOf t i ≡ startOf (suc t) i + 2 ^ t
 start-odd t i e = start-suc t i ∙ rw e (omega arith)
 
-pub start-even : (t i : ℕ) → i / 2 ^ t % 2 ≡ 0 → startOf t i ≡ startOf (suc t) i
-start-even t i e = start-suc t i ∙ rw e (omega arith)
-
 -- ---- a row depends on the path before its block alone
 left-same : (t i : ℕ) (y z : List ℕ) → 2 ^ t ≤ startOf t i → take (startOf t i) y ≡ take (startOf t i) z → leftOf t i y ≡ leftOf t i z
 left-same t i y z h e =

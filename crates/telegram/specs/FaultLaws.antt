@@ -184,9 +184,6 @@ module _ (t : Telegram) where
   pub reader-good : Writable t → readerFault 0 t ≡ Good
   reader-good w = tilt-good (tilt-writable w)
 
-  pub reader-marked : readerFault 1 t ≡ Bad Marker
-  reader-marked = refl
-
   pub good-reader : (k : ℕ) → readerFault k t ≡ Good → (k ≡ 0) × TiltGood t
   good-reader k e =
       let b = good-before (markerFault k) (tiltFault t) e in

@@ -4,9 +4,10 @@ use mathlib.Core.List.{List}
 use Prim.Native.Nat.{ℕ, _<_}
 use native.Mathlib.Omega.{arith}
 use lib.ListN.{length}
+use Rattle.numbers.specs.Lent.{lent-from}
 use Rattle.record.specs.Reader.{headerOf, partBy}
 use Rattle.index.specs.Finding.{partAt}
-use Rattle.index.specs.FindingLaws.{start-inside, lent-on}
+use Rattle.index.specs.FindingLaws.{start-inside}
 use borrow.Author.Needs.{needs}
 use Rattle.index.proofs.find.Statement.{statement}
 use Rattle.index.proofs.find.Tie as tie
@@ -45,7 +46,7 @@ returns : tie.Need-returns
 returns c =
     let s = c .before .before .before .before .before .before .before .before .args .capture .now in
     c .packed .ensures
-    ∙ ap (λ (x : List ℕ). partBy (headerOf x) x) (lent-on s (c .before .before .before .start .given .0 .0))
+    ∙ ap (λ (x : List ℕ). partBy (headerOf x) x) (lent-from (c .before .before .before .start .given .0 .0) s)
     ∙ ap (partAt s) (sym (c .before .before .before .start .given .1) ∙ c .before .before .before .before .before .start-of .ensures)
 
 returns-2 : tie.Need-returns-2

@@ -4,10 +4,11 @@ use mathlib.Core.List.{List}
 use Prim.Native.Nat.{ℕ, _<_}
 use native.Mathlib.Omega.{arith}
 use lib.ListN.{length}
+use Rattle.numbers.specs.Lent.{lent-from}
 use Rattle.record.specs.Reader.{headerOf, told}
 use Rattle.index.specs.declared.Place.{Place}
 use Rattle.index.specs.Finding.{headerAt}
-use Rattle.index.specs.FindingLaws.{start-inside, lent-on}
+use Rattle.index.specs.FindingLaws.{start-inside}
 use borrow.Author.Needs.{needs}
 use Rattle.index.proofs.header_of.Statement.{statement}
 use Rattle.index.proofs.header_of.Tie as tie
@@ -43,7 +44,7 @@ returns : tie.Need-returns
 returns c =
     let s = c .before .before .before .before .before .before .before .before .args .capture .now in
     c .header-of .ensures
-    ∙ ap (λ (x : List ℕ). told (headerOf x)) (lent-on s (c .before .before .before .start .given .0 .0))
+    ∙ ap (λ (x : List ℕ). told (headerOf x)) (lent-from (c .before .before .before .start .given .0 .0) s)
     ∙ ap (λ (p : Place). told (headerAt s p))
     (sym (c .before .before .before .start .given .1) ∙ c .before .before .before .before .before .start-of .ensures)
 

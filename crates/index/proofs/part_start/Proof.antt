@@ -4,11 +4,12 @@ use mathlib.Core.List.{List}
 use Prim.Native.Nat.{ℕ, _<_}
 use native.Mathlib.Omega.{arith}
 use lib.ListN.{length, drop}
+use Rattle.numbers.specs.Lent.{lent-from}
 use Rattle.record.specs.declared.Header.{Header}
 use Rattle.record.specs.Reader.{headerOf, told}
 use Rattle.record.specs.OnlyHeader.{header-only}
 use Rattle.index.specs.Finding.{partAfter, partStartAt}
-use Rattle.index.specs.FindingLaws.{start-inside, lent-on}
+use Rattle.index.specs.FindingLaws.{start-inside}
 use borrow.Author.Needs.{needs}
 use Rattle.index.proofs.part_start.Statement.{statement}
 use Rattle.index.proofs.part_start.Tie as tie
@@ -49,7 +50,7 @@ returns c =
     let start = c .before .before .before .before .start .given .0 .0 in
     let head = c .before .header-of in
     let same : head .result ≡ headerOf (drop start s) =
-    header-only (head .result) (headerOf (drop start s)) (head .ensures ∙ ap (λ (x : List ℕ). told (headerOf x)) (lent-on s start)) in
+    header-only (head .result) (headerOf (drop start s)) (head .ensures ∙ ap (λ (x : List ℕ). told (headerOf x)) (lent-from start s)) in
     c .part-after .ensures
     ∙ ap (λ (h : Header). partAfter h start) same
     ∙ ap (partStartAt s) (sym (c .before .before .before .before .start .given .1) ∙ c .before .before .before .before .before .before .start-of .ensures)
