@@ -6,7 +6,7 @@ use Prim.Native.Nat.{ℕ, zero, suc, _+_, _-_, _/_, _%_, _≤_, _<_}
 use native.Mathlib.Omega.{arith}
 use native.Mathlib.Decide.{ℕ-discrete}
 use lib.IntN.{ℤ}
-use lib.ListN.{length, getD, take, drop, set, length-append, length-take, take-append-drop}
+use lib.ListN.{length, getD, take, drop, set, length-append, length-take, take-append-drop, List·getD-append}
 use lib.Seq.{length-take-le, getD-take, take-take}
 use borrow.Author.Tests.{eq-eqb, ne-eqb}
 use Rattle.code.specs.RefusalLaws.{number-above}
@@ -29,16 +29,11 @@ use Rattle.index.specs.StepsLaws.{Goes, step-next, starts-end, starts-ne
 use Rattle.index.specs.MakingLaws.{length-entries, made-whole}
 use Rattle.index.specs.AppendingLaws.{free-room, append-refused, append-full, append-fits, append-done}
 
-getD-front : (s rest : List ℕ) (i : ℕ) → i < length s → getD (s ++ rest) i 0 ≡ getD s i 0
-getD-front [] rest i h = absurd (omega arith)
-getD-front (x ∷ s) rest zero h = refl
-getD-front (x ∷ s) rest (suc i) h = getD-front s rest i (omega arith)
-
 -- ---- bytes behind a capture of whole records change none of its steps
 module _ (s rest : List ℕ) where
   step-front : (at next : ℕ) → Goes s at next → stepped (s ++ rest) at ≡ At next
   step-front at next go =
-      let same : bytesAt (s ++ rest) at ≡ bytesAt s at = ap (λ (b : ℕ). lengthBy (codeOf b)) (getD-front s rest at (go .inside)) in
+      let same : bytesAt (s ++ rest) at ≡ bytesAt s at = ap (λ (b : ℕ). lengthBy (codeOf b)) (List·getD-append s rest 0 at (go .inside)) in
       let sum = length-append s rest in
       step-next (s ++ rest) at (omega (arith, go .inside, sum)) (λ z. omega (arith, go .by, go .further, same, z))
       (omega (arith, go .by, go .there, same, sum))

@@ -20,8 +20,10 @@ use Rattle.lines.specs.Line.{bytesOf, decimalWithin, infoText, figuresText, ans
 use Rattle.program.specs.Program.{allowance, resultOf, outputFrom, output}
 
 pub example : output (0x21 ∷ 0x00 ∷ 0x5F ∷ 0xFE ∷ 0x00 ∷ 0x30 ∷ 0x01 ∷ []) ≡ bytesOf "0 info 011 penalty 1 margin 1 visits 9\n1 read, 0 refused\n"
-unfolding total tabulate sum least without next firstWith digit ones transform kind kinds allBits penalty penalties leastPenalty gap bestBits bestWord value walk walked answer made firstAbove unpacked partLength padOf headerOf bytesOf decimalWithin infoText figuresText answerLine refusedLine totalLine resultOf outputFrom output
+unfolding total tabulate sum least without next firstWith digit ones transform kind kinds allBits penalty penalties leastPenalty gap bestBits bestWord
+    value walk walked answer made firstAbove unpacked partLength padOf headerOf
+    bytesOf decimalWithin infoText figuresText answerLine refusedLine totalLine resultOf outputFrom output
 example = refl
 
-pub above-standing : defaultAllowance < allowance
-above-standing = omega arith
+pub above-default : defaultAllowance < allowance
+above-default = omega arith
