@@ -1,14 +1,14 @@
 #!/usr/bin/env python3
-"""Reads what `bench grow` printed and writes a table (Markdown) and a plot (SVG) of visits per word over the number k of information
-bits, for three noise levels: plot.py GROW.txt TABLE.md PLOT.svg"""
+"""plot.py GROW.txt TABLE.md PLOT.svg: reads what `bench grow` printed and writes a table (Markdown) and a plot (SVG) of visits per word,
+a panel for each noise."""
 import math
 import os
 import platform
 import subprocess
 import sys
 
-WIDTH, HEIGHT, LEFT, BOTTOM, TOP, RIGHT = 760, 440, 70, 56, 30, 150
-COLOURS = {"0.3": "#2a7f9e", "0.5": "#c9822b", "0.8": "#a03a4a"}
+LEFT, TOP, WIDE, HIGH, APART = 66, 62, 240, 300, 56
+COLOURS = {"3": "#7b8794", "4": "#8a6d3b", "5": "#2f855a", "6": "#b7791f", "7": "#6b46c1", "8": "#2b6cb0"}  # by m
 
 
 def machine():
@@ -33,9 +33,10 @@ def table(data, path):
     lines = [
         "# How the search's cost grows",
         "",
-        "`bench/run grow`: the search with the default allowance, 200,000 visits, of 64 random words for each code and noise: mean visits, mean time a word,",
-        "and how many were out of visits. Noise is normal, as a multiple of the word's size. Visits are those of the written walk, the same on every machine;",
-        f"times are of one run on {machine()}, not emulated.",
+        "`bench/run grow`: the search with the default allowance, 200,000 visits, of 64 random words for each code and noise.",
+        "The columns are mean visits, mean time a word, and how many words ran out of visits.",
+        "Noise is normal, as a multiple of the word's size.",
+        f"Visits are those of the written walk, the same on every machine; times are of one run on {machine()}, not emulated.",
         "",
         head,
         "|---|---|" + "---|---|---|" * len(levels),
@@ -50,43 +51,51 @@ def table(data, path):
         f.write("\n".join(lines) + "\n")
 
 
-def plot(data, path):
-    xs = [math.log2(int(d["k"])) for d in data]
-    ys = [math.log10(max(float(d["visits"]), 1)) for d in data]
-    x_most, y_most = max(xs), math.ceil(max(ys))
+def panel(left, noise, data, y_most):
+    """The codes RM(r,m) at one noise: r along the axis, a line for each m."""
+    r_most = max(int(d["r"]) for d in data)
 
-    def at(x, y):
-        return (LEFT + x / x_most * (WIDTH - LEFT - RIGHT), HEIGHT - BOTTOM - y / y_most * (HEIGHT - BOTTOM - TOP))
+    def at(d):
+        y = math.log10(max(float(d["visits"]), 1)) / y_most
+        return left + int(d["r"]) / r_most * WIDE, TOP + HIGH - y * HIGH
 
-    out = [
-        f'<svg xmlns="http://www.w3.org/2000/svg" width="{WIDTH}" height="{HEIGHT}" font-family="sans-serif" font-size="12">',
-        f'<rect width="{WIDTH}" height="{HEIGHT}" fill="white"/>',
-        f'<text x="{LEFT}" y="18">Visits per word over the number of information bits, all codes RM(r,m), m up to 8</text>',
-    ]
+    out = [f'<text x="{left}" y="{TOP - 12}" font-weight="bold">noise {noise}</text>']
     for y in range(y_most + 1):
-        x0, y0 = at(0, y)
-        x1, _ = at(x_most, y)
-        out.append(f'<line x1="{x0:.1f}" y1="{y0:.1f}" x2="{x1:.1f}" y2="{y0:.1f}" stroke="#ddd"/>')
-        out.append(f'<text x="{x0 - 8:.1f}" y="{y0 + 4:.1f}" text-anchor="end">{10 ** y:,}</text>')
-    for x in range(int(x_most) + 1):
-        x0, y0 = at(x, 0)
-        out.append(f'<line x1="{x0:.1f}" y1="{y0:.1f}" x2="{x0:.1f}" y2="{TOP}" stroke="#eee"/>')
-        out.append(f'<text x="{x0:.1f}" y="{y0 + 18:.1f}" text-anchor="middle">{2 ** x}</text>')
-    x0, y0 = at(x_most / 2, 0)
-    out.append(f'<text x="{x0:.1f}" y="{y0 + 40:.1f}" text-anchor="middle">k, the number of information bits</text>')
-    for i, noise in enumerate(sorted(COLOURS)):
-        colour = COLOURS[noise]
-        for d in data:
-            if d["noise"] == noise:
-                x, y = at(math.log2(int(d["k"])), math.log10(max(float(d["visits"]), 1)))
-                hollow = int(d["refused"]) > 0
-                out.append(f'<circle cx="{x:.1f}" cy="{y:.1f}" r="4" fill="{"none" if hollow else colour}" stroke="{colour}" stroke-width="1.5"/>')
-        y = TOP + 16 + 20 * i
-        out.append(f'<circle cx="{WIDTH - RIGHT + 18}" cy="{y - 4}" r="4" fill="{colour}"/>')
-        out.append(f'<text x="{WIDTH - RIGHT + 28}" y="{y}">noise {noise}</text>')
-    out.append(f'<text x="{WIDTH - RIGHT + 12}" y="{TOP + 80}" font-size="11">hollow: some words</text>')
-    out.append(f'<text x="{WIDTH - RIGHT + 12}" y="{TOP + 94}" font-size="11">needed more than</text>')
-    out.append(f'<text x="{WIDTH - RIGHT + 12}" y="{TOP + 108}" font-size="11">200,000 visits</text>')
+        at_y = TOP + HIGH - y / y_most * HIGH
+        out.append(f'<line x1="{left}" y1="{at_y:.1f}" x2="{left + WIDE}" y2="{at_y:.1f}" stroke="#ddd"/>')
+        if left == LEFT:
+            out.append(f'<text x="{left - 8}" y="{at_y + 4:.1f}" text-anchor="end">{10 ** y:,}</text>')
+    for r in range(r_most + 1):
+        at_x = left + r / r_most * WIDE
+        out.append(f'<line x1="{at_x:.1f}" y1="{TOP}" x2="{at_x:.1f}" y2="{TOP + HIGH}" stroke="#eee"/>')
+        out.append(f'<text x="{at_x:.1f}" y="{TOP + HIGH + 18}" text-anchor="middle">{"r = " if r == 0 else ""}{r}</text>')
+    for m, colour in COLOURS.items():
+        codes = sorted((d for d in data if d["m"] == m and d["noise"] == noise), key=lambda d: int(d["r"]))
+        line = " ".join("%.1f,%.1f" % at(d) for d in codes)
+        out.append(f'<polyline points="{line}" fill="none" stroke="{colour}" stroke-width="1.2" stroke-opacity="0.6"/>')
+        for d in codes:
+            x, y = at(d)
+            fill = "white" if int(d["refused"]) else colour
+            name = f'<title>RM({d["r"]},{m}): {float(d["visits"]):,.0f} visits</title>'
+            out.append(f'<circle cx="{x:.1f}" cy="{y:.1f}" r="3.4" fill="{fill}" stroke="{colour}" stroke-width="1.5">{name}</circle>')
+        x, y = at(codes[-1])
+        out.append(f'<text x="{x + 6:.1f}" y="{y - 6:.1f}" font-size="11" fill="{colour}">m = {m}</text>')
+    return out
+
+
+def plot(data, path):
+    y_most = math.ceil(max(math.log10(max(float(d["visits"]), 1)) for d in data))
+    levels = sorted({d["noise"] for d in data})
+    width, height = LEFT + len(levels) * (WIDE + APART), TOP + HIGH + 62
+    out = [
+        f'<svg xmlns="http://www.w3.org/2000/svg" viewBox="0 0 {width} {height}" font-family="sans-serif" font-size="12">',
+        f'<rect width="{width}" height="{height}" fill="white"/>',
+        f'<text x="{LEFT}" y="20" font-size="14">Visits per word of RM(r,m): r along the axis, a line for each m from 3 to 8</text>',
+    ]
+    for i, noise in enumerate(levels):
+        out += panel(LEFT + i * (WIDE + APART), noise, data, y_most)
+    foot = "Hollow: some of the 64 words needed more than 200,000 visits. Noise is a multiple of the word's size."
+    out.append(f'<text x="{LEFT}" y="{height - 14}">{foot}</text>')
     out.append("</svg>")
     with open(path, "w", encoding="utf-8") as f:
         f.write("\n".join(out) + "\n")

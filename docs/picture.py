@@ -12,7 +12,7 @@ import program_reference as reference
 
 R, M = 1, 3
 READINGS = [38, -41, 35, -12, 44, -30, -9, -36]
-UNIT, WIDE, TALL = 46, 430, 336
+UNIT, WIDE, TALL = 46, 430, 366
 INK, SOFT, FOR_ZERO, FOR_ONE, AGAINST = "#1f2933", "#7b8794", "#2b6cb0", "#b7791f", "#c53030"
 
 
@@ -48,9 +48,20 @@ def panel(left, title, row, answer):
         y = middle if reading < 0 else middle - high
         out.append(f'<rect x="{x}" y="{y}" width="{UNIT - 16}" height="{high}" fill="{fill}" fill-opacity="0.85"/>')
         out.append(text(x + UNIT / 2 - 8, middle + high + 15 if reading < 0 else middle - high - 5, reading, 11, SOFT, "middle"))
-        out.append(text(x + UNIT / 2 - 8, 275, bit, 17, AGAINST if against else INK, "middle", "bold"))
-    out.append(text(left, 303, f"word found; information bits {bits[:-1]}<tspan font-weight='bold' fill='{AGAINST}'>{bits[-1]}</tspan>"))
+        out.append(text(x + UNIT / 2 - 8, 275, bit, 17, INK, "middle", "bold"))
+    last = f"<tspan font-weight='bold' text-decoration='underline'>{bits[-1]}</tspan>"
+    out.append(text(left, 303, f"word found; information bits {bits[:-1]}{last}"))
     out.append(text(left, 323, f"penalty {penalty}, gap {gap}, {visits} visits"))
+    return out
+
+
+def legend():
+    """what the colours mean"""
+    out, x = [], 20
+    for fill, words in (FOR_ZERO, "speaks for 0"), (FOR_ONE, "speaks for 1"), (AGAINST, "contradicted by the word found"):
+        out.append(f'<rect x="{x}" y="{TALL - 25}" width="14" height="14" fill="{fill}" fill-opacity="0.85"/>')
+        out.append(text(x + 20, TALL - 13, words))
+        x += 140
     return out
 
 
@@ -59,6 +70,7 @@ def main():
     answers = decode([READINGS, turned])
     shapes = panel(20, "as agreed: plus speaks for 0", READINGS, answers[0])
     shapes += panel(20 + WIDE, "turned over: every reading negated", turned, answers[1])
+    shapes += legend()
     label = f"RM({R},{M}): a word's readings, and the same ones negated; both decode cleanly, with the last information bit inverted"
     svg = f'<svg xmlns="http://www.w3.org/2000/svg" viewBox="0 0 {2 * WIDE} {TALL}" font-family="sans-serif" role="img" aria-label="{label}">\n'
     svg += f'<rect width="{2 * WIDE}" height="{TALL}" fill="white"/>\n' + "\n".join(shapes) + "\n</svg>\n"
