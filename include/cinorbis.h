@@ -1,14 +1,14 @@
-/* Cinorbis: a Reed-Muller decoder whose every function is proved. The C calls of libcinorbis.a,
- * which `tools/archive CPU` makes for 64-bit processors and 32-bit controllers. docs/RULES.md has
- * the rules, by the sections (§) that are named here; docs/PROMISES.md says, under the name given
- * as a call's promise, where it is stated and proved.
+/* Cinorbis: a Reed-Muller decoder in which every function is proved. These are the C calls of
+ * libcinorbis.a, which `tools/archive CPU` makes for 64-bit processors and 32-bit controllers.
+ * docs/RULES.md has the rules, by the sections (§) named here; docs/PROMISES.md says, under the
+ * name given as a call's promise, where it is stated and proved. C99 is the oldest C that serves.
  *
  * The code: RM(r,m) with 0 <= r <= m <= 8 has words of n = 2^m bits and k information bits,
  * k = (m choose 0) + (m choose 1) + .. + (m choose r). cinorbis_length and cinorbis_dimension give
  * n and k.
  *
  * Readings: one signed number for each bit. A positive reading speaks for bit 0, a negative one for
- * bit 1; its size says how sure it is. Bits stand one per byte, 0 or 1.
+ * bit 1; its size says how sure the modem is. Bits are stored one per byte, 0 or 1.
  *
  * Order: bits[0] goes to the lowest information index, that is the lowest i below n with at
  * least m - r ones among its binary digits, and so on upwards; this is the row u, 0 at all other
@@ -16,18 +16,18 @@
  * readings[j] belongs to word[j]. RM(1,3): bits 1000 are the word 11110000, bits 0001 the word
  * 11111111 ([0] is leftmost). Two words differ in 2^(m-r) places or more.
  *
- * Arguments: the code r, m first; then an allowance where there is one; then the inputs; then the
+ * Arguments: the code r, m first; then an allowance if there is one; then the inputs; then the
  * outputs. Each buffer is a pointer and, right after it, its length in elements. Lengths must be
- * exact: a longer buffer is refused like a shorter one. A pointer is never null, also where the
+ * exact: a longer buffer is refused like a shorter one. A pointer is never null, even if the
  * length is 0, and what a call writes overlaps nothing else that it is given: these two are not
- * tested. All else is: any numbers may be handed in.
+ * tested. Everything else is: any numbers may be passed.
  *
  * Answers: a call returns 0 when it is done, or the number of its refusal. A refused call leaves
- * every buffer as it was, but for a runner-up. The struct of numbers and the runner-up are written
+ * every buffer as it was, except a runner-up. The struct of numbers and the runner-up are written
  * by every call, with 0 in what the call or its refusal does not carry.
  *
  * The runner-up of a search: the k information bits of the second full path that the walk holds at
- * its end, one per byte, in 256 bytes. Their word has the next best penalty, penalty + gap; where
+ * its end, one per byte, in 256 bytes. Their word has the next best penalty, penalty + gap; if
  * several words share that penalty, the walk decides which one it is (§5). The bytes past the k-th
  * are 0, and under every refusal all 256 are.
  *
@@ -41,8 +41,8 @@
 #include <stddef.h>
 #include <stdint.h>
 
-/* Lengths, places and the entries of an index have 64 bits on every processor: size_t where
- * addresses have 64 bits, uint64_t on a 32-bit controller. */
+/* Lengths, places and the entries of an index have 64 bits on every processor: size_t if addresses
+ * have 64 bits, uint64_t on a 32-bit controller. */
 #if SIZE_MAX == 0xffffffffffffffff
 typedef size_t cinorbis_size;
 #elif SIZE_MAX == 0xffffffff
@@ -53,8 +53,8 @@ typedef uint64_t cinorbis_size;
 #if defined(__BYTE_ORDER__) && __BYTE_ORDER__ != __ORDER_LITTLE_ENDIAN__
 #error "cinorbis: the processor has to keep the lowest byte first"
 #endif
-/* A uint64_t stands at a multiple of 8, as in the calling conventions of x86-64, Arm and RISC-V;
- * where it does not (i386), this has no size. */
+/* A uint64_t is aligned to 8 bytes, as in the calling conventions of x86-64, Arm and RISC-V. If it
+ * is not (i386), the array below has a negative size and does not compile. */
 struct cinorbis_padded {
     char first;
     uint64_t second;
@@ -77,7 +77,7 @@ extern "C" {
 /* The largest reading of a packed record, whose fields have 12 bits: the writer refuses what is
  * beyond it as 4. */
 #define CINORBIS_LARGEST_RECORD_READING 2047
-/* What the calls without an allowance of their own allow. A larger one never changes an answer or a
+/* The visits allowed by calls that take no allowance. A larger one never changes an answer or a
  * tie (7) that was given. */
 #define CINORBIS_DEFAULT_ALLOWANCE 200000u
 /* Room for any word, and for the information bits of any code. */
@@ -85,15 +85,15 @@ extern "C" {
 /* The bytes of the longest record: its first, and 256 readings of 12 bits. */
 #define CINORBIS_LARGEST_RECORD 385u
 
-/* A call's pointers are never null, and its refusal is to be looked at. */
+/* A call's pointers are never null, and its result has to be checked. */
 #if defined(__GNUC__)
 #define CINORBIS_CALL __attribute__((nonnull, warn_unused_result))
 #else
 #define CINORBIS_CALL
 #endif
 
-/* Why a call refused (§6). Where several apply a call gives the one that it checks first: the order
- * beside each call. */
+/* Why a call refused (§6). If several apply, a call gives the one that it checks first: the order
+ * is given beside each call. */
 enum cinorbis_refusal {
     CINORBIS_DONE = 0,
     /* m > 8 or r > m (maps of positions: only m > 8; first-order words: also r other than 1) */
@@ -213,8 +213,8 @@ typedef struct {
 /* The archive's CINORBIS_VERSION. Promise: pumpbox::cinorbis_version. */
 CINORBIS_CALL uint32_t cinorbis_version(void);
 
-/* ---- Lengths, for a caller who has to lend memory: 0 where the code, or the first byte of a
- * record, is refused */
+/* ---- Lengths, for a caller who has to lend memory: 0 if the code, or the first byte of a record,
+ * is refused */
 
 /* n = 2^m. Promise: pumpbox::cinorbis_length. */
 CINORBIS_CALL cinorbis_size cinorbis_length(uint32_t m);
@@ -223,7 +223,7 @@ CINORBIS_CALL cinorbis_size cinorbis_length(uint32_t m);
  * Promise: pumpbox::cinorbis_dimension. */
 CINORBIS_CALL cinorbis_size cinorbis_dimension(uint32_t r, uint32_t m);
 
-/* How many bytes a record has, told by its first byte (§7). A number above 255 is no byte: 0.
+/* How many bytes a record has, given its first byte (§7). A number above 255 is no byte: 0.
  * Promise: record::record_length. */
 CINORBIS_CALL cinorbis_size cinorbis_record_length(uint32_t first_byte);
 
@@ -268,11 +268,11 @@ CINORBIS_CALL uint32_t cinorbis_search_within(uint32_t r, uint32_t m, uint32_t a
                                               cinorbis_size word_length, uint8_t runner_up[256],
                                               cinorbis_numbers *numbers);
 
-/* The early answer: the quick reading's word at once where it is surely the best one (§10), else by
+/* The early answer: the quick reading's word at once if it is surely the best one (§10), otherwise
  * the search with the default allowance. In: n readings. Out: the k bits and the word of least
  * penalty, and that penalty; gap and visits are 0, and there is no runner-up. Refuses 1, 2, 3, 4,
- * then 6 or 7 where the search was needed, each as cinorbis_search gives it. It pays where most
- * words arrive clean and the readings are clipped near the word's own size (README.md, "Speed").
+ * then 6 or 7 if the search was needed, each as cinorbis_search gives it. It pays if most words
+ * arrive clean and the readings are clipped near the word's own size (bench/README.md).
  * Promise: early::early. */
 CINORBIS_CALL uint32_t cinorbis_early(uint32_t r, uint32_t m, const int16_t *readings,
                                       cinorbis_size readings_length, uint8_t *bits,
@@ -356,7 +356,7 @@ CINORBIS_CALL uint32_t cinorbis_search_within_shortened(
  * cinorbis_search gives for the whole numbers that they are, runner-up and numbers too; no step is
  * rounded. A float is a reading exactly if it is a whole number from -32767 to 32767; minus zero is
  * 0. Any other entry, a fraction, a number beyond, a NaN or an infinity, is refused as 4. The float
- * mode has to be the default one: where numbers are flushed to zero, a fraction below 2^-126 is
+ * mode has to be the default one: if numbers are flushed to zero, a fraction below 2^-126 is
  * taken for 0. Refuses 1, 2, 3, 4, then 6 or 7.
  * Promise: float_search::search_float. */
 CINORBIS_CALL uint32_t cinorbis_search_float(uint32_t r, uint32_t m, const float *readings,
@@ -381,7 +381,7 @@ CINORBIS_CALL uint32_t cinorbis_record(const uint8_t *bytes, cinorbis_size bytes
 /* Writes a record into a buffer, from a place on. In: n readings, none beyond the largest of a
  * record. Out: the record's bytes in the buffer, all other bytes as they were, and the place after
  * the record, where the next one can go. cinorbis_record_length(16 * m + r) is how many bytes it
- * takes. Refuses 1, 2, 4, then 3 where the buffer has too little room from the place on; any place
+ * takes. Refuses 1, 2, 4, then 3 if the buffer has too little room from the place on; any place
  * may be given.
  * Promise: record::write. */
 CINORBIS_CALL uint32_t cinorbis_write_record(uint32_t r, uint32_t m, cinorbis_size place,
@@ -421,8 +421,8 @@ CINORBIS_CALL uint32_t cinorbis_index_make(const uint8_t *capture, cinorbis_size
 
 /* Record w, counted from 0, by the table's entry for its block. In: the part that is in use,
  * index.used bytes and (index.records + 15) / 16 entries; an entry past those is taken as it
- * stands. Out: its code and where its packed part stands. Refuses 10 with no entry, 8 for an entry
- * at or past the end, 1 and 8 as met in stepping, 10 where the capture ends right before w, then 1,
+ * is. Out: its code and where its packed part is. Refuses 10 with no entry, 8 for an entry
+ * at or past the end, 1 and 8 as met in stepping, 10 if the capture ends right before w, then 1,
  * 8, 9 of the record itself. With a table of another capture it still only refuses or gives some
  * part of the capture.
  * Promise: index::header_of, index::find, index::part_start. */
@@ -443,7 +443,7 @@ CINORBIS_CALL uint32_t cinorbis_index_append(uint32_t r, uint32_t m, const int16
                                              cinorbis_size entries, cinorbis_index *index,
                                              cinorbis_written *written);
 
-/* ---- Turned position orders (§12)
+/* ---- Position orders (§12)
  *
  * A map of the n = 2^m positions is a table A of m by m bits, row by row (table[p * m + q]), and a
  * row b of m bits: position j reads position A*j + b, bits modulo 2. Row p of A gives bit p, column
@@ -488,8 +488,8 @@ CINORBIS_CALL uint32_t cinorbis_product_map(uint32_t m, const uint8_t *table1,
 
 /* ---- Tilt telegrams (§11): a word of RM(2,5) that carries cylinder, direction and tilt, and a
  * marker. Readings that show a telegram, all negated as on a link that is turned over, give 13: no
- * readings show a tilt both ways. (Noise that the code cannot correct may show a wrong telegram, on
- * either link.) */
+ * readings show a tilt on both polarities. (Noise that the code cannot correct may show a wrong
+ * telegram, on either polarity.) */
 
 /* Out: word, 32 bits. Refuses 3, 14, 15, 16; the numbers are 0. Promise: telegram::write. */
 CINORBIS_CALL uint32_t cinorbis_telegram_write(uint32_t cylinder, uint32_t direction, uint32_t tilt,
