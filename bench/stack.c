@@ -16,7 +16,7 @@ static cinorbis_telegram shown;
 static cinorbis_written written;
 static cinorbis_index made;
 static cinorbis_entry entry;
-static size_t entries[1];
+static cinorbis_size entries[1];
 static uint8_t table[64], row[8], named[256];
 static int16_t moved[256];
 static cinorbis_numbers numbers;

@@ -8,7 +8,7 @@
 
 int main(void) {
     static uint8_t capture[ROOM];
-    static size_t table[ENTRIES];
+    static cinorbis_size table[ENTRIES];
     cinorbis_index index = {0, 0}; /* an empty capture */
     cinorbis_written written;
     for (int16_t i = 0; i < 40; i++) {
@@ -21,7 +21,7 @@ int main(void) {
     uint32_t refusal = cinorbis_index_find(37, capture, used, table, entries, &entry);
     if (refusal != CINORBIS_DONE) return printf("refused %u, %s\n", (unsigned)refusal, cinorbis_refusal_text(refusal)), 1;
     uint32_t r = (uint32_t)entry.r, m = (uint32_t)entry.m;
-    size_t n = cinorbis_length(m), k = cinorbis_dimension(r, m);
+    size_t n = (size_t)cinorbis_length(m), k = (size_t)cinorbis_dimension(r, m);
     int16_t readings[CINORBIS_LARGEST_N];
     uint8_t bits[CINORBIS_LARGEST_N], word[CINORBIS_LARGEST_N], runner_up[CINORBIS_LARGEST_N];
     cinorbis_numbers a;

@@ -24,7 +24,7 @@ static void is_out(const char *what, answer a, uint32_t allowed) {
 }
 
 /* the walk's answer: numbers and buffers */
-static void is_found(const char *what, answer a, int r, int m, long gap, unsigned long long visits) {
+static void is_found(const char *what, answer a, int r, int m, long long gap, unsigned long long visits) {
     uint8_t bits[256], word[256];
     size_t n = (size_t)1 << m, k = (size_t)ref_k(r, m);
     ref_word(m, walk.best, word);
@@ -45,7 +45,7 @@ static void long_walk(const uint8_t *bytes, size_t length) {
         l[j] = (int16_t)(field < 2048 ? field : field - 4096);
     }
     ref_walk(&walk, r, m, l, PROGRAM);
-    long gap = walk.second_penalty - walk.best_penalty;
+    long long gap = walk.second_penalty - walk.best_penalty;
     uint32_t needs = (uint32_t)walk.visits;
     begin("a record that needs %u visits", needs);
     CHECK(size <= length && !walk.out && needs > STANDING && gap > 0, "the stored record is another");

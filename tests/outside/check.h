@@ -87,4 +87,14 @@ static inline int only_first(const guarded *g, size_t n) {
            memcmp(g->before + GUARD + n, g->all + GUARD + n, sizeof g->all - GUARD - n) == 0;
 }
 
+/* how a uint64_t is printed where the C library does not say it (newlib), and how a cinorbis_size is */
+#ifndef PRIu64
+#define PRIu64 "llu"
+#endif
+#if SIZE_MAX == UINT64_MAX
+#define PRI_SIZE "zu"
+#else
+#define PRI_SIZE PRIu64
+#endif
+
 #endif

@@ -49,10 +49,10 @@ static void against_brute_force(int r, int m, const int16_t *l) {
     ref_best_t b = ref_best(r, m, l);
     answered s = run(r, m, UINT32_MAX, l);
     if (b.least == b.next) {
-        CHECK(s.a.refusal == 7 && s.a.penalty == b.least && s.a.gap == 0, "refusal %u, penalty %u of %ld", s.a.refusal, s.a.penalty, b.least);
+        CHECK(s.a.refusal == 7 && s.a.penalty == b.least && s.a.gap == 0, "refusal %u, penalty %u of %lld", s.a.refusal, s.a.penalty, b.least);
         return;
     }
-    CHECK(s.a.refusal == 0 && s.a.penalty == b.least && s.a.gap == b.next - b.least, "refusal %u, penalty %u of %ld, gap %u of %ld",
+    CHECK(s.a.refusal == 0 && s.a.penalty == b.least && s.a.gap == b.next - b.least, "refusal %u, penalty %u of %lld, gap %u of %lld",
           s.a.refusal, s.a.penalty, b.least, s.a.gap, b.next - b.least);
     CHECK(memcmp(s.bits, b.bits, (size_t)k) == 0 && memcmp(s.word, b.word, (size_t)n) == 0, "another word");
 }

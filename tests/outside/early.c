@@ -62,7 +62,7 @@ static void against_brute_force(int r, int m, const int16_t *l) {
     size_t n = (size_t)1 << m, k = (size_t)ref_k(r, m);
     ref_best_t b = ref_best(r, m, l);
     answer a = early_within((uint32_t)r, (uint32_t)m, UINT32_MAX, l, n, contents(&gb), k, contents(&gw), n);
-    CHECK(a.refusal == (b.least == b.next ? 7u : 0u) && a.penalty == b.least, "refusal %u, penalty %u of %ld", a.refusal, a.penalty, b.least);
+    CHECK(a.refusal == (b.least == b.next ? 7u : 0u) && a.penalty == b.least, "refusal %u, penalty %u of %lld", a.refusal, a.penalty, b.least);
     if (a.refusal == 0) CHECK(memcmp(contents(&gb), b.bits, k) == 0 && memcmp(contents(&gw), b.word, n) == 0, "another word");
 }
 

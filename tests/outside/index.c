@@ -9,15 +9,15 @@
 #define EDGE 8
 
 /* ---- the reference: a first byte's upper half is m, its lower half r; 12 bits for each reading, to a whole byte */
-static size_t bytes_of(uint8_t first) {
+static cinorbis_size bytes_of(uint8_t first) {
     unsigned m = first / 16, r = first % 16;
     return m > 8 || r > m ? 0 : 1 + ((12u << m) + 7) / 8;
 }
 
 /* the place after one record, or a refusal */
-static uint32_t one_step(const uint8_t *s, size_t n, size_t at, size_t *next) {
+static uint32_t one_step(const uint8_t *s, cinorbis_size n, cinorbis_size at, cinorbis_size *next) {
     if (at >= n) return 8;
-    size_t k = bytes_of(s[at]);
+    cinorbis_size k = bytes_of(s[at]);
     if (k == 0) return 1;
     if (n - at < k) return 8;
     *next = at + k;
@@ -25,10 +25,10 @@ static uint32_t one_step(const uint8_t *s, size_t n, size_t at, size_t *next) {
 }
 
 /* all starts, or the first refusal */
-static uint32_t all_starts(const uint8_t *s, size_t n, size_t *starts, size_t *count) {
-    size_t at = 0;
+static uint32_t all_starts(const uint8_t *s, cinorbis_size n, cinorbis_size *starts, cinorbis_size *count) {
+    cinorbis_size at = 0;
     for (*count = 0; at < n; ++*count) {
-        size_t next = 0;
+        cinorbis_size next = 0;
         uint32_t why = one_step(s, n, at, &next);
         if (why) return why;
         starts[*count] = at;
@@ -38,16 +38,16 @@ static uint32_t all_starts(const uint8_t *s, size_t n, size_t *starts, size_t *c
 }
 
 /* record w by a table */
-static uint32_t by_table(const uint8_t *s, size_t n, const size_t *t, size_t entries, size_t w, size_t *start) {
+static uint32_t by_table(const uint8_t *s, cinorbis_size n, const cinorbis_size *t, cinorbis_size entries, cinorbis_size w, cinorbis_size *start) {
     if (w / 16 >= entries) return 10;
-    size_t at = t[w / 16];
+    cinorbis_size at = t[w / 16];
     if (at >= n) return 8;
-    for (size_t j = w % 16; j > 0; j--) {
+    for (cinorbis_size j = w % 16; j > 0; j--) {
         uint32_t why = one_step(s, n, at, &at);
         if (why) return why;
     }
     if (at == n) return 10;
-    size_t next;
+    cinorbis_size next;
     uint32_t why = one_step(s, n, at, &next);
     if (why) return why;
     if (s[at] / 16 == 0 && s[at + 2] % 16 != 0) return 9;
@@ -56,20 +56,20 @@ static uint32_t by_table(const uint8_t *s, size_t n, const size_t *t, size_t ent
 }
 
 /* record w from the beginning */
-static uint32_t from_beginning(const uint8_t *s, size_t n, size_t w, size_t *start) {
-    size_t zero = 0, at = 0;
-    for (size_t j = w; j > 0; j--) {
+static uint32_t from_beginning(const uint8_t *s, cinorbis_size n, cinorbis_size w, cinorbis_size *start) {
+    cinorbis_size zero = 0, at = 0;
+    for (cinorbis_size j = w; j > 0; j--) {
         uint32_t why = one_step(s, n, at, &at);
         if (why) return why;
     }
     if (at == n) return 10;
-    size_t table[1] = {at};
+    cinorbis_size table[1] = {at};
     return by_table(s, n, table, 1, zero, start);
 }
 
 /* ---- buffers with guards */
 static uint8_t capture[EDGE + BYTES + EDGE], capture_before[EDGE + BYTES + EDGE];
-static size_t table[EDGE + ENTRIES + EDGE], table_before[EDGE + ENTRIES + EDGE], starts[STARTS];
+static cinorbis_size table[EDGE + ENTRIES + EDGE], table_before[EDGE + ENTRIES + EDGE], starts[STARTS];
 
 static void keep(void) {
     memcpy(capture_before, capture, sizeof capture);
@@ -79,7 +79,7 @@ static void keep(void) {
 static int kept(void) { return memcmp(capture_before, capture, sizeof capture) == 0 && memcmp(table_before, table, sizeof table) == 0; }
 
 /* a record of k bytes and its entry were added to what was kept, and nothing else; both are taken off again */
-static void only_appended(cinorbis_index before, size_t k) {
+static void only_appended(cinorbis_index before, cinorbis_size k) {
     memcpy(capture + EDGE + before.used, capture_before + EDGE + before.used, k);
     if (before.records % 16 == 0) {
         CHECK(table[EDGE + before.records / 16] == before.used, "another entry");
@@ -89,15 +89,15 @@ static void only_appended(cinorbis_index before, size_t k) {
 }
 
 static void scramble(void) {
-    for (size_t i = 0; i < sizeof capture; i++) capture[i] = (uint8_t)random64();
-    for (size_t i = 0; i < sizeof table / sizeof table[0]; i++) table[i] = (size_t)random64();
+    for (cinorbis_size i = 0; i < sizeof capture; i++) capture[i] = (uint8_t)random64();
+    for (cinorbis_size i = 0; i < sizeof table / sizeof table[0]; i++) table[i] = (cinorbis_size)random64();
 }
 
 /* so many whole records of small codes; pads are arbitrary. Gives the bytes. */
-static size_t fill(size_t records) {
-    size_t at = 0;
+static cinorbis_size fill(cinorbis_size records) {
+    cinorbis_size at = 0;
     scramble();
-    for (size_t w = 0; w < records; w++) {
+    for (cinorbis_size w = 0; w < records; w++) {
         unsigned m = (unsigned)random_below(random_below(8) ? 3 : 6);
         capture[EDGE + at] = (uint8_t)(16 * m + (unsigned)random_below((int)m + 1));
         at += bytes_of(capture[EDGE + at]);
@@ -105,43 +105,43 @@ static size_t fill(size_t records) {
     return at;
 }
 
-static void found(const uint8_t *s, size_t n, const size_t *t, size_t entries, size_t w) {
+static void found(const uint8_t *s, cinorbis_size n, const cinorbis_size *t, cinorbis_size entries, cinorbis_size w) {
     cinorbis_entry e;
-    size_t start = 0;
+    cinorbis_size start = 0;
     memset(&e, 0xA5, sizeof e);
     uint32_t expected = by_table(s, n, t, entries, w, &start), given = cinorbis_index_find(w, s, n, t, entries, &e);
-    CHECK(given == expected, "record %zu: %u, not %u", w, given, expected);
+    CHECK(given == expected, "record %" PRI_SIZE ": %u, not %u", w, given, expected);
     if (expected)
         CHECK(e.r == 0 && e.m == 0 && e.start == 0 && e.length == 0 && e.place == 0, "numbers under %u", expected);
     else
         CHECK(e.r == s[start] % 16u && e.m == s[start] / 16u && e.start == start + 1 && e.length == bytes_of(s[start]) - 1 && e.place == 0,
-              "record %zu: start %" PRIu64 ", length %" PRIu64, w, e.start, e.length);
+              "record %" PRI_SIZE ": start %" PRIu64 ", length %" PRIu64, w, e.start, e.length);
     if (!expected) CHECK(e.start + e.length <= n, "outside of the capture");
 }
 
 static void whole_captures(void) {
     begin("whole captures: make, the table's entries, every record, and past the last");
-    for (size_t records = 0; records < 70; records++)
+    for (cinorbis_size records = 0; records < 70; records++)
         for (int t = 0; t < 4; t++) {
-            size_t n = fill(records), count, entries = (records + 15) / 16;
+            cinorbis_size n = fill(records), count, entries = (records + 15) / 16;
             cinorbis_index index;
-            CHECK(all_starts(capture + EDGE, n, starts, &count) == 0 && count == records, "the reference counts %zu", count);
+            CHECK(all_starts(capture + EDGE, n, starts, &count) == 0 && count == records, "the reference counts %" PRI_SIZE, count);
             keep();
             memset(&index, 0xA5, sizeof index);
-            CHECK(cinorbis_index_make(capture + EDGE, n, table + EDGE, entries + (size_t)t, &index) == 0, "refused");
+            CHECK(cinorbis_index_make(capture + EDGE, n, table + EDGE, entries + (cinorbis_size)t, &index) == 0, "refused");
             CHECK(index.records == records && index.used == n, "%" PRIu64 " records, %" PRIu64 " bytes", index.records, index.used);
-            for (size_t q = 0; q < entries; q++) {
-                CHECK(table[EDGE + q] == starts[16 * q], "entry %zu", q);
+            for (cinorbis_size q = 0; q < entries; q++) {
+                CHECK(table[EDGE + q] == starts[16 * q], "entry %" PRI_SIZE, q);
                 table[EDGE + q] = table_before[EDGE + q];
             }
             CHECK(kept(), "an entry past those made, or a byte of the capture");
-            for (size_t q = 0; q < entries; q++) table[EDGE + q] = starts[16 * q];
-            for (size_t w = 0; w < records + 40; w++) {
-                size_t a = 0, b = 0;
+            for (cinorbis_size q = 0; q < entries; q++) table[EDGE + q] = starts[16 * q];
+            for (cinorbis_size w = 0; w < records + 40; w++) {
+                cinorbis_size a = 0, b = 0;
                 found(capture + EDGE, n, table + EDGE, entries, w);
                 uint32_t x = by_table(capture + EDGE, n, table + EDGE, entries, w, &a), y = from_beginning(capture + EDGE, n, w, &b);
                 if (w / 16 < entries)
-                    CHECK(x == y && a == b, "record %zu: %u by the table, %u from the beginning", w, x, y);
+                    CHECK(x == y && a == b, "record %" PRI_SIZE ": %u by the table, %u from the beginning", w, x, y);
                 else
                     CHECK(x == 10 && y == (w == records ? 10u : 8u), "past the table: %u and %u", x, y);
             }
@@ -152,10 +152,10 @@ static void whole_captures(void) {
 static void refused(void) {
     begin("making: 1 or 8, whichever is met first, then 3; nothing is written");
     for (int t = 0; t < 3000; t++) {
-        size_t records = (size_t)random_below(60), n = fill(records), count, room = (size_t)random_below(6);
-        if (t % 3 == 1 && n) capture[EDGE + (size_t)random_below((int)n)] = (uint8_t)random64();
-        if (t % 3 == 2 && n) n -= (size_t)random_below((int)(n < 9 ? n : 9));
-        if (t % 5 == 0) n += (size_t)random_below(4);
+        cinorbis_size records = (cinorbis_size)random_below(60), n = fill(records), count, room = (cinorbis_size)random_below(6);
+        if (t % 3 == 1 && n) capture[EDGE + (cinorbis_size)random_below((int)n)] = (uint8_t)random64();
+        if (t % 3 == 2 && n) n -= (cinorbis_size)random_below((int)(n < 9 ? n : 9));
+        if (t % 5 == 0) n += (cinorbis_size)random_below(4);
         uint32_t why = all_starts(capture + EDGE, n, starts, &count), expected = why ? why : room < (count + 15) / 16 ? 3 : 0;
         cinorbis_index index;
         memset(&index, 0xA5, sizeof index);
@@ -168,18 +168,18 @@ static void refused(void) {
 }
 
 static void foreign_tables(void) {
-    static const size_t far_off[] = {SIZE_MAX, SIZE_MAX - 1, SIZE_MAX - 15, SIZE_MAX - 16, SIZE_MAX / 2, SIZE_MAX / 16, (size_t)1 << 60};
+    static const cinorbis_size far_off[] = {UINT64_MAX, UINT64_MAX - 1, UINT64_MAX - 15, UINT64_MAX - 16, UINT64_MAX / 2, UINT64_MAX / 16, (cinorbis_size)1 << 60};
     begin("any table and any number: refused, or a part of the capture; nothing is written");
     for (int t = 0; t < 3000; t++) {
-        size_t n = fill((size_t)random_below(40)), entries = (size_t)random_below(5);
-        if (t % 3 == 0 && n) n -= (size_t)random_below((int)(n < 30 ? n : 30));
-        for (size_t q = 0; q < entries; q++) {
+        cinorbis_size n = fill((cinorbis_size)random_below(40)), entries = (cinorbis_size)random_below(5);
+        if (t % 3 == 0 && n) n -= (cinorbis_size)random_below((int)(n < 30 ? n : 30));
+        for (cinorbis_size q = 0; q < entries; q++) {
             int kind = random_below(6);
-            table[EDGE + q] = kind == 0 ? far_off[random_below(7)] : kind == 1 ? n : kind == 2 ? n + 1 : n ? (size_t)random64() % n : 0;
+            table[EDGE + q] = kind == 0 ? far_off[random_below(7)] : kind == 1 ? n : kind == 2 ? n + 1 : n ? (cinorbis_size)random64() % n : 0;
         }
         keep();
         for (int j = 0; j < 40; j++) {
-            size_t w = j < 7 ? far_off[j] : (size_t)random_below(90);
+            cinorbis_size w = j < 7 ? far_off[j] : (cinorbis_size)random_below(90);
             found(capture + EDGE, n, table + EDGE, entries, w);
         }
         CHECK(kept(), "written");
@@ -190,14 +190,14 @@ static void foreign_tables(void) {
 static void pads(void) {
     begin("a pad bit is refused as 9 in the record asked for, not in one stepped over");
     for (int t = 0; t < 200; t++) {
-        size_t records = 20, n = 3 * records, bad = (size_t)random_below((int)records), zero = 0;
+        cinorbis_size records = 20, n = 3 * records, bad = (cinorbis_size)random_below((int)records), zero = 0;
         cinorbis_entry e;
         cinorbis_index index;
         scramble();
-        for (size_t w = 0; w < records; w++) capture[EDGE + 3 * w] = 0, capture[EDGE + 3 * w + 2] = (uint8_t)(16 * random_below(16));
+        for (cinorbis_size w = 0; w < records; w++) capture[EDGE + 3 * w] = 0, capture[EDGE + 3 * w + 2] = (uint8_t)(16 * random_below(16));
         capture[EDGE + 3 * bad + 2] |= (uint8_t)(1 << random_below(4));
         CHECK(cinorbis_index_make(capture + EDGE, n, table + EDGE, 2, &index) == 0 && index.records == records, "not made");
-        for (size_t w = 0; w < records; w++) CHECK(cinorbis_index_find(w, capture + EDGE, n, table + EDGE, 2, &e) == (w == bad ? 9u : 0u), "record %zu", w);
+        for (cinorbis_size w = 0; w < records; w++) CHECK(cinorbis_index_find(w, capture + EDGE, n, table + EDGE, 2, &e) == (w == bad ? 9u : 0u), "record %" PRI_SIZE, w);
         CHECK(cinorbis_index_find(bad % 16, capture + EDGE, n, &zero, 1, &e) == (bad < 16 ? 9u : 0u), "by a table of one entry");
     }
     end();
@@ -208,12 +208,12 @@ static void appends(void) {
     for (int t = 0; t < 12; t++) {
         scramble();
         cinorbis_index index = {0, 0};
-        size_t room = 1200 + (size_t)random_below(300), entries = (size_t)random_between(1, 6);
+        cinorbis_size room = 1200 + (cinorbis_size)random_below(300), entries = (cinorbis_size)random_between(1, 6);
         for (int j = 0; j < 120; j++) {
             uint32_t m = (uint32_t)random_below(3), r = (uint32_t)random_below((int)m + 1);
             int16_t l[4];
-            size_t n = (size_t)1 << m, k = bytes_of((uint8_t)(16 * m + r));
-            for (size_t i = 0; i < n; i++) l[i] = (int16_t)random_between(-2047, 2047);
+            cinorbis_size n = (cinorbis_size)1 << m, k = bytes_of((uint8_t)(16 * m + r));
+            for (cinorbis_size i = 0; i < n; i++) l[i] = (int16_t)random_between(-2047, 2047);
             cinorbis_index before = index, afresh;
             cinorbis_written w;
             memset(&w, 0xA5, sizeof w);
@@ -245,7 +245,7 @@ static void append_refused(void) {
     begin("appending: 1, 2, 4 with its place, then 3 for either buffer; an index that belongs to nothing");
     for (int t = 0; t < 20000; t++) {
         uint32_t m = (uint32_t)random_below(4), r = (uint32_t)random_below((int)m + 1), R = r, M = m;
-        size_t n = (size_t)1 << m, given_n = n, k = bytes_of((uint8_t)(16 * m + r)), at = (size_t)random_below((int)n), room = 60, entries = 3;
+        cinorbis_size n = (cinorbis_size)1 << m, given_n = n, k = bytes_of((uint8_t)(16 * m + r)), at = (cinorbis_size)random_below((int)n), room = 60, entries = 3;
         int16_t l[16] = {0};
         if (random_below(4) == 0) R = random_below(2) ? M + 1 : UINT32_MAX;
         else if (random_below(6) == 0) M = 9;
@@ -260,7 +260,7 @@ static void append_refused(void) {
         keep();
         cinorbis_written w;
         memset(&w, 0xA5, sizeof w);
-        int parameters = M > 8 || R > M, length = given_n != ((size_t)1 << (M > 8 ? 0 : M));
+        int parameters = M > 8 || R > M, length = given_n != ((cinorbis_size)1 << (M > 8 ? 0 : M));
         int space = index.used > room || room - index.used < k;
         int no_entry = index.records == UINT64_MAX || (index.records % 16 == 0 && index.records / 16 >= entries);
         uint32_t e = parameters ? 1 : length ? 2 : bad ? 4 : space || no_entry ? 3 : 0;

@@ -61,8 +61,8 @@ static inline void random_word(int r, int m, uint8_t *x) {
     ref_encode(r, m, bits, x);
 }
 
-static inline long ref_penalty(int n, const int16_t *l, const uint8_t *x) {
-    long p = 0;
+static inline long long ref_penalty(int n, const int16_t *l, const uint8_t *x) {
+    long long p = 0;
     for (int j = 0; j < n; j++) {
         if (l[j] > 0 && x[j] == 1) p += l[j];
         if (l[j] < 0 && x[j] == 0) p += -l[j];
@@ -71,7 +71,7 @@ static inline long ref_penalty(int n, const int16_t *l, const uint8_t *x) {
 }
 
 typedef struct {
-    long least, next; /* penalties, with repeats */
+    long long least, next; /* penalties, with repeats */
     uint8_t bits[REF_N], word[REF_N];
 } ref_best_t;
 
@@ -83,7 +83,7 @@ static inline ref_best_t ref_best(int r, int m, const int16_t *l) {
         uint8_t bits[REF_N], x[REF_N];
         for (int i = 0; i < k; i++) bits[i] = (uint8_t)((w >> i) & 1);
         ref_encode(r, m, bits, x);
-        long p = ref_penalty(n, l, x);
+        long long p = ref_penalty(n, l, x);
         if (b.least < 0 || p < b.least) {
             b.next = b.least;
             b.least = p;
@@ -132,14 +132,14 @@ typedef struct {
     int r, m, held;
     long l[REF_N];
     uint8_t u[REF_N], best[REF_N], second[REF_N];
-    long best_penalty, second_penalty;
+    long long best_penalty, second_penalty;
     unsigned long long visits, limit;
     int out, met_zero;
 } ref_walk_t;
 
-static inline void ref_walk_from(ref_walk_t *w, int i, long p);
+static inline void ref_walk_from(ref_walk_t *w, int i, long long p);
 
-static inline void ref_extend(ref_walk_t *w, int i, long v, int bit, long p) {
+static inline void ref_extend(ref_walk_t *w, int i, long v, int bit, long long p) {
     if (w->out) return;
     if (w->visits == w->limit) {
         w->out = 1;
@@ -153,7 +153,7 @@ static inline void ref_extend(ref_walk_t *w, int i, long v, int bit, long p) {
     ref_walk_from(w, i + 1, p);
 }
 
-static inline void ref_walk_from(ref_walk_t *w, int i, long p) {
+static inline void ref_walk_from(ref_walk_t *w, int i, long long p) {
     int n = 1 << w->m;
     if (i == n) {
         if (w->held == 0 || p < w->best_penalty) {

@@ -82,7 +82,7 @@ static void against_all_words(int r, int m, const int16_t *l) {
         return;
     }
     ref_encode(r, m, s.second, x);
-    CHECK(ref_penalty(n, l, x) == b.next && (long)s.a.penalty + (long)s.a.gap == b.next, "penalty %ld of %ld", ref_penalty(n, l, x), b.next);
+    CHECK(ref_penalty(n, l, x) == b.next && (long long)s.a.penalty + (long long)s.a.gap == b.next, "penalty %lld of %lld", ref_penalty(n, l, x), b.next);
     CHECK(memcmp(x, s.word, (size_t)n) != 0, "the best word as runner-up");
     for (unsigned long w = 0; w < 1ul << k; w++) {
         uint8_t bits[256], y[256];

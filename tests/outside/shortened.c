@@ -113,7 +113,7 @@ static void searched(int r, int m, uint32_t allowed, const uint8_t *named, const
         CHECK(a.refusal == 6 && a.visits == allowed && a.penalty == 0 && a.gap == 0 && kept(1), "refusal %u, visits %u", a.refusal, a.visits);
         return;
     }
-    CHECK(a.penalty == w.best_penalty && a.visits == w.visits, "penalty %u of %ld, visits %u of %llu", a.penalty, w.best_penalty, a.visits, w.visits);
+    CHECK(a.penalty == w.best_penalty && a.visits == w.visits, "penalty %u of %lld, visits %u of %llu", a.penalty, w.best_penalty, a.visits, w.visits);
     if (w.best_penalty == w.second_penalty) {
         CHECK(a.refusal == 7 && a.gap == 0 && kept(1), "refusal %u", a.refusal);
     } else {
@@ -126,7 +126,7 @@ static void searched(int r, int m, uint32_t allowed, const uint8_t *named, const
     }
     if (!brute) return;
     ref_best_t b = ref_best(r, m, l);
-    CHECK(a.penalty == b.least && a.refusal == (b.least == b.next ? 7u : 0u), "penalty %u of %ld", a.penalty, b.least);
+    CHECK(a.penalty == b.least && a.refusal == (b.least == b.next ? 7u : 0u), "penalty %u of %lld", a.penalty, b.least);
     if (a.refusal == 0) CHECK(a.gap == (uint32_t)(b.next - b.least) && memcmp(contents(&gw), b.word, n) == 0, "not the best");
 }
 

@@ -5,19 +5,19 @@
 
 static guarded buffer;
 
-static size_t length_of(uint32_t m) { return 1 + (12 * ((size_t)1 << m) + 7) / 8; }
+static cinorbis_size length_of(uint32_t m) { return 1 + (12 * ((cinorbis_size)1 << m) + 7) / 8; }
 
 /* the record bit by bit, most significant first */
 static void expected_bytes(uint32_t r, uint32_t m, const int16_t *l, uint8_t *out) {
-    size_t n = (size_t)1 << m, at = 0;
+    cinorbis_size n = (cinorbis_size)1 << m, at = 0;
     memset(out, 0, length_of(m));
     for (int i = 3; i >= 0; i--) out[at / 8] |= (uint8_t)((m >> i & 1) << (7 - at % 8)), at++;
     for (int i = 3; i >= 0; i--) out[at / 8] |= (uint8_t)((r >> i & 1) << (7 - at % 8)), at++;
-    for (size_t j = 0; j < n; j++)
+    for (cinorbis_size j = 0; j < n; j++)
         for (int i = 11; i >= 0; i--) out[at / 8] |= (uint8_t)(((l[j] + 4096) >> i & 1) << (7 - at % 8)), at++;
 }
 
-static uint32_t write_at(uint32_t r, uint32_t m, size_t place, const int16_t *l, size_t n, size_t room, cinorbis_written *w) {
+static uint32_t write_at(uint32_t r, uint32_t m, cinorbis_size place, const int16_t *l, cinorbis_size n, cinorbis_size room, cinorbis_written *w) {
     memset(w, 0xA5, sizeof *w);
     return cinorbis_write_record(r, m, place, l, n, contents(&buffer), room, w);
 }
@@ -27,13 +27,13 @@ static void written(void) {
     for (uint32_t m = 0; m <= 8; m++)
         for (uint32_t r = 0; r <= m; r++)
             for (int t = 0; t < 12; t++) {
-                size_t n = (size_t)1 << m, k = length_of(m), place = (size_t)random_below(500), behind = (size_t)random_below(3);
+                cinorbis_size n = (cinorbis_size)1 << m, k = length_of(m), place = (cinorbis_size)random_below(500), behind = (cinorbis_size)random_below(3);
                 int16_t l[256], back[256];
                 uint8_t record[400];
                 cinorbis_written w;
                 cinorbis_part p;
                 cinorbis_numbers a;
-                for (size_t j = 0; j < n; j++)
+                for (cinorbis_size j = 0; j < n; j++)
                     l[j] = (int16_t)(t == 0 ? 2047 : t == 1 ? -2047 : t == 2 ? 0 : t == 3 ? -1 : random_between(-2047, 2047));
                 expected_bytes(r, m, l, record);
                 arm(&buffer);
@@ -56,7 +56,7 @@ static void written(void) {
 
 static void refused(void) {
     static const uint32_t bad_r[] = {1, 9, 0, UINT32_MAX, 5}, bad_m[] = {0, 8, 9, UINT32_MAX, 4};
-    static const size_t far_off[] = {SIZE_MAX, SIZE_MAX - 1, SIZE_MAX - 384, SIZE_MAX / 2};
+    static const cinorbis_size far_off[] = {UINT64_MAX, UINT64_MAX - 1, UINT64_MAX - 384, UINT64_MAX / 2};
     begin("refusals: 1, 2, 4 with its place, then 3; nothing is written");
     for (uint32_t m = 0; m <= 4; m++)
         for (uint32_t r = 0; r <= m; r++)
@@ -66,20 +66,20 @@ static void refused(void) {
                         for (int space = 0; space < 9; space++) {
                             static const int off[] = {0, -1, 1, 4};
                             uint32_t R = code ? bad_r[code - 1] : r, M = code ? bad_m[code - 1] : m;
-                            size_t n = (size_t)1 << m, ni = n + (size_t)off[in], k = length_of(m);
+                            cinorbis_size n = (cinorbis_size)1 << m, ni = n + (cinorbis_size)off[in], k = length_of(m);
                             int16_t l[32];
                             for (int j = 0; j < 32; j++) l[j] = (int16_t)random_between(-2047, 2047);
-                            size_t at = (size_t)random_below((int)n);
+                            cinorbis_size at = (cinorbis_size)random_below((int)n);
                             if (entry) {
                                 l[at] = (int16_t)(entry == 1 ? 2048 : entry == 2 ? -2048 : random_below(2) ? INT16_MIN : INT16_MAX);
                                 l[31] = 2048;
                                 if (at < n - 1) l[n - 1] = -2048;
                             }
                             /* 0: just enough; then one byte too few, the place at the end, beyond it, no buffer at all, and places that would wrap */
-                            size_t place = (size_t)random_below(9), room = place + k;
+                            cinorbis_size place = (cinorbis_size)random_below(9), room = place + k;
                             if (space == 1) room--;
                             if (space == 2) room = place;
-                            if (space == 3) room = place, place += (size_t)random_between(1, 500);
+                            if (space == 3) room = place, place += (cinorbis_size)random_between(1, 500);
                             if (space == 4) room = 0;
                             if (space > 4) place = far_off[space - 5], room = 300;
                             uint32_t e = code ? 1 : off[in] ? 2 : entry ? 4 : space ? 3 : 0;
@@ -99,13 +99,13 @@ static void rails(void) {
     begin("a record with the bottom rail: read as -2,047, written again to other bytes that are read the same");
     for (uint32_t m = 0; m <= 8; m++)
         for (int t = 0; t < 20; t++) {
-            size_t n = (size_t)1 << m, k = length_of(m), at = (size_t)random_below((int)n);
+            cinorbis_size n = (cinorbis_size)1 << m, k = length_of(m), at = (cinorbis_size)random_below((int)n);
             int16_t l[256], back[256], again[256];
             uint8_t record[400];
             cinorbis_written w;
             cinorbis_part p;
             cinorbis_numbers a;
-            for (size_t j = 0; j < n; j++) l[j] = (int16_t)random_between(-2047, 2047);
+            for (cinorbis_size j = 0; j < n; j++) l[j] = (int16_t)random_between(-2047, 2047);
             l[at] = -2048;
             expected_bytes(m / 2, m, l, record);
             CHECK(cinorbis_record(record, k, &p) == 0 && p.place == 0 && p.length == k - 1, "refused");
@@ -121,7 +121,7 @@ static void rails(void) {
 
 static void capture(void) {
     begin("records one after another, and the search of each");
-    size_t next = 0;
+    cinorbis_size next = 0;
     arm(&buffer);
     for (int t = 0; t < 12; t++) {
         int16_t l[4];
