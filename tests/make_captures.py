@@ -58,7 +58,8 @@ def captures():
     yield "r_above_m", example + b"\x12" + example
     yield "bottom_rail", pack(1, 2, [5, -2, -2048, 1]) + example
     yield "pad_before_rail", b"\x00\x80\x01" + example
-    yield "loud_hull", b"".join(pack(r, m, [max(-2048, min(2047, 5 * v)) for v in noisy(rng_loud, r, m, 500, 450)]) for r, m in [(1, 3), (2, 5), (1, 4), (0, 0), (2, 4)])
+    loud = [(r, m, noisy(rng_loud, r, m, 500, 450)) for r, m in [(1, 3), (2, 5), (1, 4), (0, 0), (2, 4)]]
+    yield "loud_hull", b"".join(pack(r, m, [max(-2048, min(2047, 5 * v)) for v in readings]) for r, m, readings in loud)
     yield "rails", pack(1, 2, [2047, -2047, 2047, 2047]) + pack(0, 0, [-2047]) + pack(0, 0, [2047])
     yield "tie", tie + example + pack(1, 2, [0, 0, 0, 0])
     yield "each_pad", b"".join(pack(0, 0, [3], pad) for pad in range(16))
