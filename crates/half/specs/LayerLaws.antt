@@ -39,17 +39,20 @@ module _ (k : ℕ) (x : List ℕ) (e : 2 ^ k + 2 ^ k ≤ length x) where
       ∙ ap (λ (l : List ℕ). firstWord ++ (secondWord ++ blocks (transform k) h l)) (drop-drop h h x)
       ∙ sym (append-assoc firstWord secondWord (blocks (transform k) h (drop (h + h) x)))
 
-  -- folded, they are the word of both
-  folded-words : folded (2 ^ k) (firstWord ++ secondWord) ≡ transform (suc k) (take (2 ^ k + 2 ^ k) x)
+  -- the word of both, from theirs; folded, they are it
+  pub joined-words : transform (suc k) (take (2 ^ k + 2 ^ k) x) ≡ xors firstWord secondWord ++ secondWord
   unfolding transform
-  folded-words =
+  joined-words =
       let h = 2 ^ k in
       let q : h + h - h ≡ h = omega arith in
+      rw (take-take h (h + h) x (omega arith), drop-take h (h + h) x, q) refl
+
+  folded-words : folded (2 ^ k) (firstWord ++ secondWord) ≡ transform (suc k) (take (2 ^ k + 2 ^ k) x)
+  folded-words =
+      let h = 2 ^ k in
       let both : folded h (firstWord ++ secondWord) ≡ xors firstWord secondWord ++ secondWord =
       rw (take-at firstWord secondWord h length-firstWord, drop-at firstWord secondWord h length-firstWord) refl in
-      let whole : transform (suc k) (take (h + h) x) ≡ xors firstWord secondWord ++ secondWord =
-      rw (take-take h (h + h) x (omega arith), drop-take h (h + h) x, q) refl in
-      both ∙ sym whole
+      both ∙ sym joined-words
 
 -- ---- one layer makes of the words of 2^k bits those of twice as many; x has c pairs of them
 layer-doubles : (k c : ℕ) (x : List ℕ) → length x ≡ c * 2 ^ suc k

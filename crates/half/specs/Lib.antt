@@ -6,6 +6,7 @@ pub mod BlockLaws
 pub mod LayerLaws
 pub mod Eight
 pub mod EightLaws
+pub mod SixteenLaws
 pub mod FillLaws
 pub mod Pick
 pub mod PickLaws

@@ -1,7 +1,7 @@
 // On lent bytes: fold, the in-place transform, filling a row with information bits and taking
 // them back.
 ghost use mathlib.Core.Path.{_≡_};
-ghost use Prim.Native.Nat.{_+_, _*_, _-_, _^_, _≤_, _<_};
+ghost use Prim.Native.Nat.{_+_, _*_, _-_, _^_, _%_, _≤_, _<_};
 ghost use mathlib.Core.List.{_++_};
 ghost use lib.Dec.{ltb};
 ghost use lib.ListN.{length, take, drop};
@@ -389,13 +389,50 @@ pub fn first_frozen_one(kinds: &[u8], row: &[u8]) -> usize
     i
 }
 
-// The row u that a word comes from: the transform is its own inverse.
+// The transform of the first sixteen bits of a word, put in front of a row: eight bits in each of
+// two numbers, and the fourth layer between them.
+fn put_sixteen(word: &[u8], row: &mut [u8])
+    requires { ⌜ (16 ≤ length (now word)) × (16 ≤ length (now row)) × Bits (now word) ⌝ }
+    ensures { λ _. ⌜ now (row .exit)
+        ≡ transform 4 (take 16 (now (word .entry))) ++ drop 16 (now (row .entry)) ⌝ }
+{
+    let x = three_layers(load(word));
+    let y = three_layers(load(&word[8..]));
+    store(row, x ^ y);
+    store(&mut row[8..], y);
+}
+
+// The transform of each block of sixteen bits of a word.
+fn put_sixteens(word: &[u8], row: &mut [u8])
+    requires { ⌜ (length (now row) ≡ length (now word)) × (length (now word) % 16 ≡ 0)
+        × Bits (now word) ⌝ }
+    ensures { λ _. ⌜ now (row .exit) ≡ blocks (transform 4) 16 (now (word .entry)) ⌝ }
+{
+    let n = word.len();
+    let mut at = 0;
+    while 16 <= n - at {
+        put_sixteen(&word[at..], &mut row[at..]);
+        at += 16;
+    }
+}
+
+// The row u that a word comes from: the transform is its own inverse. From sixteen bits on the
+// first four layers are made at once, with no copy of the word before them.
 pub fn put_row(word: &[u8], row: &mut [u8], m: usize)
     requires { ⌜ (length (now word) ≡ 2 ^ m) × (length (now row) ≡ 2 ^ m) × Bits (now word) ⌝ }
     ensures { λ _. ⌜ now (row .exit) ≡ transform m (now (word .entry)) ⌝ }
 {
-    copy(word, row);
-    transform(row, m);
+    if m < 3 {
+        copy(word, row);
+        transform(row, m);
+        return;
+    }
+    if m == 3 {
+        store(row, three_layers(load(word)));
+        return;
+    }
+    put_sixteens(word, row);
+    layers(row, 16, m - 4);
 }
 
 // The information bits of a word of at most 256 bits.
