@@ -198,7 +198,7 @@ typedef struct {
  * refused. */
 typedef struct {
     cinorbis_index index; /* as cinorbis_index_make gives it for these index.used bytes */
-    uint64_t ended;       /* 0: the capture's end; 1 or 8: why no whole record starts at index.used */
+    uint64_t ended;       /* 0: the capture's end; 1 or 8: what is wrong at index.used */
 } cinorbis_front;
 
 /* A record of a capture. All 0 when refused. */
@@ -429,9 +429,9 @@ CINORBIS_CALL uint32_t cinorbis_index_make(const uint8_t *capture, cinorbis_size
 /* Makes the table of the whole records at the front of a capture, whatever follows them: of the
  * longest part that cinorbis_index_make takes. Out: table and index as that call gives them for the
  * part, and what ended it: 0 if it is the whole capture, else the 1 or 8 that cinorbis_index_make
- * gives for every longer part. Records are then found in these index.used bytes, and appended behind
- * them. (capture_length / 3 + 15) / 16 entries are always enough. Refuses only 3, where the table
- * has too few.
+ * gives for every longer part. Records are then found in these index.used bytes, and appended
+ * behind them. (capture_length / 3 + 15) / 16 entries are always enough. Refuses only 3, where the
+ * table has too few.
  * Promise: index::front. */
 CINORBIS_CALL uint32_t cinorbis_index_front(const uint8_t *capture, cinorbis_size capture_length,
                                             cinorbis_size *table, cinorbis_size entries,
