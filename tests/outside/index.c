@@ -189,9 +189,9 @@ static size_t any_bytes(int kind) {
     return n;
 }
 
-/* making refuses every longer part with the number that ended the front, also where it has no entry to write into */
+/* making refuses longer parts with the number that ended the front, also where it has no entry to write into */
 static void longer_parts(size_t n, size_t used, uint32_t ended) {
-    for (size_t k = used + 1; k <= n; k++) {
+    for (size_t k = used + 1; k <= n; k += 1 + (k - used) / 8) {
         cinorbis_index index;
         CHECK(cinorbis_index_make(capture + EDGE, k, table + EDGE, k % 2 ? ENTRIES : 0, &index) == ended, "%zu bytes of %zu", k, n);
     }
@@ -200,7 +200,7 @@ static void longer_parts(size_t n, size_t used, uint32_t ended) {
 static void fronts(void) {
     unsigned long met[9] = {0};
     begin("the front of any bytes: its index and table as made of it, what ended it, and no longer part");
-    for (int t = 0; t < 2000; t++) {
+    for (int t = 0; t < 1000; t++) {
         size_t n = any_bytes(t % 5), count, used, room = (n / 3 + 15) / 16;
         uint32_t ended = at_front(capture + EDGE, n, starts, &count, &used);
         cinorbis_front front;
