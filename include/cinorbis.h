@@ -530,9 +530,9 @@ CINORBIS_CALL uint32_t cinorbis_telegram_read_within(uint32_t allowed, const int
                                                      cinorbis_telegram *telegram,
                                                      cinorbis_numbers *numbers);
 
-/* The telegram that 16 information bits say, for example those of a runner-up: what
- * cinorbis_telegram_read makes of the bits that its search finds. The numbers are 0, except the
- * place under 4. Refuses 2 for a length other than 16, 4 for a byte above 1, then 13, 14, 15.
+/* The telegram that information bits say, for example those of a runner-up: what
+ * cinorbis_telegram_read makes of the bits that its search finds. In: 16 bits. Out: the telegram;
+ * the numbers are 0, except the place under 4. Refuses 2, 4, then 13, 14, 15.
  * Promise: telegram::of_bits. */
 CINORBIS_CALL uint32_t cinorbis_telegram_of_bits(const uint8_t *bits, cinorbis_size bits_length,
                                                  cinorbis_telegram *telegram,
