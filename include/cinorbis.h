@@ -68,7 +68,7 @@ extern "C" {
 
 /* Raised when a call is added or changed. An archive of another version may take other arguments:
  * compare once, at the start, with cinorbis_version(). */
-#define CINORBIS_VERSION 16
+#define CINORBIS_VERSION 17
 
 #define CINORBIS_LARGEST_M 8u
 /* A reading is from -32767 to 32767: of the 16-bit numbers only -32768 is none, and is refused
@@ -193,6 +193,13 @@ typedef struct {
     uint64_t records; /* how many there are */
     uint64_t used;    /* how many bytes they take */
 } cinorbis_index;
+
+/* The index of the whole records at the front of a capture, and what ended them. All 0 when
+ * refused. */
+typedef struct {
+    cinorbis_index index; /* as cinorbis_index_make gives it for these index.used bytes */
+    uint64_t ended;       /* 0: the capture's end; 1 or 8: what is wrong at index.used */
+} cinorbis_front;
 
 /* A record of a capture. All 0 when refused. */
 typedef struct {
@@ -419,6 +426,17 @@ CINORBIS_CALL uint32_t cinorbis_index_make(const uint8_t *capture, cinorbis_size
                                            cinorbis_size *table, cinorbis_size entries,
                                            cinorbis_index *index);
 
+/* Makes the table of the whole records at the front of a capture, whatever follows them: of the
+ * longest part that cinorbis_index_make takes. Out: table and index as that call gives them for the
+ * part, and what ended it: 0 if it is the whole capture, else the 1 or 8 that cinorbis_index_make
+ * gives for every longer part. Records are then found in these index.used bytes, and appended
+ * behind them. (capture_length / 3 + 15) / 16 entries are always enough. Refuses only 3, where the
+ * table has too few.
+ * Promise: index::front. */
+CINORBIS_CALL uint32_t cinorbis_index_front(const uint8_t *capture, cinorbis_size capture_length,
+                                            cinorbis_size *table, cinorbis_size entries,
+                                            cinorbis_front *front);
+
 /* Record w, counted from 0, by the table's entry for its block. In: the part that is in use,
  * index.used bytes and (index.records + 15) / 16 entries; an entry past those is taken as it
  * is. Out: its code and where its packed part is. Refuses 10 with no entry, 8 for an entry
@@ -511,6 +529,14 @@ CINORBIS_CALL uint32_t cinorbis_telegram_read_within(uint32_t allowed, const int
                                                      cinorbis_size readings_length,
                                                      cinorbis_telegram *telegram,
                                                      cinorbis_numbers *numbers);
+
+/* The telegram that information bits say, for example those of a runner-up: what
+ * cinorbis_telegram_read makes of the bits that its search finds. In: 16 bits. Out: the telegram;
+ * the numbers are 0, except the place under 4. Refuses 2, 4, then 13, 14, 15.
+ * Promise: telegram::of_bits. */
+CINORBIS_CALL uint32_t cinorbis_telegram_of_bits(const uint8_t *bits, cinorbis_size bits_length,
+                                                 cinorbis_telegram *telegram,
+                                                 cinorbis_numbers *numbers);
 
 #ifdef __cplusplus
 }

@@ -1,5 +1,5 @@
-/* Telegrams: all of them written, read, and read with every reading negated; with noise against the walk by its text; every refusal of the writer
- * and the reader, several faults at once. The telegram's bits are put together here by shifts, and its word by the reference. */
+/* Telegrams: all of them written, read, and read with every reading negated; with noise against the walk by its text; what all 16 bits say; every
+ * refusal of the writer, the reader and the reader of bits, several faults at once. The telegram's bits are put together here by shifts, and its word by the reference. */
 #include "call.h"
 #include "check.h"
 #include "reference.h"
@@ -30,14 +30,22 @@ static heard read_default(const int16_t *l, size_t n_) {
     HEAR(cinorbis_telegram_read, l, n_);
 }
 
+static heard of_bits(const uint8_t *bits, size_t n_) {
+    HEAR(cinorbis_telegram_of_bits, bits, n_);
+}
+
 static answer write_telegram(uint32_t cylinder, uint32_t direction, uint32_t tilt, uint8_t *word, size_t w) {
     CALL(cinorbis_telegram_write, cylinder, direction, tilt, word, w);
 }
 
-/* the word of 16 bits, given as a number whose most significant bit comes first */
+/* 16 bits, given as a number whose most significant bit comes first; and their word */
+static void bits_of(unsigned number, uint8_t *bits) {
+    for (int i = 0; i < 16; i++) bits[i] = (uint8_t)(number >> (15 - i) & 1);
+}
+
 static void word_of(unsigned number, uint8_t *x) {
     uint8_t bits[16];
-    for (int i = 0; i < 16; i++) bits[i] = (uint8_t)(number >> (15 - i) & 1);
+    bits_of(number, bits);
     ref_encode(2, 5, bits, x);
 }
 
@@ -186,17 +194,66 @@ static void with_noise(void) {
     end();
 }
 
-/* every 16 bits, as a word without noise: shown, or refused by 13, then 14, then 15 */
+/* what a search finds, and its runner-up: the first says what the reader shows, the second something else, or nothing */
+static void after_search(void) {
+    unsigned long shown = 0, second_shown = 0;
+    begin("the bits that a search finds, and those of its runner-up");
+    for (int i = 0; i < 1500; i++) {
+        uint8_t x[32], bits[16], word[32], second[256];
+        int16_t l[32];
+        cinorbis_numbers n;
+        word_of((unsigned)random_below(65536), x);
+        for (int j = 0; j < 32; j++) l[j] = (int16_t)((x[j] ? -300 : 300) + random_between(-500, 500));
+        heard h = read_default(l, 32);
+        if (cinorbis_search(2, 5, l, 32, bits, 16, word, 32, second, &n)) continue;
+        heard said = of_bits(bits, 16), other = of_bits(second, 16);
+        CHECK(said.a.refusal == h.a.refusal && memcmp(&said.t, &h.t, sizeof h.t) == 0, "%u, the reader %u", said.a.refusal, h.a.refusal);
+        CHECK(said.a.penalty == 0 && said.a.gap == 0 && said.a.visits == 0 && said.a.place == 0, "numbers without a search");
+        CHECK(h.a.refusal || (h.a.penalty == n.penalty && h.a.gap == n.gap && h.a.visits == n.visits), "other numbers than the search's");
+        CHECK(said.a.refusal || other.a.refusal || memcmp(&said.t, &other.t, sizeof said.t), "the runner-up says the same");
+        shown += said.a.refusal == 0, second_shown += other.a.refusal == 0;
+    }
+    CHECK(shown && second_shown, "%lu and %lu shown", shown, second_shown);
+    end();
+}
+
+static void bits_refusals(void) {
+    static guarded g;
+    uint8_t *bits = contents(&g);
+    begin("the reader of bits: 2, then 4 with its place, then 13, 14, 15; nothing is written");
+    for (size_t n = 0; n <= 40; n++) {
+        arm(&g);
+        if (n != 16) shows_nothing(of_bits(bits, n), 2, 0, 0, 0);
+        CHECK(untouched(&g), "written");
+    }
+    for (unsigned j = 0; j < 16; j++)
+        for (unsigned number = 0; number < 65536; number += 257) {
+            arm(&g);
+            bits_of(number, bits);
+            bits[j] = (uint8_t)random_between(2, 255);
+            if (j < 15) bits[15] = (uint8_t)random_between(2, 255);
+            memcpy(g.before, g.all, sizeof g.all);
+            shows_nothing(of_bits(bits, 16), 4, 0, 0, j);
+            CHECK(untouched(&g), "written");
+        }
+    end();
+}
+
+/* every 16 bits, as bits and as a word without noise: shown, or refused by 13, then 14, then 15 */
 static void every_number(void) {
     unsigned long shown = 0, marker = 0, tilts = 0, zero = 0;
     begin("every word of RM(2,5)");
     for (unsigned number = 0; number < 65536; number++) {
-        uint8_t x[32];
+        uint8_t x[32], bits[16];
         int16_t l[32];
         unsigned c = number >> 13, d = number >> 12 & 1, t = number >> 1 & 2047;
         word_of(number, x);
         send(x, 1, l);
         heard h = read_within(CINORBIS_DEFAULT_ALLOWANCE, l, 32);
+        bits_of(number, bits);
+        heard said = of_bits(bits, 16);
+        CHECK(said.a.refusal == h.a.refusal && memcmp(&said.t, &h.t, sizeof h.t) == 0, "%u as bits, %u as readings", said.a.refusal, h.a.refusal);
+        CHECK(said.a.penalty == 0 && said.a.gap == 0 && said.a.visits == 0 && said.a.place == 0, "numbers without a search");
         if (number & 1)
             shows_nothing(h, 13, 0, 0, 0), marker++;
         else if (t > 1500)
@@ -276,7 +333,9 @@ static void reader_refusals(void) {
 int main(void) {
     writer_refusals();
     reader_refusals();
+    bits_refusals();
     every_number();
+    after_search();
     all_telegrams();
     with_noise();
     return finish();

@@ -10,7 +10,10 @@ use Rattle.record.specs.Reader as Reader
 use Rattle.index.specs.declared.Index.{Index}
 use Rattle.index.specs.declared.Indexed.{Indexed}
 use Rattle.index.specs.declared.Indexed.the-variants.{Done, Refused}
+use Rattle.index.specs.declared.Fronted.{Fronted}
+use Rattle.index.specs.declared.Fronted.the-variants as fronted
 use Rattle.index.specs.Making.{IndexOutcome, indexOf}
+use Rattle.index.specs.Fronting.{FrontOutcome}
 use Rattle.index.specs.Appending.{AppendOutcome}
 use Rattle.answers.specs.Told.{Told, told}
 
@@ -23,6 +26,13 @@ indexIn lent = indexOf (getD lent 0 0) (getD lent 1 0)
 
 abbrev pub shownMade : IndexOutcome → Told
 shownMade o = told (o .carry .number) (pair (o .index)) (o .table ∷ [])
+
+-- records, used, and the number of what ended them: the header's struct
+abbrev pub frontNumbers : Index → ℕ → List ℕ
+frontNumbers index ended = index .records ∷ index .used ∷ ended ∷ []
+
+abbrev pub shownFront : FrontOutcome → Told
+shownFront o = told (o .made .carry .number) (frontNumbers (o .made .index) (o .ended)) (o .made .table ∷ [])
 
 -- what a record says and where its packed part stands: r, m, start, length, place
 abbrev pub entryNumbers : Header → ℕ → ℕ → List ℕ
@@ -45,6 +55,14 @@ indexedNumber (Refused why) = carried why .number
 abbrev pub madeNumbers : Indexed → List ℕ
 madeNumbers (Done index) = pair index
 madeNumbers (Refused why) = 0 ∷ 0 ∷ []
+
+abbrev pub frontedNumber : Fronted → ℕ
+frontedNumber (fronted.Done front) = 0
+frontedNumber (fronted.Refused why) = carried why .number
+
+abbrev pub frontedNumbers : Fronted → List ℕ
+frontedNumbers (fronted.Done front) = frontNumbers (front .index) (front .ended)
+frontedNumbers (fronted.Refused why) = 0 ∷ 0 ∷ 0 ∷ []
 
 abbrev pub appendedNumbers : Indexed → List ℕ
 appendedNumbers (Done index) = index .used ∷ 0 ∷ []

@@ -11,12 +11,16 @@ use Rattle.record.specs.declared.Header.{Header}
 use Rattle.record.specs.Reader as Reader
 use Rattle.index.specs.declared.Indexed.{Indexed}
 use Rattle.index.specs.declared.Indexed.the-variants.{Done, Refused}
+use Rattle.index.specs.declared.Fronted.{Fronted}
+use Rattle.index.specs.declared.Fronted.the-variants as fronted
 use Rattle.index.specs.Making as Making
 use Rattle.index.specs.Making.{IndexOutcome}
+use Rattle.index.specs.Fronting.{FrontOutcome, toldFront}
 use Rattle.index.specs.Appending.{AppendOutcome, toldAppend}
 use Rattle.answers.specs.Told.{told}
 use Rattle.answers.specs.Answers.{headerNumber}
 use Rattle.answers.specs.Indexed.{shownMade, entryNumbers, shownEntry, shownAppended, indexedNumber, madeNumbers, appendedNumbers, pairAfter}
+use Rattle.answers.specs.Indexed.{shownFront, frontedNumber, frontedNumbers}
 
 by-made : (a : Indexed) (t : List ℕ) → told (indexedNumber a) (madeNumbers a) (t ∷ []) ≡ shownMade (Making.told a t)
 by-made (Done i) t = refl
@@ -25,6 +29,14 @@ by-made (Refused why) t = refl
 pub told-made : (a : Indexed) (t : List ℕ) (o : IndexOutcome) (returned : ℕ) (out : List ℕ) → Making.told a t ≡ o
     → returned ≡ indexedNumber a → out ≡ madeNumbers a → told returned out (t ∷ []) ≡ shownMade o
 told-made a t o returned out e f g = ap₂ (λ (n : ℕ) (l : List ℕ). told n l (t ∷ [])) f g ∙ by-made a t ∙ ap shownMade e
+
+by-front : (a : Fronted) (t : List ℕ) → told (frontedNumber a) (frontedNumbers a) (t ∷ []) ≡ shownFront (toldFront a t)
+by-front (fronted.Done f) t = refl
+by-front (fronted.Refused why) t = refl
+
+pub told-front : (a : Fronted) (t : List ℕ) (o : FrontOutcome) (returned : ℕ) (out : List ℕ) → toldFront a t ≡ o
+    → returned ≡ frontedNumber a → out ≡ frontedNumbers a → told returned out (t ∷ []) ≡ shownFront o
+told-front a t o returned out e f g = ap₂ (λ (n : ℕ) (l : List ℕ). told n l (t ∷ [])) f g ∙ by-front a t ∙ ap shownFront e
 
 by-appended : (before : List ℕ) (a : Indexed) (d t : List ℕ)
     → told (indexedNumber a) (appendedNumbers a) (pairAfter before a ∷ d ∷ t ∷ []) ≡ shownAppended before (toldAppend a d t)

@@ -3,6 +3,7 @@
 use code::Refusal;
 use early::Answered;
 use encode::Encoded;
+use index::Fronted;
 use index::Indexed;
 use packing::Unpacked;
 use quick::Read;
@@ -25,6 +26,7 @@ ghost use Rattle.answers.specs.Answers.{headerNumber, headerNumbers};
 ghost use Rattle.answers.specs.AtOnceLaws.{answeredNumber, answeredNumbers};
 ghost use Rattle.answers.specs.Indexed.{indexedNumber, madeNumbers, entryNumbers};
 ghost use Rattle.answers.specs.Indexed.{appendedNumbers, pairAfter};
+ghost use Rattle.answers.specs.Indexed.{frontedNumber, frontedNumbers};
 ghost use Rattle.answers.specs.Written.{wroteNumber, wroteNumbers};
 ghost use Rattle.answers.specs.Telegrams.{fields, writtenNumber, shownRead};
 
@@ -245,6 +247,30 @@ pub fn put_made(answer: Indexed, out: &mut [u64; 2]) -> u32
         }
         Indexed::Refused(why) => {
             put_places(out, 0, 0);
+            why.number()
+        }
+    }
+}
+
+// Records and bytes at a capture's front, and the number of what ended them.
+fn put_three(out: &mut [u64; 3], records: usize, used: usize, ended: u32)
+    ensures { λ _. ⌜ now (out .exit) ≡ records ∷ used ∷ ended ∷ [] ⌝ }
+{
+    *out = [records as u64, used as u64, ended as u64];
+}
+
+// The index of a capture's front: records, used and ended.
+pub fn put_front(answer: Fronted, out: &mut [u64; 3]) -> u32
+    ensures { λ number. ⌜ (number ≡ frontedNumber answer)
+        × (now (out .exit) ≡ frontedNumbers answer) ⌝ }
+{
+    match answer {
+        Fronted::Done(front) => {
+            put_three(out, front.index.records, front.index.used, front.ended);
+            0
+        }
+        Fronted::Refused(why) => {
+            put_three(out, 0, 0, 0);
             why.number()
         }
     }

@@ -1,15 +1,18 @@
-// An index of a capture: making it, asking it for a record, appending a record.
+// An index of a capture: making it, of the whole capture or of its front; asking it for a record;
+// appending a record.
 use answers::put_appended;
 use answers::put_entry;
+use answers::put_front;
 use answers::put_made;
 use index::Index;
 ghost use mathlib.Core.Path.{_≡_};
 ghost use mathlib.Core.List.{[], _∷_};
 ghost use Rattle.index.specs.Finding.{headerIn, partIn, partStart};
 ghost use Rattle.index.specs.Making.{making};
+ghost use Rattle.index.specs.Fronting.{fronting};
 ghost use Rattle.index.specs.Appending.{appending};
 ghost use Rattle.answers.specs.Told.{told};
-ghost use Rattle.answers.specs.Indexed.{indexIn, shownMade, shownEntry, shownAppended};
+ghost use Rattle.answers.specs.Indexed.{indexIn, shownMade, shownFront, shownEntry, shownAppended};
 
 #[no_mangle]
 pub extern "C" fn cinorbis_index_make(
@@ -22,6 +25,19 @@ pub extern "C" fn cinorbis_index_make(
 {
     let answer = index::make(capture, table);
     put_made(answer, out)
+}
+
+#[no_mangle]
+pub extern "C" fn cinorbis_index_front(
+    capture: &[u8],
+    table: &mut [usize],
+    out: &mut [u64; 3],
+) -> u32
+    ensures { λ number. ⌜ told number (now (out .exit)) (now (table .exit) ∷ [])
+        ≡ shownFront (fronting (now (capture .entry)) (now (table .entry))) ⌝ }
+{
+    let answer = index::front(capture, table);
+    put_front(answer, out)
 }
 
 #[no_mangle]

@@ -7,7 +7,7 @@ ghost use Rattle.code.specs.Sound.{made};
 ghost use Rattle.pumpbox.specs.Lengths.{version, lengthIn, dimensionIn, recordLength};
 
 // Raised with the header's own.
-const VERSION: u32 = 16;
+const VERSION: u32 = 17;
 
 #[no_mangle]
 pub extern "C" fn cinorbis_version() -> u32

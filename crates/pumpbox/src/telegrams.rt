@@ -49,3 +49,16 @@ pub extern "C" fn cinorbis_telegram_read(
     let answer = telegram::read(readings);
     put_heard(answer, telegram, out)
 }
+
+#[no_mangle]
+pub extern "C" fn cinorbis_telegram_of_bits(
+    bits: &[u8],
+    telegram: &mut [u64; 3],
+    out: &mut [u64; 4],
+) -> u32
+    ensures { λ returned. ⌜ told returned (now (out .exit)) (now (telegram .exit) ∷ [])
+        ≡ shownRead (Tilt.readingBits (now (bits .entry))) ⌝ }
+{
+    let answer = telegram::of_bits(bits);
+    put_heard(answer, telegram, out)
+}

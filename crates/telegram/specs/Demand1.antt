@@ -1,5 +1,5 @@
--- Demand 1 of the telegram's writer and reader (docs/RULES.md, §11): when each number is given, what is told with it, and what stays. That both meet it
--- is proved in Demand1Met.
+-- Demand 1 of the telegram's writer and reader, and of the reader of information bits (docs/RULES.md, §11): when each number is given, what is told with
+-- it, and what stays. That all three meet it is proved in Demand1Met.
 use mathlib.Core.Path.{_≡_}
 use mathlib.Core.Logic.{_⊎_, _↔_}
 use mathlib.Core.List.{List}
@@ -7,14 +7,15 @@ use Prim.Native.Nat.{ℕ, _≤_, _<_}
 use lib.IntN.{ℤ}
 use lib.ListN.{length, replicate}
 use Rattle.code.specs.declared.Refusal.{Refusal}
+use Rattle.code.specs.declared.Refusal.the-variants.{InputLength, Entry}
 use Rattle.code.specs.Sound.{carrying, numberOf}
-use Rattle.code.specs.Demand1.{Checks, First, NoneApplies}
+use Rattle.code.specs.Demand1.{Checks, passed, check, checkAt, First, NoneApplies, LowestBad}
 use Rattle.search.specs.Demands.{searchChecks}
 use Rattle.telegram.specs.declared.Telegram.{Telegram}
 use Rattle.telegram.specs.declared.Fault.the-variants.{Link}
 use Rattle.telegram.specs.Telegram.{telegramOf, markerOf}
 use Rattle.telegram.specs.Faults.{largestCylinder, largestDirection, largestTilt, TiltGood, Writable}
-use Rattle.telegram.specs.Outcome.{WriteOutcome, writingTelegram, ReadOutcome, noTelegram, faulted, linkSearch, readingTelegram}
+use Rattle.telegram.specs.Outcome.{WriteOutcome, writingTelegram, ReadOutcome, noTelegram, faulted, linkSearch, readingTelegram, readingBits}
 
 -- what 14, 15 and 16 are given for; TiltGood says that neither 14 nor 15 is
 abbrev pub TooTilted : Telegram → Type 0
@@ -40,9 +41,9 @@ pub record WriterMeets (t : Telegram) (word : List ℕ) (o : WriteOutcome) : Typ
 abbrev pub TelegramWriteDemand1 : Telegram → List ℕ → Type 0
 TelegramWriteDemand1 t word = WriterMeets t word (writingTelegram (t .cylinder) (t .direction) (t .tilt) word)
 
--- ---- the reader, which tells o; the checks are those of its search, and b the bits that this finds
+-- ---- a reader, which tells o, by the checks that come before the tests on its bits b
 pub record ReaderMeets (checks : Checks) (b : List ℕ) (o : ReadOutcome) : Type 0 where
-  -- below 13 it refuses as its search does, with what that refusal carries
+  -- below 13 it refuses as these checks do, with what that refusal carries
   pub link : (n : ℕ) → 0 < n → n < 13 → (o .carry .number ≡ n) ↔ First (λ why. numberOf why ≡ n) checks
   pub link-refused : (why : Refusal) → First (λ given. given ≡ why) checks → o ≡ faulted (Link why)
   pub thirteen : (o .carry .number ≡ 13) ↔ NoneApplies checks × (markerOf b ≡ 1)
@@ -55,9 +56,16 @@ pub record ReaderMeets (checks : Checks) (b : List ℕ) (o : ReadOutcome) : Type
   pub refused : 0 < o .carry .number → (o .telegram ≡ noTelegram) × (o .gap ≡ 0)
   pub no-place : o .carry .number ≡ 0 → o .carry .place ≡ 0
 
--- the search of RM(2,5), into buffers of the right lengths
+-- of readings: the checks of the search of RM(2,5), into buffers of the right lengths, and the bits that it finds
 abbrev pub linkChecks : ℕ → List ℤ → Checks
 linkChecks allowed l = searchChecks 2 5 allowed l (replicate 16 0) (replicate 32 0)
 
 abbrev pub TelegramReadDemand1 : ℕ → List ℤ → Type 0
 TelegramReadDemand1 allowed l = ReaderMeets (linkChecks allowed l) (linkSearch allowed l .bits) (readingTelegram allowed l)
+
+-- of information bits: their number and their entries
+abbrev pub bitsChecks : List ℕ → Checks
+bitsChecks b = check InputLength (length b ≡ 16 → ⊥) (checkAt Entry (LowestBad 0 (λ x. x) 1 b) passed)
+
+abbrev pub TelegramBitsDemand1 : List ℕ → Type 0
+TelegramBitsDemand1 b = ReaderMeets (bitsChecks b) b (readingBits b)

@@ -1,19 +1,26 @@
--- The telegram's writer and reader meet demand 1: one of the cases holds, and each case has its outcome.
+-- The telegram's writer, its reader and the reader of information bits meet demand 1: one of the cases holds, and each case has its outcome.
 use mathlib.Core.Path.{_≡_, refl, ap, sym, _∙_}
 use mathlib.Core.Logic.{_⊎_, inl, inr, ⊎-elim}
-use mathlib.Core.List.{List}
+use mathlib.Core.List.{List, []}
+use mathlib.Core.Bool.{cond, not}
 use Prim.Native.Nat.{ℕ, _≤_, _<_}
 use native.Mathlib.Omega.{arith}
 use native.Mathlib.Decide.{ℕ-discrete}
 use lib.IntN.{ℤ}
 use lib.ListN.{length, replicate}
+use lib.Dec.{ltb, eqb}
+use borrow.Author.Tests.{eq-eqb, ne-eqb, lt-ltb, le-ltb}
 use Rattle.numbers.specs.Choice.{lt-or-le}
 use Rattle.code.specs.declared.Refusal.{Refusal}
-use Rattle.code.specs.declared.Refusal.the-variants.{OutputLength}
+use Rattle.code.specs.declared.Refusal.the-variants.{InputLength, OutputLength, Entry}
 use Rattle.code.specs.Sound.{carrying, numberOf}
+use Rattle.code.specs.Entries.{firstBadBit}
+use Rattle.code.specs.EntriesLaws.{good-bits}
 use Rattle.code.specs.RefusalLaws.{number-above}
-use Rattle.code.specs.Demand1.{View, Checks, passed, check, checkAt, First, NoneApplies}
-use Rattle.search.specs.Demands.{SearchDemand1}
+use Rattle.code.specs.Demand1.{View, refusedAs, Checks, passed, check, checkAt, First, NoneApplies, Demand1}
+use Rattle.code.specs.Demand1Laws.{Decides, demand-1, decides-entry}
+use Rattle.search.specs.Outcome as Search
+use Rattle.search.specs.Demands.{view, SearchDemand1}
 use Rattle.search.specs.Demand1Met.{search-demand-1}
 use Rattle.telegram.specs.declared.Telegram.{Telegram}
 use Rattle.telegram.specs.declared.Fault.the-variants.{Link, Marker, Tilt, ZeroTilt, Field}
@@ -23,9 +30,11 @@ use Rattle.telegram.specs.Telegram.{telegramOf, markerOf, wordOf}
 use Rattle.telegram.specs.Faults.{largestCylinder, largestDirection, largestTilt, TiltGood, Writable, writerFault, readerFault}
 use Rattle.telegram.specs.FaultLaws.{number-below, tilt-high, tilt-level, tilt-good, field-beyond, writer-good, read-writable}
 use Rattle.telegram.specs.Outcome.{WriteOutcome, done, refused, writtenIf, writingTelegram}
-use Rattle.telegram.specs.Outcome.{ReadOutcome, noTelegram, showing, faulted, shownIf, linkSearch, readingTelegram}
+use Rattle.telegram.specs.Outcome.{ReadOutcome, noTelegram, showing, faulted, shownIf, judged, linkSearch, readingTelegram, readingBits}
 use Rattle.telegram.specs.OutcomeLaws.{writing-short, writing-tested, reading-found, reading-other, found-all, found-bits}
-use Rattle.telegram.specs.Demand1.{TooTilted, LevelToPort, BeyondField, TelegramWriteDemand1, linkChecks, TelegramReadDemand1}
+use Rattle.telegram.specs.OutcomeLaws.{bits-short, bits-entry, bits-judged}
+use Rattle.telegram.specs.Demand1.{TooTilted, LevelToPort, BeyondField, TelegramWriteDemand1, ReaderMeets, linkChecks, TelegramReadDemand1}
+use Rattle.telegram.specs.Demand1.{bitsChecks, TelegramBitsDemand1}
 
 -- ---- the tilt
 data TiltCase (t : Telegram) : Type 0 where
@@ -186,24 +195,22 @@ first-why such (checkAt why applies rest) f =
     (λ x. let y = first-why such rest (x .1) in (y .0, y .1, inr (x .0, y .2)))
     f
 
-module _ (allowed : ℕ) (l : List ℤ) where
-  abbrev checks : Checks
-  checks = linkChecks allowed l
+-- what a reader tells, by what the checks before its tests tell (v): nothing is refused, and its tests are made on the bits, with these numbers; or that refusal
+record Tells (v : View) (b : List ℕ) (penalty gap visits : ℕ) (o : ReadOutcome) : Type 0 where
+  bit : v .number ≡ 0 → markerOf b < 2
+  found : v .number ≡ 0 → o ≡ judged b penalty gap visits
+  other : (v .number ≡ 0 → ⊥) → o ≡ record { carry = carrying (v .number) (v .place) (v .penalty) (v .visits); gap = v .gap; telegram = noTelegram }
 
-  abbrev b : List ℕ
-  b = linkSearch allowed l .bits
-
+module _ (checks : Checks) (before : List (List ℕ)) (v : View) (checked : Demand1 checks before v) (b : List ℕ) (p g w : ℕ) (o : ReadOutcome)
+    (tells : Tells v b p g w o) where
   abbrev Case : Type 0
   Case = ReaderCase checks b
 
-  searched : SearchDemand1 2 5 allowed l (replicate 16 0) (replicate 32 0)
-  searched = search-demand-1 2 5 allowed l (replicate 16 0) (replicate 32 0)
-
-  found-case : linkSearch allowed l .number ≡ 0 → Case
+  found-case : v .number ≡ 0 → Case
   found-case n =
-      let none = searched .done .0 n in
+      let none = checked .done .0 n in
       elim (ℕ-discrete (markerOf b) 0) [
-        | no m ↦ marked none (omega (arith, m, found-bits allowed l (found-all allowed l n) 15))
+        | no m ↦ marked none (omega (arith, m, tells .bit n))
         | yes m ↦ elim (tilt-case (telegramOf b)) [
           | high h ↦ inclined none m h
           | level h ↦ upright none m h
@@ -213,11 +220,10 @@ module _ (allowed : ℕ) (l : List ℤ) where
 
   reader-case : Case
   reader-case =
-      elim (ℕ-discrete (linkSearch allowed l .number) 0) [
+      elim (ℕ-discrete (v .number) 0) [
         | yes n ↦ found-case n
         | no n ↦
-            let number = linkSearch allowed l .number in
-            let first = first-why (λ why. numberOf why ≡ number) checks (searched .number number (omega (arith, n)) .0 refl) in
+            let first = first-why (λ why. numberOf why ≡ v .number) checks (checked .number (v .number) (omega (arith, n)) .0 refl) in
             linked (first .0) (first .2)
       ]
 
@@ -226,22 +232,19 @@ module _ (allowed : ℕ) (l : List ℤ) where
   readBy (marked none m) = faulted Marker
   readBy (inclined none m h) = faulted Tilt
   readBy (upright none m h) = faulted ZeroTilt
-  readBy (clear none m g) = let o = linkSearch allowed l in showing (telegramOf b) (o .penalty) (o .gap) (o .visits)
+  readBy (clear none m h) = showing (telegramOf b) p g w
 
-  link-number : (why : Refusal) → First (λ given. given ≡ why) checks → linkSearch allowed l .number ≡ numberOf why
-  link-number why f = ap (λ (v : View). v .number) (searched .refused why f)
+  link-number : (why : Refusal) → First (λ given. given ≡ why) checks → v .number ≡ numberOf why
+  link-number why f = ap (λ (v : View). v .number) (checked .refused why f)
 
-  judged-as : (x : Tested) → NoneApplies checks → readerFault (markerOf b) (telegramOf b) ≡ x
-      → readingTelegram allowed l ≡ (let o = linkSearch allowed l in shownIf x (telegramOf b) (o .penalty) (o .gap) (o .visits))
-  judged-as x none e =
-      let o = linkSearch allowed l in
-      reading-found allowed l (searched .done .1 none) ∙ ap (λ (x : Tested). shownIf x (telegramOf b) (o .penalty) (o .gap) (o .visits)) e
+  judged-as : (x : Tested) → NoneApplies checks → readerFault (markerOf b) (telegramOf b) ≡ x → o ≡ shownIf x (telegramOf b) p g w
+  judged-as x none e = tells .found (checked .done .1 none) ∙ ap (λ (x : Tested). shownIf x (telegramOf b) p g w) e
 
-  read-is : (c : Case) → readingTelegram allowed l ≡ readBy c
+  read-is : (c : Case) → o ≡ readBy c
   read-is (linked why f) =
-      reading-other allowed l (λ z. omega (arith, z, link-number why f, number-above why))
+      tells .other (λ z. omega (arith, z, link-number why f, number-above why))
       ∙ ap (λ (v : View). record { carry = carrying (v .number) (v .place) (v .penalty) (v .visits); gap = v .gap; telegram = noTelegram })
-      (searched .refused why f)
+      (checked .refused why f)
   read-is (marked none m) = judged-as (Bad Marker) none (rw m)
   read-is (inclined none m h) = judged-as (Bad Tilt) none (rw (m, tilt-high (telegramOf b) h))
   read-is (upright none m h) = judged-as (Bad ZeroTilt) none (rw (m, tilt-level (telegramOf b) (h .0) (h .1)))
@@ -249,7 +252,7 @@ module _ (allowed : ℕ) (l : List ℤ) where
 
   -- what each number says of the case
   below-thirteen : (c : Case) (n : ℕ) → 0 < n → n < 13 → readBy c .carry .number ≡ n → First (λ why. numberOf why ≡ n) checks
-  below-thirteen (linked why f) n some few e = searched .number n some .0 (link-number why f ∙ e)
+  below-thirteen (linked why f) n some few e = checked .number n some .0 (link-number why f ∙ e)
   below-thirteen (marked none m) n some few e = absurd (omega arith)
   below-thirteen (inclined none m h) n some few e = absurd (omega arith)
   below-thirteen (upright none m h) n some few e = absurd (omega arith)
@@ -281,7 +284,7 @@ module _ (allowed : ℕ) (l : List ℤ) where
   is-clear (marked none m) n = absurd (omega arith)
   is-clear (inclined none m h) n = absurd (omega arith)
   is-clear (upright none m h) n = absurd (omega arith)
-  is-clear (clear none m g) n = ((none, m, g), refl)
+  is-clear (clear none m h) n = ((none, m, h), refl)
 
   own-alone : (c : Case) → 13 ≤ readBy c .carry .number → readBy c .carry ≡ carrying (readBy c .carry .number) 0 0 0
   own-alone (linked why f) h = absurd (omega (arith, number-below why))
@@ -297,24 +300,24 @@ module _ (allowed : ℕ) (l : List ℤ) where
   nothing-shown (upright none m k) h = (refl, refl)
   nothing-shown (clear none m g) h = absurd (omega arith)
 
-  number-read : (c : Case) → readingTelegram allowed l .carry .number ≡ readBy c .carry .number
+  number-read : (c : Case) → o .carry .number ≡ readBy c .carry .number
   number-read c = ap (λ (o : ReadOutcome). o .carry .number) (read-is c)
 
-  -- the search finds something, and its marker is not set
-  pub unmarked : NoneApplies checks → markerOf b ≡ 0 → let n = readingTelegram allowed l .carry .number in (n ≡ 0) ⊎ (n ≡ 14) ⊎ (n ≡ 15)
-  unmarked none m =
+  -- nothing is refused before, and the marker is not set
+  not-marked : NoneApplies checks → markerOf b ≡ 0 → let n = o .carry .number in (n ≡ 0) ⊎ (n ≡ 14) ⊎ (n ≡ 15)
+  not-marked none m =
       elim (tilt-case (telegramOf b)) [
         | fine g ↦ inl (number-read (clear none m g))
         | high h ↦ inr (inl (number-read (inclined none m h)))
         | level h ↦ inr (inr (number-read (upright none m h)))
       ]
 
-  -- the number that the search's first check gives
-  link-given : (n : ℕ) → First (λ why. numberOf why ≡ n) checks → readingTelegram allowed l .carry .number ≡ n
+  -- the number that the first check gives
+  link-given : (n : ℕ) → First (λ why. numberOf why ≡ n) checks → o .carry .number ≡ n
   link-given n f = let first = first-why (λ why. numberOf why ≡ n) checks f in number-read (linked (first .0) (first .2)) ∙ first .1
 
-  pub telegram-read-demand-1 : TelegramReadDemand1 allowed l
-  telegram-read-demand-1 =
+  meets : ReaderMeets checks b o
+  meets =
       let c = reader-case in
       let is = read-is c in
       let same = sym (number-read c) in
@@ -332,3 +335,67 @@ module _ (allowed : ℕ) (l : List ℤ) where
             (ap (λ (o : ReadOutcome). o .telegram) is ∙ none .0, ap (λ (o : ReadOutcome). o .gap) is ∙ none .1);
         no-place = λ n. ap (λ (o : ReadOutcome). o .carry .place) is ∙ is-clear c (same ∙ n) .1;
       }
+
+-- ---- of readings, by the search
+module _ (allowed : ℕ) (l : List ℤ) where
+  abbrev searchTold : Search.Outcome
+  searchTold = linkSearch allowed l
+
+  searched : SearchDemand1 2 5 allowed l (replicate 16 0) (replicate 32 0)
+  searched = search-demand-1 2 5 allowed l (replicate 16 0) (replicate 32 0)
+
+  after-search : Tells (view searchTold) (searchTold .bits) (searchTold .penalty) (searchTold .gap) (searchTold .visits) (readingTelegram allowed l)
+  after-search =
+      record { bit = λ n. found-bits allowed l (found-all allowed l n) 15; found = reading-found allowed l; other = reading-other allowed l }
+
+  pub telegram-read-demand-1 : TelegramReadDemand1 allowed l
+  telegram-read-demand-1 = meets (linkChecks allowed l) _ _ searched _ _ _ _ _ after-search
+
+  pub unmarked : NoneApplies (linkChecks allowed l) → markerOf (searchTold .bits) ≡ 0
+      → let n = readingTelegram allowed l .carry .number in (n ≡ 0) ⊎ (n ≡ 14) ⊎ (n ≡ 15)
+  unmarked = not-marked (linkChecks allowed l) _ _ searched _ _ _ _ _ after-search
+
+-- ---- of information bits
+module _ (b : List ℕ) where
+  -- what the two checks tell
+  abbrev bitsTold : View
+  bitsTold =
+      cond (not (eqb (length b) 16)) (refusedAs InputLength [])
+      (cond (ltb (firstBadBit b) (length b)) (refusedAs (Entry (firstBadBit b)) [])
+      (record { number = 0; place = 0; penalty = 0; gap = 0; visits = 0; buffers = [] }))
+
+  bits-decide : Decides [] bitsTold (bitsChecks b)
+  bits-decide =
+      elim (ℕ-discrete (length b) 16) [
+        | no n ↦ inl (n, rw (ne-eqb (length b) 16 n))
+        | yes e ↦ inr (
+          λ n. n e,
+          decides-entry 0 (λ x. x) 1 b [] bitsTold passed
+              (λ h. rw (eq-eqb (length b) 16 e, lt-ltb (firstBadBit b) (length b) h))
+              (λ h. rw (eq-eqb (length b) 16 e, le-ltb (firstBadBit b) (length b) h) (refl, refl)),
+        )
+      ]
+
+  checked-bits : Demand1 (bitsChecks b) [] bitsTold
+  checked-bits = demand-1 [] bitsTold (bitsChecks b) bits-decide
+
+  abbrev Bits-tell : View → Type 0
+  Bits-tell v = Tells v b 0 0 0 (readingBits b)
+
+  after-bits : Bits-tell bitsTold
+  after-bits =
+      elim (ℕ-discrete (length b) 16) [
+        | no n ↦ rw (ne-eqb (length b) 16 n) (record { bit = λ z. absurd (omega (arith, z)); found = λ z. absurd (omega (arith, z)); other = λ x. bits-short b n })
+        | yes e ↦
+            ⊎-elim
+            (λ h.
+            rw (eq-eqb (length b) 16 e, lt-ltb (firstBadBit b) (length b) h)
+            (record { bit = λ z. absurd (omega (arith, z)); found = λ z. absurd (omega (arith, z)); other = λ x. bits-entry b e h }))
+            (λ h.
+            rw (eq-eqb (length b) 16 e, le-ltb (firstBadBit b) (length b) h)
+            (record { bit = λ z. good-bits b h 15; found = λ z. bits-judged b e h; other = λ n. absurd (n refl) }))
+            (lt-or-le (firstBadBit b) (length b))
+      ]
+
+  pub telegram-bits-demand-1 : TelegramBitsDemand1 b
+  telegram-bits-demand-1 = meets (bitsChecks b) [] bitsTold checked-bits b 0 0 0 (readingBits b) after-bits

@@ -1,12 +1,13 @@
 -- What the writer and the reader tell and leave, for all that they can be given.
 use mathlib.Core.List.{List}
-use mathlib.Core.Bool.{cond}
+use mathlib.Core.Bool.{cond, not}
 use Prim.Native.Nat.{ℕ}
 use lib.IntN.{ℤ}
 use lib.ListN.{length, replicate}
-use lib.Dec.{eqb}
-use Rattle.code.specs.declared.Refusal.the-variants.{OutputLength}
+use lib.Dec.{ltb, eqb}
+use Rattle.code.specs.declared.Refusal.the-variants.{InputLength, OutputLength, Entry}
 use Rattle.code.specs.Sound.{Carried, carrying}
+use Rattle.code.specs.Entries.{firstBadBit}
 use Rattle.search.specs.Outcome as Search
 use Rattle.telegram.specs.declared.Telegram.{Telegram}
 use Rattle.telegram.specs.declared.Fault.{Fault}
@@ -93,3 +94,10 @@ linkSearch allowed l = Search.searching 2 5 allowed l (replicate 16 0) (replicat
 -- of the allowance and the readings
 unfoldable pub readingTelegram : ℕ → List ℤ → ReadOutcome
 readingTelegram allowed l = heard (linkSearch allowed l)
+
+-- ---- of information bits, without readings: 2, 4, then the reader's tests. No search is made, so penalty, gap and visits are 0
+unfoldable pub readingBits : List ℕ → ReadOutcome
+readingBits b =
+    let place = firstBadBit b in
+    cond (not (eqb (length b) 16)) (faulted (Link InputLength))
+    (cond (ltb place (length b)) (faulted (Link (Entry place))) (judged b 0 0 0))

@@ -5,7 +5,7 @@ use Prim.Native.Nat.{ℕ, _≤_, _<_}
 use native.Mathlib.Omega.{arith}
 use lib.IntN.{ℤ}
 use lib.ListN.{length, take, drop, replicate}
-use borrow.Author.Tests.{eq-eqb, ne-eqb}
+use borrow.Author.Tests.{eq-eqb, ne-eqb, lt-ltb, le-ltb}
 use Rattle.numbers.specs.Sums.{total, sum}
 use Rattle.words.specs.Bits.{Bits, digits}
 use Rattle.words.specs.Kinds.{kinds, choose, dimension}
@@ -15,8 +15,10 @@ use Rattle.decoding.specs.Walk.{needed}
 use Rattle.decoding.specs.Demands.{BestFound}
 use Rattle.code.specs.declared.Code.{Code}
 use Rattle.code.specs.declared.Refusal.{Refusal}
-use Rattle.code.specs.declared.Refusal.the-variants.{OutputLength, OutOfVisits}
+use Rattle.code.specs.declared.Refusal.the-variants.{InputLength, OutputLength, Entry, OutOfVisits}
 use Rattle.code.specs.Sound.{carried}
+use Rattle.code.specs.Entries.{firstBadBit}
+use Rattle.code.specs.EntriesLaws.{first-none}
 use Rattle.code.specs.SoundInput.{SoundReadings}
 use Rattle.code.specs.RefusalLaws.{number-above}
 use Rattle.code.specs.AdmittedLaws.{allows, refuses, decided}
@@ -35,6 +37,7 @@ use Rattle.telegram.specs.Telegram.{telegramBits, wordOf}
 use Rattle.telegram.specs.TelegramLaws.{length-bits, bits-bits}
 use Rattle.telegram.specs.Faults.{writerFault}
 use Rattle.telegram.specs.Outcome.{refused, writtenIf, writingTelegram, faulted, judged, passedOn, heard, linkSearch, readingTelegram}
+use Rattle.telegram.specs.Outcome.{readingBits}
 
 -- ---- RM(2,5)
 pub dimension-25 : dimension 2 5 ≡ 16
@@ -115,6 +118,25 @@ module _ (allowed : ℕ) (l : List ℤ) where
   unfolding readingTelegram
   reading-refused why b w e =
       ap heard e ∙ rw (ne-eqb (Search.refused why b w .number) 0 (λ z. omega (arith, number-above why)))
+
+-- ---- information bits, without a search
+module _ (b : List ℕ) where
+  pub bits-short : (length b ≡ 16 → ⊥) → readingBits b ≡ faulted (Link InputLength)
+  unfolding readingBits
+  bits-short n = rw (ne-eqb (length b) 16 n)
+
+  pub bits-entry : length b ≡ 16 → firstBadBit b < length b → readingBits b ≡ faulted (Link (Entry (firstBadBit b)))
+  unfolding readingBits
+  bits-entry e h = rw (eq-eqb (length b) 16 e, lt-ltb (firstBadBit b) (length b) h)
+
+  pub bits-judged : length b ≡ 16 → length b ≤ firstBadBit b → readingBits b ≡ judged b 0 0 0
+  unfolding readingBits
+  bits-judged e h = rw (eq-eqb (length b) 16 e, le-ltb (firstBadBit b) (length b) h)
+
+  pub bits-read : length b ≡ 16 → Bits b → readingBits b ≡ judged b 0 0 0
+  bits-read e h =
+      let none = first-none 0 (λ x. x) 1 b (length b) (λ j m. omega (arith, h j)) refl in
+      bits-judged e (omega (arith, none))
 
 -- ---- the search, by its demands
 -- the buffers that the reader lends to it

@@ -2,18 +2,22 @@
 use mathlib.Core.Path.{_≡_}
 use mathlib.Core.Logic.{_⊎_, _↔_}
 use mathlib.Core.List.{List, map}
+use mathlib.Core.Bool.{cond}
 use Prim.Native.Nat.{ℕ, _+_, _-_, _*_, _≤_, _<_}
 use lib.IntN.{ℤ, negℤ}
 use lib.ListN.{length}
+use lib.Dec.{eqb}
 use Rattle.words.specs.Kinds.{kinds}
 use Rattle.decoding.specs.Walk.{needed, tree}
 use Rattle.code.specs.declared.Refusal.the-variants.{OutOfVisits}
 use Rattle.code.specs.Sound.{defaultAllowance}
+use Rattle.search.specs.Outcome as Search
 use Rattle.telegram.specs.declared.Telegram.{Telegram}
 use Rattle.telegram.specs.declared.Fault.the-variants.{Link, Marker}
-use Rattle.telegram.specs.Telegram.{wordOf}
+use Rattle.telegram.specs.Telegram.{telegramBits, wordOf}
 use Rattle.telegram.specs.Faults.{Writable}
-use Rattle.telegram.specs.Outcome.{done, writingTelegram, noTelegram, showing, faulted, linkSearch, readingTelegram}
+use Rattle.telegram.specs.Outcome.{done, writingTelegram, ReadOutcome, noTelegram, showing, faulted, passedOn, linkSearch, readingTelegram}
+use Rattle.telegram.specs.Outcome.{readingBits}
 
 -- the search of the readings finds the telegram's word
 pub record Finds (allowed : ℕ) (l : List ℤ) (t : Telegram) : Type 0 where
@@ -74,6 +78,21 @@ pub record TurnedOver (l : List ℤ) : Type 0 where
   pub upright-exactly : (allowed : ℕ) → let n = readingTelegram allowed (turned l) .carry .number in
       (readingTelegram allowed l .carry .number ≡ 13) ↔ ((n ≡ 0) ⊎ (n ≡ 14) ⊎ (n ≡ 15))
 
+-- what bits say, with a search's penalty, gap and visits beside it where they say a telegram
+abbrev pub withNumbers : ℕ → ℕ → ℕ → ReadOutcome → ReadOutcome
+withNumbers penalty gap visits o = cond (eqb (o .carry .number) 0) (showing (o .telegram) penalty gap visits) o
+
+abbrev pub saidAfter : Search.Outcome → ReadOutcome
+saidAfter o = cond (eqb (o .number) 0) (withNumbers (o .penalty) (o .gap) (o .visits) (readingBits (o .bits))) (passedOn o)
+
+pub record BitsTheorems : Type 0 where
+  -- The bits of a telegram that the writer accepts say that telegram,
+  pub written-said : (t : Telegram) → Writable t → readingBits (telegramBits t) ≡ showing t 0 0 0
+  -- and no others say one.
+  pub said-written : (b : List ℕ) → readingBits b .carry .number ≡ 0 → Writable (readingBits b .telegram) × (b ≡ telegramBits (readingBits b .telegram))
+  -- The reader of readings is the reader of the bits that its search finds.
+  pub after-search : (allowed : ℕ) (l : List ℤ) → readingTelegram allowed l ≡ saidAfter (linkSearch allowed l)
+
 -- how many telegrams these are: numbered from 0, each once
 abbrev pub telegrams : ℕ
 telegrams = 8 * 2 * 1501 - 8
@@ -89,6 +108,7 @@ pub record Counted : Type 0 where
 pub record Theorems : Type 0 where
   pub writes : WriteTheorems
   pub reads : ReadTheorems
+  pub bits : BitsTheorems
   pub turns : (t : Telegram) → Writable t → (allowed : ℕ) (l : List ℤ) → Finds allowed l t → TurnedTheorems l
   pub never-shown : NeverShown
   pub either-way : (l : List ℤ) → TurnedOver l

@@ -6,10 +6,11 @@ use Prim.Native.Nat.{ℕ, _+_, _-_, _*_, _/_, _%_, _≤_, _<_}
 use native.Mathlib.Omega.{arith}
 use native.Mathlib.Decide.{ℕ-discrete}
 use lib.IntN.{ℤ, negℤ-negℤ}
-use lib.ListN.{replicate}
+use lib.ListN.{length, replicate}
+use borrow.Author.Tests.{eq-eqb, ne-eqb}
 use Rattle.numbers.specs.Choice.{lt-or-le}
 use Rattle.numbers.specs.Sums.{total, tabulate, sum}
-use Rattle.words.specs.Bits.{xors, digit, digits, ones}
+use Rattle.words.specs.Bits.{Bits, xors, digit, digits, ones}
 use Rattle.words.specs.Word.{transform}
 use Rattle.words.specs.Kinds.{kind, kinds, encoded, InformationBits, Word, allOnes}
 use Rattle.words.specs.Inverse.{TakenBack, taken, frozenOne, takenBack}
@@ -20,6 +21,8 @@ use Rattle.decoding.specs.Walk.{needed, tree}
 use Rattle.decoding.specs.DemandsMet.{demands-code}
 use Rattle.code.specs.declared.Refusal.the-variants.{OutOfVisits}
 use Rattle.code.specs.Sound.{defaultAllowance}
+use Rattle.code.specs.Entries.{firstBadBit}
+use Rattle.code.specs.EntriesLaws.{good-bits}
 use Rattle.code.specs.Demand1.{NoneApplies}
 use Rattle.search.specs.Outcome as Search
 use Rattle.search.specs.Demand1Met.{search-demand-1}
@@ -31,15 +34,17 @@ use Rattle.telegram.specs.declared.Tested.{Tested}
 use Rattle.telegram.specs.declared.Tested.the-variants.{Good, Bad}
 use Rattle.telegram.specs.Telegram.{bitsWith, telegramBits, telegramOf, markerOf}
 use Rattle.telegram.specs.TelegramLaws.{length-bits, bits-bits, marker-bits, telegram-bits, fits-telegram, bits-telegram}
-use Rattle.telegram.specs.Faults.{Writable, writerFault, readerFault}
+use Rattle.telegram.specs.Faults.{Writable, writerFault, readerFault, faultCarries}
 use Rattle.telegram.specs.FaultLaws.{fault-above, Own, own-reader, writer-good, good-writer, reader-good, good-reader, writable-fits, read-writable}
 use Rattle.telegram.specs.Outcome.{WriteOutcome, writtenIf, ReadOutcome, showing, faulted, shownIf, judged, heard, linkSearch, readingTelegram}
+use Rattle.telegram.specs.Outcome.{readingBits}
 use Rattle.telegram.specs.OutcomeLaws.{dimension-25, sum-25, writing-tested, reading-found, reading-other, reading-refused}
 use Rattle.telegram.specs.OutcomeLaws.{Passed, tests, passed, stopped, FoundBest, found-all, found-again, out-of-visits, found-long, found-bits}
+use Rattle.telegram.specs.OutcomeLaws.{bits-short, bits-entry, bits-read}
 use Rattle.telegram.specs.Demand1.{linkChecks}
 use Rattle.telegram.specs.Demand1Met.{telegram-read-demand-1, unmarked}
 use Rattle.telegram.specs.Theorems.{Finds, turned, WriteTheorems, TelegramLargerAllowance, ReadTheorems, TurnedTheorems, NeverShown, TurnedOver}
-use Rattle.telegram.specs.Theorems.{telegrams, ordinal, Counted, Theorems}
+use Rattle.telegram.specs.Theorems.{withNumbers, saidAfter, BitsTheorems, telegrams, ordinal, Counted, Theorems}
 
 -- ---- words of RM(2,5)
 takenBits : TakenBack → List ℕ
@@ -231,6 +236,62 @@ read-six allowed l e =
       | no n ↦ ap (λ (r : ReadOutcome). r .carry .number) (sym (reading-other allowed l n)) ∙ e
     ]
 
+-- ---- information bits
+numbers-beside : (x : Tested) (t : Telegram) (p g v : ℕ) → withNumbers p g v (shownIf x t 0 0 0) ≡ shownIf x t p g v
+numbers-beside Good t p g v = refl
+numbers-beside (Bad why) t p g v = rw (ne-eqb (faultCarries why .number) 0 (λ z. omega (arith, z, fault-above why)))
+
+reader-after-search : (allowed : ℕ) (l : List ℤ) → readingTelegram allowed l ≡ saidAfter (linkSearch allowed l)
+reader-after-search allowed l =
+    let o = linkSearch allowed l in
+    elim (ℕ-discrete (o .number) 0) [
+      | yes n ↦
+          let f = found-all allowed l n in
+          let t = telegramOf (o .bits) in
+          let said = bits-read (o .bits) (found-long allowed l f) (found-bits allowed l f) in
+          reading-found allowed l n
+          ∙ sym (numbers-beside (readerFault (markerOf (o .bits)) t) t (o .penalty) (o .gap) (o .visits))
+          ∙ ap (withNumbers (o .penalty) (o .gap) (o .visits)) (sym said)
+          ∙ rw (eq-eqb (o .number) 0 n)
+      | no n ↦ reading-other allowed l n ∙ rw (ne-eqb (o .number) 0 n)
+    ]
+
+-- bits that say a telegram passed all tests
+module _ (b : List ℕ) (z : readingBits b .carry .number ≡ 0) where
+  all-passed : (length b ≡ 16) × Bits b
+  all-passed =
+      elim (ℕ-discrete (length b) 16) [
+        | no n ↦ absurd (omega (arith, z, ap (λ (o : ReadOutcome). o .carry .number) (bits-short b n)))
+        | yes e ↦
+            ⊎-elim
+            (λ h. absurd (omega (arith, z, ap (λ (o : ReadOutcome). o .carry .number) (bits-entry b e h))))
+            (λ h. (e, good-bits b h))
+            (lt-or-le (firstBadBit b) (length b))
+      ]
+
+  bits-said : Writable (readingBits b .telegram) × (b ≡ telegramBits (readingBits b .telegram))
+  bits-said =
+      let long = all-passed .0 in
+      let bits = all-passed .1 in
+      let t = telegramOf b in
+      let is = bits-read b long bits in
+      let good = shown-good (readerFault (markerOf b) t) t 0 0 0 (ap (λ (r : ReadOutcome). r .carry .number) (sym is) ∙ z) in
+      let g = good-reader t (markerOf b) good in
+      let says : readingBits b .telegram ≡ t =
+      ap (λ (r : ReadOutcome). r .telegram) (is ∙ ap (λ (x : Tested). shownIf x t 0 0 0) good) in
+      let whole : telegramBits t ≡ b = ap (λ (k : ℕ). bitsWith k t) (sym (g .0)) ∙ bits-telegram b long bits in (
+        subst Writable (sym says) (read-writable (fits-telegram b long bits) (g .1)),
+        sym whole ∙ ap telegramBits (sym says),
+      )
+
+bits-theorems : BitsTheorems
+bits-theorems =
+    record {
+      written-said = λ t w. bits-read (telegramBits t) (length-bits 0 t) (bits-bits 0 t (omega arith)) ∙ judged-upright t w 0 0 0;
+      said-written = bits-said;
+      after-search = reader-after-search;
+    }
+
 telegram-larger-allowance : (l : List ℤ) → TelegramLargerAllowance l
 unfolding readingTelegram
 telegram-larger-allowance l allowed more h n =
@@ -384,6 +445,7 @@ theorems =
     record {
       writes = write-theorems;
       reads = read-theorems;
+      bits = bits-theorems;
       turns = λ t w allowed l h. turned-theorems allowed l t w h;
       never-shown = never-shown;
       either-way = either-way;

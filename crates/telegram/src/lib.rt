@@ -11,7 +11,7 @@ ghost use Rattle.telegram.specs.Telegram.{ofDigits, telegramOf, wordOf};
 ghost use Rattle.telegram.specs.Faults.{tiltFault, fieldFault, writerFault, readerFault};
 ghost use Rattle.telegram.specs.Faults.{faultCarries};
 ghost use Rattle.telegram.specs.Outcome.{toldWritten, writingTelegram};
-ghost use Rattle.telegram.specs.Outcome.{told, judged, readingTelegram};
+ghost use Rattle.telegram.specs.Outcome.{told, judged, readingTelegram, readingBits};
 
 // What the tilt head says. Direction 1 is to port; the tilt is in hundredths of a degree.
 pub struct Telegram {
@@ -28,6 +28,9 @@ impl Telegram {
     pub const LARGEST_TILT: u32 = 1500;
 
     pub const LENGTH: usize = 32;
+
+    // of information bits
+    pub const BITS: usize = 16;
 }
 
 // Why a telegram is refused.
@@ -111,6 +114,20 @@ pub fn read(readings: &[i16]) -> Heard
     ensures { λ answer. ⌜ told answer ≡ readingTelegram defaultAllowance (now (readings .entry)) ⌝ }
 {
     read_within(code::Code::DEFAULT_ALLOWANCE, readings)
+}
+
+// What 16 information bits say, those of a runner-up for one: the reader without its search.
+pub fn of_bits(bits: &[u8]) -> Heard
+    ensures { λ answer. ⌜ told answer ≡ readingBits (now (bits .entry)) ⌝ }
+{
+    if bits.len() != Telegram::BITS {
+        return Heard::Refused(Fault::Link(Refusal::InputLength));
+    }
+    let place = code::first_bad_bit(bits);
+    if place < bits.len() {
+        return Heard::Refused(Fault::Link(Refusal::Entry(place)));
+    }
+    judge(bits, 0, 0, 0)
 }
 
 // ---- tests
