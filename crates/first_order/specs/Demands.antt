@@ -2,14 +2,16 @@
 use mathlib.Core.Path.{_≡_}
 use mathlib.Core.Logic.{_↔_}
 use mathlib.Core.List.{List, [], _∷_}
-use Prim.Native.Nat.{ℕ, _^_, _≤_, _<_}
+use Prim.Native.Nat.{ℕ, _*_, _^_, _≤_, _<_}
 use lib.IntN.{ℤ}
 use lib.ListN.{length}
 use Rattle.words.specs.Kinds.{kinds, dimension, Word}
-use Rattle.decoding.specs.Readings.{turns}
+use Rattle.decoding.specs.Readings.{turns, sizes, Within}
 use Rattle.decoding.specs.Best.{leastPenalty, gap}
 use Rattle.decoding.specs.Walk.{tree}
 use Rattle.decoding.specs.Demands.{BestFound, BestTied}
+use Rattle.hadamard.specs.Hadamard.{hadamard}
+use Rattle.code.specs.Sound.{largestM, largestReading}
 use Rattle.code.specs.declared.Refusal.the-variants.{Parameters, Tied}
 use Rattle.code.specs.Demand1.{Checks, passed, check, readingChecks, Demand1}
 use Rattle.search.specs.Outcome.{Outcome, refused, searching}
@@ -55,3 +57,10 @@ pub record FirstOrderDemands (m : ℕ) (l : List ℤ) (bits word : List ℕ) : T
   pub demand-2 : FirstOrderDemand2 m l bits word (firstOrdering 1 m l bits word)
   pub demand-3 : (c : List ℕ) (w : Word m (kinds 1 m) c) (bits′ word′ : List ℕ) → length bits′ ≡ dimension 1 m → length word′ ≡ 2 ^ m
       → FirstOrderDemand3 m l (w .bits) c bits word bits′ word′
+
+-- ---- The transform done twice still fits 32 bits, of the longest row of the largest readings: hadamard's bound there is 2,147,418,112.
+pub record StillFits : Type 0 where
+  pub largest-sum : 2 ^ largestM * (2 ^ largestM * largestReading) ≡ 2147418112
+  pub below : 2 ^ largestM * (2 ^ largestM * largestReading) < 2 ^ 31
+  -- so the second of two transforms is given sums that fit
+  pub fits : (l : List ℤ) → length l ≡ 2 ^ largestM → Within largestReading l → sizes (hadamard largestM l) < 2 ^ 31

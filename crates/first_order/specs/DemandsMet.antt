@@ -20,6 +20,8 @@ use Rattle.decoding.specs.AnswerLaws.{answer-tied, answer-found}
 use Rattle.decoding.specs.DemandsMet.{demands-code}
 use Rattle.code.specs.declared.Code.{Code}
 use Rattle.code.specs.declared.Refusal.the-variants.{Tied}
+use Rattle.hadamard.specs.TheoremsMet.{transform-theorems}
+use Rattle.code.specs.Sound.{largestM, largestReading}
 use Rattle.code.specs.SoundInput.{SoundReadings}
 use Rattle.code.specs.AdmittedLaws.{allows, refuses, decided}
 use Rattle.code.specs.Demand1.{passed, check}
@@ -31,7 +33,7 @@ use Rattle.search.specs.Demands.{view, SoundSearch, PlusWord}
 use Rattle.search.specs.DemandsMet.{sound-answered, larger-allowance, outcome-demands}
 use Rattle.first_order.specs.Outcome.{withoutVisits, firstOrdering}
 use Rattle.first_order.specs.OutcomeLaws.{other-order, first-order, test-refused}
-use Rattle.first_order.specs.Demands.{firstOrderChecks, FirstOrderDemand1, FirstOrderAsSearch, FirstOrderDemand2, FirstOrderDemands}
+use Rattle.first_order.specs.Demands.{firstOrderChecks, FirstOrderDemand1, FirstOrderAsSearch, FirstOrderDemand2, FirstOrderDemands, StillFits}
 
 -- ---- once tests 1 to 4 find nothing: by the gap
 module _ {m : ℕ} {l : List ℤ} (bits word : List ℕ) (x : SoundSearch 1 m l bits word) where
@@ -162,3 +164,11 @@ first-order-demands {m} {l} bits word x = record {
             rw (sym (first-order 1 m l bits word refl), sym (first-order 1 m (turns c l) bits′ word′ refl)) (plus-without (three .together t t never never′));
       };
 }
+
+pub still-fits : StillFits
+still-fits =
+    record {
+      largest-sum = refl;
+      below = omega arith;
+      fits = λ l long within. omega (arith, transform-theorems largestM .twice-in-range largestReading l long within);
+    }

@@ -1,22 +1,25 @@
 -- The float search gives what the search gives: for floats that are whole numbers, and its demands for any floats.
-use mathlib.Core.Path.{ap}
+use mathlib.Core.Path.{_≡_, ap}
 use mathlib.Core.Logic.{⊎-elim}
 use mathlib.Core.List.{List, [], _∷_}
-use Prim.Native.Nat.{ℕ, zero, suc, _≤_}
+use Prim.Native.Nat.{ℕ, zero, suc, _^_, _≤_}
 use native.Mathlib.Omega.{arith}
 use lib.IntN.{ℤ, natAbs}
+use lib.ListN.{length}
 use lib.Ieee.{Float}
 use Rattle.numbers.specs.Choice.{lt-or-le}
 use Rattle.code.specs.Sound.{largestReading}
-use Rattle.decoding.specs.Readings.{turns}
+use Rattle.words.specs.Kinds.{kinds, dimension, Word}
+use Rattle.decoding.specs.Readings.{turns, Within}
 use Rattle.search.specs.RunnerUp.{searchingWhole}
+use Rattle.search.specs.Demands.{SoundSearch}
 use Rattle.search.specs.Demand1Met.{search-demand-1}
 use Rattle.search.specs.DemandsMet.{larger-allowance, outcome-demands}
 use Rattle.search.specs.RunnerUpMet.{runner-up-demand}
 use Rattle.float_numbers.specs.Whole.{Stand, wholeOf, wholes}
 use Rattle.float_numbers.specs.WholeLaws.{stands-small, wholeOf-is, neg-stands}
 use Rattle.float_numbers.specs.WholesLaws.{wholes-stand}
-use Rattle.float_search.specs.Same.{FloatReading, RefusedEntry, turnedFloats, SameAnswers, FloatDemands}
+use Rattle.float_search.specs.Same.{FloatReading, RefusedEntry, turnedFloats, SameAnswers, FloatDemand3, FloatDemands}
 
 -- ---- an entry
 reading-within : (x : Float) → FloatReading x → natAbs (wholeOf x) ≤ largestReading
@@ -47,7 +50,26 @@ same-answers r m f l bits word h =
       negated = λ c. turned-stand c f l h;
     }
 
+-- floats whose numbers are in range are those numbers, and negated by a word they are the numbers negated by it
+stand-wholes : (f : List Float) → Within largestReading (wholes f) → Stand f (wholes f)
+stand-wholes [] h = tt
+stand-wholes (x ∷ f) h = (stands-small x (omega (arith, h 0)), stand-wholes f (λ i. h (suc i)))
+
+wholes-turned : (c : List ℕ) (f : List Float) → Within largestReading (wholes f) → wholes (turnedFloats c f) ≡ turns c (wholes f)
+wholes-turned c f h = wholes-stand (turnedFloats c f) (turns c (wholes f)) (turned-stand c f (wholes f) (stand-wholes f h))
+
 -- ---- the demands
+float-demand-3 : (r m : ℕ) (f : List Float) (bits word : List ℕ) → SoundSearch r m (wholes f) bits word → (c : List ℕ) (w : Word m (kinds r m) c)
+    (bits′ word′ : List ℕ) → length bits′ ≡ dimension r m → length word′ ≡ 2 ^ m → FloatDemand3 r m f (w .bits) c bits word bits′ word′
+float-demand-3 r m f bits word s c w bits′ word′ long-bits long-word =
+    let d = outcome-demands {r = r} {m = m} {l = wholes f} bits word s .demand-3 c w bits′ word′ long-bits long-word in
+    let same = wholes-turned c f (s .entries .within) in
+    record {
+      sound = rw same (d .sound);
+      together = λ allowed allowed′. rw same (d .together allowed allowed′);
+      same-search = λ never allowed. rw same (d .same-search never allowed);
+    }
+
 pub float-demands : (r m : ℕ) (f : List Float) (bits word : List ℕ) → FloatDemands r m f bits word
 float-demands r m f bits word =
     record {
@@ -55,4 +77,5 @@ float-demands r m f bits word =
       larger = larger-allowance r m (wholes f) bits word;
       runner-up = λ allowed. runner-up-demand r m allowed (wholes f) bits word;
       demands = λ s. outcome-demands {r = r} {m = m} {l = wholes f} bits word s;
+      demand-3 = float-demand-3 r m f bits word;
     }

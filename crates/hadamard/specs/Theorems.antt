@@ -34,8 +34,3 @@ pub record TransformTheorems (m : ℕ) : Type 0 where
   pub sum-in-range : (k l : List ℤ) → sizes (sums k l) ≤ sizes k + sizes l
   -- No entry is above the sum of sizes.
   pub within-sizes : (l : List ℤ) → Within (sizes l) (hadamard m l)
-
--- Of 256 readings up to 32,767, transformed twice, it still is: 2,147,418,112.
-pub record StillFits : Type 0 where
-  pub largest-sum : 2 ^ 8 * (2 ^ 8 * 32767) ≡ 2147418112
-  pub below : 2 ^ 8 * (2 ^ 8 * 32767) < 2 ^ 31

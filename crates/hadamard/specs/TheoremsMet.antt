@@ -16,7 +16,7 @@ use Rattle.hadamard.specs.HadamardLaws.{length-hadamard, hadamard-combin
 use Rattle.hadamard.specs.FirstOrderLaws.{correlation-word}
 use Rattle.hadamard.specs.EncodedLaws.{sum-first-order, place-within, place-word, word-place, word-once}
 use Rattle.hadamard.specs.AllWords.{all-correlations}
-use Rattle.hadamard.specs.Theorems.{WordsAndEntries, TransformTheorems, StillFits}
+use Rattle.hadamard.specs.Theorems.{WordsAndEntries, TransformTheorems}
 
 pub words-and-entries : (m : ℕ) (l : List ℤ) → length l ≡ 2 ^ m → WordsAndEntries m l
 unfolding correlations
@@ -48,6 +48,3 @@ transform-theorems m = record {
   sum-in-range = sizes-combined 0;
   within-sizes = λ l. hadamard-within m (sizes l) l (le-refl (sizes l));
 }
-
-pub still-fits : StillFits
-still-fits = record { largest-sum = refl; below = omega arith }

@@ -11,6 +11,7 @@ pub mod HeaderLaws
 pub mod OnlyHeader
 pub mod WritingLaws
 pub mod WrittenRead
+pub mod NoRailWritten
 pub mod DemandsMet
 pub mod WritingDemandMet
 -- Examples

@@ -65,6 +65,14 @@ pub record ReorderDemands (m : ℕ) (A b : List ℕ) : Type 0 where
   pub undone : (C c : List ℕ) → undoing m A b C c .carry .number ≡ 0
       → let o = undoing m A b C c in Undoes m A b (o .lent .0) (o .lent .1) × Undoes m (o .lent .0) (o .lent .1) A b
 
+-- ---- two calls
+-- Reordering by (A, b) and then by (C, c) tells and leaves what reordering by the product does that `product_map` hands back: with buffers D and d of a map's
+-- lengths, and any buffer of 2^m readings for the one call.
+pub record OneThenAnother (m : ℕ) (A b C c : List ℕ) (l out out′ out″ : List ℤ) (D d : List ℕ) : Type 0 where
+  pub product-done : multiplying m A b C c D d .carry .number ≡ 0
+  pub same : let product = multiplying m A b C c D d .lent in
+      reordering m (product .0) (product .1) l out″ ≡ reordering m C c (reordering m A b l out .lent) out′
+
 -- ---- two searches
 -- two outcomes of the search: of one number, penalty and gap; where the best word is found, the second word is the first, reordered
 pub record WordReordered (m : ℕ) (A b : List ℕ) (o o′ : Search.Outcome) : Type 0 where

@@ -31,6 +31,7 @@ pub record ReorderDone (m : ℕ) (A b : List ℕ) (l out : List ℤ) : Type 0 wh
   pub map-long : Mapped m A b
   pub good : Good m A b
   pub long : length l ≡ 2 ^ m
+  pub room : length out ≡ 2 ^ m
   pub within : Within largestReading l
   pub leaves : reordering m A b l out .lent ≡ reordered (pos 0) m A b l
 
@@ -49,6 +50,7 @@ reorder-done m A b l out e =
       map-long = map-long;
       good = map-exactly m A b map-long .0 (tested .0);
       long = eqb-true (length l) (2 ^ m) (inputs .1);
+      room = eqb-true (length out) (2 ^ m) (sizes .0 .outputs-right);
       within = good-readings largestReading l fine;
       leaves =
           ap (λ (o : Outcome (List ℤ)). o .lent)

@@ -5,6 +5,7 @@ pub mod Work
 -- That it holds, and that no second outcome meets a promise
 pub mod Demand1Met
 pub mod DemandsMet
+pub mod ProductMet
 pub mod OnlyOutcome
 -- Laws
 pub mod OutcomeLaws

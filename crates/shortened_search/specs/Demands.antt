@@ -1,13 +1,15 @@
--- The demands on the search over a shortened set: 1 with its checks, 2 and 3 over the smaller set of words; and what a larger allowance changes. That they
--- are met is proved in DemandsMet.
+-- The demands on the search over a shortened set: 1 with its checks, 2 and 3 over the smaller set of words; what a larger allowance changes; and what a
+-- turned-over link costs. That they are met is proved in DemandsMet and TurnedOverMet.
 use mathlib.Core.Path.{_≡_}
-use mathlib.Core.List.{List, [], _∷_}
-use Prim.Native.Nat.{ℕ, _≤_}
-use lib.IntN.{ℤ}
+use mathlib.Core.List.{List, [], _∷_, map}
+use Prim.Native.Nat.{ℕ, _+_, _≤_}
+use lib.IntN.{ℤ, negℤ}
 use lib.ListN.{length, replicate}
 use Rattle.numbers.specs.Sums.{sum}
+use Rattle.words.specs.Kinds.{Word}
 use Rattle.code.specs.Sound.{rm}
 use Rattle.code.specs.Demand1.{Checks, readingChecksFor, Demand1}
+use Rattle.search.specs.Outcome.{searching}
 use Rattle.search.specs.Demands.{view, walkChecksOver, Searching, DemandsOf, RunnerUpShown}
 use Rattle.shortened.specs.Outcome.{leftOf}
 use Rattle.shortened.specs.Demands.{withRow}
@@ -43,3 +45,10 @@ pub record RunnerUpLeft (r m allowed : ℕ) (named : List ℕ) (l : List ℤ) (b
       → RunnerUpShown m (leftOf named (rm r m)) l (searchingShortened r m allowed named l bits word)
   pub refused : (searchingShortened r m allowed named l bits word .outcome .number ≡ 0 → ⊥)
       → searchingShortened r m allowed named l bits word .runnerUp ≡ replicate 256 0
+
+-- a turned-over link: where the plain search of the readings finds a word of the smaller set, the search on the set gives the negated readings a penalty that is
+-- larger by the plain search's gap at least, if it is not refused as 6
+pub record DearerTurnedOver (r m : ℕ) (named : List ℕ) (l : List ℤ) (bits word bits′ word′ : List ℕ) : Type 0 where
+  pub dearer : (allowed allowed′ : ℕ) → let o = searching r m allowed l bits word in
+      let o′ = searchingShortened r m allowed′ named (map negℤ l) bits′ word′ .outcome in
+      o .number ≡ 0 → Word m (leftOf named (rm r m)) (o .word) → (o′ .number ≡ 6 → ⊥) → o .penalty + o .gap ≤ o′ .penalty

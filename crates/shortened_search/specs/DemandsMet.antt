@@ -88,7 +88,7 @@ shortened-larger-allowance r m named l bits word allowed more h =
 
 -- ---- Demands 2 and 3
 module _ (r m : ℕ) (named : List ℕ) (g : GoodRow named (kinds r m)) where
-  answered : (l : List ℤ) (bits word : List ℕ) → Passes (smallerSet r m named) l bits word → (allowed : ℕ)
+  pub answered : (l : List ℤ) (bits word : List ℕ) → Passes (smallerSet r m named) l bits word → (allowed : ℕ)
       → searchingShortened r m allowed named l bits word .outcome ≡ byAnswer allowed bits word (answer m (leftOf named (rm r m)) l allowed)
   answered l bits word a allowed =
       ap (λ (w : WholeOutcome). w .outcome)

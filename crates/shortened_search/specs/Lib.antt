@@ -5,3 +5,4 @@ pub mod Demands
 pub mod OutcomeLaws
 pub mod EmptyChoice
 pub mod DemandsMet
+pub mod TurnedOverMet

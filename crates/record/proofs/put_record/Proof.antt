@@ -41,18 +41,16 @@ put-packed-requires : tie.Need-put-packed-requires
 put-packed-requires c κs =
     let g = c .before .before .before .before in
     let b = g .args .bytes .now in
-    let v = 16 * g .args .code .m + g .args .code .r in
     let e : length b - 1 ≡ length (packed (g .args .readings .now)) =
     omega (arith, g .pre .2, ap length (record-parts (g .args .code .r) (g .args .code .m) (g .args .readings .now))) in
-    (g .pre .1, mid-len 1 (length b) (set b 0 v) (omega (arith, length-set b 0 v)) ∙ e)
+    (g .pre .1, mid-len 1 (length b) (set b 0 _) (simp length-set (omega arith)) ∙ e)
 
 same-length : tie.Need-same-length
 same-length c =
     let g = c .before .before .before .before .before .before .before .args in
     let b = g .bytes .now in
-    let v = 16 * g .code .m + g .code .r in
     let put = c .before .before .put-packed in
-    same-len-mid 1 (length b - 1) (set b 0 v) (put .last .1 .0) (put .kept .1 .0) ∙ length-set b 0 v
+    same-len-mid 1 (length b - 1) (set b 0 _) (put .last .1 .0) (put .kept .1 .0) ∙ length-set b 0 _
 
 returns : tie.Need-returns
 returns c =
