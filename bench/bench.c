@@ -9,8 +9,10 @@
 #include <stdio.h>
 #include <stdlib.h>
 
+#ifndef ROUNDS /* less where bench/run is only tried */
 #define SETS 64
 #define ROUNDS 9
+#endif
 
 static int16_t readings[SETS][256];
 static uint8_t information[SETS][256];

@@ -7,8 +7,10 @@
 #include <stdio.h>
 #include <string.h>
 
+#ifndef ROUNDS /* less where bench/run is only tried */
 #define WORDS 256
 #define ROUNDS 7
+#endif
 #define SIZE 400.0
 
 static int16_t readings[WORDS][256];

@@ -10,8 +10,10 @@
 #undef int16_t
 #undef int32_t
 
+#ifndef ROUNDS /* less where bench/run is only tried */
 #define SETS 64
 #define ROUNDS 9
+#endif
 
 static int16_t whole[SETS][256];
 static float floats[SETS][256];

@@ -4,8 +4,10 @@
 #include "plain.h"
 #include <stdio.h>
 
+#ifndef ROUNDS /* less where bench/run is only tried */
 #define ROUNDS 25
 #define REPEATS 20000
+#endif
 
 typedef struct {
     uint8_t *at;
