@@ -2,3 +2,5 @@
 pub mod BenchFigures
 pub mod LargestReadings
 pub mod RunnerUpFigures
+-- How deep the walk goes
+pub mod Depth
