@@ -10,7 +10,7 @@ use Rattle.record.specs.declared.Header.{Header}
 use Rattle.record.specs.Reader as Reader
 use Rattle.search.specs.declared.Searched.{Searched}
 use Rattle.search.specs.declared.Searched.the-variants.{Found, Refused}
-use Rattle.answers.specs.Told.{numbers}
+use Rattle.answers.specs.Reported.{numbers}
 
 -- ---- of an answer of encode or inverse
 abbrev pub encodedNumber : Encoded → ℕ
@@ -23,10 +23,10 @@ encodedNumbers (encoded.Refused why) = numbers 0 0 0 (carried why .place)
 
 -- ---- of a header, beside a packed part of so many bytes
 abbrev pub headerNumber : Header → ℕ
-headerNumber h = Reader.told h .carry .number
+headerNumber h = Reader.outcomeOf h .carry .number
 
 abbrev pub headerNumbers : Header → ℕ → List ℕ
-headerNumbers h n = let t = Reader.told h in numbers (t .r) (t .m) n (t .carry .place)
+headerNumbers h n = let t = Reader.outcomeOf h in numbers (t .r) (t .m) n (t .carry .place)
 
 -- ---- of a quick reading's answer
 abbrev pub readNumber : Read → ℕ

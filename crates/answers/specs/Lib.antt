@@ -1,10 +1,10 @@
 -- What the exports tell
-pub mod Told
+pub mod Reported
 -- The parts of the answers, and laws
 pub mod Answers
-pub mod ToldLaws
-pub mod AtOnce
-pub mod AtOnceLaws
+pub mod ReportedLaws
+pub mod Early
+pub mod EarlyLaws
 pub mod Indexed
 pub mod IndexedLaws
 pub mod Reordered

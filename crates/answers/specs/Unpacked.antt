@@ -3,15 +3,15 @@ use mathlib.Core.List.{List}
 use Prim.Native.Nat.{ℕ}
 use lib.IntN.{ℤ}
 use Rattle.packing.specs.Unpacking.{UnpackedOutcome}
-use Rattle.answers.specs.Told.{numbers}
+use Rattle.answers.specs.Reported.{numbers}
 
-pub record UnpackTold : Type 0 where
+pub record UnpackReported : Type 0 where
   pub returned : ℕ
   pub out : List ℕ
   pub readings : List ℤ
 
-abbrev pub unpackTold : ℕ → List ℕ → List ℤ → UnpackTold
-unpackTold returned out readings = record { returned = returned; out = out; readings = readings }
+abbrev pub unpackReported : ℕ → List ℕ → List ℤ → UnpackReported
+unpackReported returned out readings = record { returned = returned; out = out; readings = readings }
 
-abbrev pub shownUnpacked : UnpackedOutcome → UnpackTold
-shownUnpacked o = unpackTold (o .carry .number) (numbers 0 0 0 (o .carry .place)) (o .readings)
+abbrev pub shownUnpacked : UnpackedOutcome → UnpackReported
+shownUnpacked o = unpackReported (o .carry .number) (numbers 0 0 0 (o .carry .place)) (o .readings)

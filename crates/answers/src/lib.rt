@@ -8,7 +8,7 @@ use index::Indexed;
 use packing::Unpacked;
 use quick::Read;
 use record::Header;
-use reorder::Answer;
+use reorder::Reordered;
 use search::Searched;
 use search::WithRunnerUp;
 use telegram::Heard;
@@ -19,11 +19,11 @@ ghost use Rattle.code.specs.Sound.{carried};
 ghost use Rattle.packing.specs.Unpacking.{carriedIn};
 ghost use Rattle.reorder.specs.Outcome.{answerCarries};
 ghost use Rattle.telegram.specs.Outcome as Tilt;
-ghost use Rattle.answers.specs.Told.{numbers, told};
+ghost use Rattle.answers.specs.Reported.{numbers, reported};
 ghost use Rattle.answers.specs.Answers.{encodedNumber, encodedNumbers, readNumber, readNumbers};
 ghost use Rattle.answers.specs.Answers.{searchedNumber, searchedNumbers};
 ghost use Rattle.answers.specs.Answers.{headerNumber, headerNumbers};
-ghost use Rattle.answers.specs.AtOnceLaws.{answeredNumber, answeredNumbers};
+ghost use Rattle.answers.specs.EarlyLaws.{answeredNumber, answeredNumbers};
 ghost use Rattle.answers.specs.Indexed.{indexedNumber, madeNumbers, entryNumbers};
 ghost use Rattle.answers.specs.Indexed.{appendedNumbers, pairAfter};
 ghost use Rattle.answers.specs.Indexed.{frontedNumber, frontedNumbers};
@@ -101,7 +101,11 @@ pub fn put_searched(answer: Searched, out: &mut [u64; 4]) -> u32
 }
 
 // An answer with a runner-up, which goes into the lent bytes, zeros as they are.
-pub fn put_whole(answer: WithRunnerUp, runner_up: &mut [u8; 256], out: &mut [u64; 4]) -> u32
+pub fn put_with_runner_up(
+    answer: WithRunnerUp,
+    runner_up: &mut [u8; 256],
+    out: &mut [u64; 4],
+) -> u32
     ensures { λ number. ⌜ (number ≡ searchedNumber (answer .result)) × (now (out .exit) ≡ searchedNumbers (answer .result))
         × (now («runner_up» .exit) ≡ answer .«runner_up») ⌝ }
 {
@@ -124,16 +128,16 @@ pub fn put_answered(answer: Answered, out: &mut [u64; 4]) -> u32
     }
 }
 
-pub fn put_reordered(answer: Answer, out: &mut [u64; 4]) -> u32
+pub fn put_reordered(answer: Reordered, out: &mut [u64; 4]) -> u32
     ensures { λ number. ⌜ (number ≡ answerCarries answer .number)
         × (now (out .exit) ≡ numbers 0 0 0 (answerCarries answer .place)) ⌝ }
 {
     match answer {
-        Answer::Done => {
+        Reordered::Done => {
             put_numbers(out, 0, 0, 0, 0);
             0
         }
-        Answer::Refused(why) => put_place(why, out),
+        Reordered::Refused(why) => put_place(why, out),
     }
 }
 
@@ -214,8 +218,8 @@ fn put_telegram(out: &mut [u64; 3], t: Telegram)
 }
 
 pub fn put_heard(answer: Heard, telegram: &mut [u64; 3], out: &mut [u64; 4]) -> u32
-    ensures { λ number. ⌜ told number (now (out .exit)) (now (telegram .exit) ∷ [])
-        ≡ shownRead (Tilt.told answer) ⌝ }
+    ensures { λ number. ⌜ reported number (now (out .exit)) (now (telegram .exit) ∷ [])
+        ≡ shownRead (Tilt.outcomeOf answer) ⌝ }
 {
     match answer {
         Heard::Shown {

@@ -26,8 +26,8 @@ asSearched (Best penalty) = search.Found penalty 0 0
 asSearched (Refused why) = search.Refused why
 
 -- the answer in the rules' numbers
-abbrev pub told : Answered → List ℕ → List ℕ → Outcome
-told a bits word = Search.told (asSearched a) bits word
+abbrev pub outcomeOf : Answered → List ℕ → List ℕ → Outcome
+outcomeOf a bits word = Search.outcomeOf (asSearched a) bits word
 
 -- a search's outcome: on success only word, bits and penalty
 abbrev pub wordOnly : Outcome → Outcome

@@ -31,9 +31,9 @@ abbrev pub refused : Refusal → List ℕ → Outcome
 refused why buffer = record { number = carried why .number; place = carried why .place; buffer = buffer }
 
 -- the answer in the rules' numbers
-abbrev pub told : Encoded → List ℕ → Outcome
-told Done = done
-told (Refused why) = refused why
+abbrev pub outcomeOf : Encoded → List ℕ → Outcome
+outcomeOf Done = done
+outcomeOf (Refused why) = refused why
 
 abbrev pub isGood : Made → Bool
 isGood (Good code) = true

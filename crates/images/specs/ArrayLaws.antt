@@ -1,4 +1,4 @@
--- Laws of the loops over the arrays of images, places and columns: what holds before each turn, and what a turn does.
+-- Laws of the loops over the arrays of images, places and columns: what holds before each pass, and what a pass does.
 use mathlib.Core.Path.{_≡_, refl, ap, ap₂, sym, _∙_}
 use mathlib.Core.Logic.{⊎-elim}
 use mathlib.Core.Bool.{true, false}

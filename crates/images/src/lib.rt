@@ -7,7 +7,7 @@ ghost use lib.IntN.{pos};
 ghost use Rattle.words.specs.Bits.{Bits};
 ghost use Rattle.code.specs.Sound.{largestM};
 ghost use Rattle.maps.specs.Maps.{number, image, allApart};
-ghost use Rattle.images.specs.Images.{Shows, Doubled, Placed, Mapped, Taken, MapTold};
+ghost use Rattle.images.specs.Images.{Shows, Doubled, Placed, Mapped, Taken, MapTested};
 ghost use Rattle.images.specs.Images.{Moves, moved, spreadOf, UndoPut, ProductPut};
 
 // The number whose bit p is the entry at row p and column q of a table of m rows.
@@ -103,7 +103,7 @@ pub fn take_map(m: usize, table: &[u8], row: &[u8], images: &mut [u8], places: &
 // The same where the places are of no use.
 pub fn is_map(m: usize, table: &[u8], row: &[u8], images: &mut [u8]) -> bool
     requires { ⌜ Mapped m (now table) (now row) × (length (now images) ≡ 256) ⌝ }
-    ensures { λ good. ⌜ MapTold m (now (table .entry)) (now (row .entry)) good
+    ensures { λ good. ⌜ MapTested m (now (table .entry)) (now (row .entry)) good
         (now (images .exit)) ⌝ }
 {
     let mut places = [0u8; 256];

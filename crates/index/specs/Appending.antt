@@ -27,9 +27,9 @@ pub record AppendOutcome : Type 0 where
   pub table : List ℕ
 
 -- the answer in the rules' numbers
-abbrev pub toldAppend : Indexed → List ℕ → List ℕ → AppendOutcome
-toldAppend (Done index) capture table = record { carry = carrying 0 0 0 0; index = index; capture = capture; table = table }
-toldAppend (Refused why) capture table = record { carry = carried why; index = indexOf 0 0; capture = capture; table = table }
+abbrev pub appendOutcomeOf : Indexed → List ℕ → List ℕ → AppendOutcome
+appendOutcomeOf (Done index) capture table = record { carry = carrying 0 0 0 0; index = index; capture = capture; table = table }
+appendOutcomeOf (Refused why) capture table = record { carry = carried why; index = indexOf 0 0; capture = capture; table = table }
 
 -- the largest number that a count of records can be; no capture has so many
 abbrev pub largestCount : ℕ
@@ -44,12 +44,12 @@ full index entries =
 abbrev pub appended : Index → ℕ → ℕ → List ℤ → List ℕ → List ℕ → AppendOutcome
 appended index r m l capture table =
     let wrote = writing r m l capture (index .used) in
-    toldAppend (Done (indexOf (suc (index .records)) (wrote .next))) (wrote .buffer) (withEntry (index .records) (index .used) table)
+    appendOutcomeOf (Done (indexOf (suc (index .records)) (wrote .next))) (wrote .buffer) (withEntry (index .records) (index .used) table)
 
 abbrev pub appendedBy : Admitted → Index → ℕ → ℕ → List ℤ → List ℕ → List ℕ → AppendOutcome
-appendedBy (admission.Refused why) index r m l capture table = toldAppend (Refused why) capture table
+appendedBy (admission.Refused why) index r m l capture table = appendOutcomeOf (Refused why) capture table
 appendedBy (admission.Allowed c) index r m l capture table =
-    cond (full index (length table)) (toldAppend (Refused OutputLength) capture table) (appended index r m l capture table)
+    cond (full index (length table)) (appendOutcomeOf (Refused OutputLength) capture table) (appended index r m l capture table)
 
 -- of the index, r, m, the readings, the capture's buffer and the table
 unfoldable pub appending : Index → ℕ → ℕ → List ℤ → List ℕ → List ℕ → AppendOutcome

@@ -36,16 +36,16 @@ pub record IndexOutcome : Type 0 where
   pub table : List ℕ
 
 -- the answer in the rules' numbers
-abbrev pub told : Indexed → List ℕ → IndexOutcome
-told (Done index) table = record { carry = carrying 0 0 0 0; index = index; table = table }
-told (Refused why) table = record { carry = carried why; index = indexOf 0 0; table = table }
+abbrev pub outcomeOf : Indexed → List ℕ → IndexOutcome
+outcomeOf (Done index) table = record { carry = carrying 0 0 0 0; index = index; table = table }
+outcomeOf (Refused why) table = record { carry = carried why; index = indexOf 0 0; table = table }
 
 abbrev pub madeBy : Starts → List ℕ → List ℕ → IndexOutcome
-madeBy (refused why) s table = told (Refused why) table
+madeBy (refused why) s table = outcomeOf (Refused why) table
 madeBy (these l) s table =
     let made = entriesOf l in
-    cond (ltb (length table) (length made)) (told (Refused OutputLength) table)
-    (told (Done (indexOf (length l) (length s))) (made ++ drop (length made) table))
+    cond (ltb (length table) (length made)) (outcomeOf (Refused OutputLength) table)
+    (outcomeOf (Done (indexOf (length l) (length s))) (made ++ drop (length made) table))
 
 -- of the capture and the table
 unfoldable pub making : List ℕ → List ℕ → IndexOutcome

@@ -58,7 +58,7 @@ pub fn left_word(path: &[u8], word: &mut [u8], e: usize, h: usize, t: usize)
     ensures { λ _. ⌜ take h (now (word .exit))
         ≡ transform t (take h (drop (e - h) (now (path .entry)))) ⌝ }
 {
-    half::put_row(&path[e - h..e], &mut word[0..h], t);
+    bit_rows::put_row(&path[e - h..e], &mut word[0..h], t);
 }
 
 // The same of two bits, by straight code.

@@ -22,12 +22,12 @@ abbrev pub carriedIn : Unpacked → Carried
 carriedIn Done = carrying 0 0 0 0
 carriedIn (Refused why) = carried why
 
-abbrev pub told : Unpacked → List ℤ → UnpackedOutcome
-told answer readings = record { carry = carriedIn answer; readings = readings }
+abbrev pub outcomeOf : Unpacked → List ℤ → UnpackedOutcome
+outcomeOf answer readings = record { carry = carriedIn answer; readings = readings }
 
 -- of a packed part, and the buffer for its readings
 unfoldable pub unpacking : List ℕ → List ℤ → UnpackedOutcome
 unpacking part readings =
     let n = readingsIn (suc largestM) (length part) in
-    cond (eqb n 0) (told (Refused InputLength) readings)
-    (cond (not (eqb (length readings) n)) (told (Refused OutputLength) readings) (told Done (unpacked part)))
+    cond (eqb n 0) (outcomeOf (Refused InputLength) readings)
+    (cond (not (eqb (length readings) n)) (outcomeOf (Refused OutputLength) readings) (outcomeOf Done (unpacked part)))

@@ -1,8 +1,8 @@
-// Turned position orders: reordering by a map of positions, undo maps and products.
+// Position orders: reordering by a map of positions, undo maps and products.
 use answers::put_reordered;
 ghost use mathlib.Core.Path.{_≡_};
 ghost use Rattle.reorder.specs.Outcome.{reordering, reorderingWord, undoing, multiplying};
-ghost use Rattle.answers.specs.Reordered.{reorderTold, shownReordered};
+ghost use Rattle.answers.specs.Reordered.{reorderReported, shownReordered};
 
 #[no_mangle]
 pub extern "C" fn cinorbis_reorder(
@@ -13,7 +13,7 @@ pub extern "C" fn cinorbis_reorder(
     out: &mut [i16],
     numbers: &mut [u64; 4],
 ) -> u32
-    ensures { λ number. ⌜ reorderTold number (now (numbers .exit)) (now (out .exit))
+    ensures { λ number. ⌜ reorderReported number (now (numbers .exit)) (now (out .exit))
         ≡ shownReordered (reordering m (now (table .entry)) (now (row .entry))
         (now (readings .entry)) (now (out .entry))) ⌝ }
 {
@@ -30,7 +30,7 @@ pub extern "C" fn cinorbis_reorder_word(
     out: &mut [u8],
     numbers: &mut [u64; 4],
 ) -> u32
-    ensures { λ number. ⌜ reorderTold number (now (numbers .exit)) (now (out .exit))
+    ensures { λ number. ⌜ reorderReported number (now (numbers .exit)) (now (out .exit))
         ≡ shownReordered (reorderingWord m (now (table .entry)) (now (row .entry))
         (now (word .entry)) (now (out .entry))) ⌝ }
 {
@@ -47,7 +47,7 @@ pub extern "C" fn cinorbis_undo_map(
     outrow: &mut [u8],
     numbers: &mut [u64; 4],
 ) -> u32
-    ensures { λ number. ⌜ reorderTold number (now (numbers .exit))
+    ensures { λ number. ⌜ reorderReported number (now (numbers .exit))
         (now (out .exit), now (outrow .exit))
         ≡ shownReordered (undoing m (now (table .entry)) (now (row .entry))
         (now (out .entry)) (now (outrow .entry))) ⌝ }
@@ -67,7 +67,7 @@ pub extern "C" fn cinorbis_product_map(
     outrow: &mut [u8],
     numbers: &mut [u64; 4],
 ) -> u32
-    ensures { λ number. ⌜ reorderTold number (now (numbers .exit))
+    ensures { λ number. ⌜ reorderReported number (now (numbers .exit))
         (now (out .exit), now (outrow .exit))
         ≡ shownReordered (multiplying m (now (table1 .entry)) (now (row1 .entry))
         (now (table2 .entry)) (now (row2 .entry)) (now (out .entry)) (now (outrow .entry))) ⌝ }

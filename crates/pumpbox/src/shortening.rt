@@ -1,13 +1,13 @@
 // The C exports of the calls on a shortened set.
 use answers::put_encoded;
 use answers::put_read;
-use answers::put_whole;
+use answers::put_with_runner_up;
 ghost use mathlib.Core.Path.{_≡_};
 ghost use mathlib.Core.List.{[], _∷_};
 ghost use Rattle.code.specs.Sound.{defaultAllowance};
 ghost use Rattle.shortened.specs.Outcome.{encodingShortened, invertingShortened, quickShortened};
 ghost use Rattle.shortened_search.specs.Outcome.{searchingShortened};
-ghost use Rattle.answers.specs.Told.{told, shown, shownQuick, shownWhole};
+ghost use Rattle.answers.specs.Reported.{reported, shown, shownQuick, shownWithRunnerUp};
 
 #[no_mangle]
 pub extern "C" fn cinorbis_encode_shortened(
@@ -18,7 +18,7 @@ pub extern "C" fn cinorbis_encode_shortened(
     word: &mut [u8],
     out: &mut [u64; 4],
 ) -> u32
-    ensures { λ number. ⌜ told number (now (out .exit)) (now (word .exit) ∷ [])
+    ensures { λ number. ⌜ reported number (now (out .exit)) (now (word .exit) ∷ [])
         ≡ shown (encodingShortened r m (now (named .entry)) (now (bits .entry))
         (now (word .entry))) ⌝ }
 {
@@ -35,7 +35,7 @@ pub extern "C" fn cinorbis_inverse_shortened(
     bits: &mut [u8],
     out: &mut [u64; 4],
 ) -> u32
-    ensures { λ number. ⌜ told number (now (out .exit)) (now (bits .exit) ∷ [])
+    ensures { λ number. ⌜ reported number (now (out .exit)) (now (bits .exit) ∷ [])
         ≡ shown (invertingShortened r m (now (named .entry)) (now (word .entry))
         (now (bits .entry))) ⌝ }
 {
@@ -53,7 +53,7 @@ pub extern "C" fn cinorbis_quick_shortened(
     word: &mut [u8],
     out: &mut [u64; 4],
 ) -> u32
-    ensures { λ number. ⌜ told number (now (out .exit)) (now (bits .exit) ∷ now (word .exit) ∷ [])
+    ensures { λ number. ⌜ reported number (now (out .exit)) (now (bits .exit) ∷ now (word .exit) ∷ [])
         ≡ shownQuick (quickShortened r m (now (named .entry)) (now (readings .entry))
         (now (bits .entry)) (now (word .entry))) ⌝ }
 {
@@ -72,13 +72,13 @@ pub extern "C" fn cinorbis_search_shortened(
     runner_up: &mut [u8; 256],
     out: &mut [u64; 4],
 ) -> u32
-    ensures { λ number. ⌜ told number (now (out .exit))
+    ensures { λ number. ⌜ reported number (now (out .exit))
         (now (bits .exit) ∷ now (word .exit) ∷ now («runner_up» .exit) ∷ [])
-        ≡ shownWhole (searchingShortened r m defaultAllowance (now (named .entry))
+        ≡ shownWithRunnerUp (searchingShortened r m defaultAllowance (now (named .entry))
         (now (readings .entry)) (now (bits .entry)) (now (word .entry))) ⌝ }
 {
     let answer = shortened_search::search_shortened(r, m, named, readings, bits, word);
-    put_whole(answer, runner_up, out)
+    put_with_runner_up(answer, runner_up, out)
 }
 
 #[no_mangle]
@@ -93,9 +93,9 @@ pub extern "C" fn cinorbis_search_within_shortened(
     runner_up: &mut [u8; 256],
     out: &mut [u64; 4],
 ) -> u32
-    ensures { λ number. ⌜ told number (now (out .exit))
+    ensures { λ number. ⌜ reported number (now (out .exit))
         (now (bits .exit) ∷ now (word .exit) ∷ now («runner_up» .exit) ∷ [])
-        ≡ shownWhole (searchingShortened r m allowed (now (named .entry))
+        ≡ shownWithRunnerUp (searchingShortened r m allowed (now (named .entry))
         (now (readings .entry)) (now (bits .entry)) (now (word .entry))) ⌝ }
 {
     let answer = shortened_search::search_within_shortened(
@@ -107,5 +107,5 @@ pub extern "C" fn cinorbis_search_within_shortened(
         bits,
         word,
     );
-    put_whole(answer, runner_up, out)
+    put_with_runner_up(answer, runner_up, out)
 }

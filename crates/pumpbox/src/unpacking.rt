@@ -2,11 +2,11 @@
 use answers::put_unpacked;
 ghost use mathlib.Core.Path.{_≡_};
 ghost use Rattle.packing.specs.Unpacking.{unpacking};
-ghost use Rattle.answers.specs.Unpacked.{unpackTold, shownUnpacked};
+ghost use Rattle.answers.specs.Unpacked.{unpackReported, shownUnpacked};
 
 #[no_mangle]
 pub extern "C" fn cinorbis_unpack(part: &[u8], readings: &mut [i16], out: &mut [u64; 4]) -> u32
-    ensures { λ number. ⌜ unpackTold number (now (out .exit)) (now (readings .exit))
+    ensures { λ number. ⌜ unpackReported number (now (out .exit)) (now (readings .exit))
         ≡ shownUnpacked (unpacking (now (part .entry)) (now (readings .entry))) ⌝ }
 {
     let answer = packing::unpack(part, readings);

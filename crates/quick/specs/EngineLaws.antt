@@ -20,7 +20,7 @@ use Rattle.decoding.specs.Readings.{sizes, sumLimit}
 use Rattle.decoding.specs.Quick.{lowerRow, upperRow, decide, quickWord}
 use Rattle.decoding.specs.StepLaws.{entry-sizes, length-lowerRow, length-upperRow, sizes-lowerRow, sizes-upperRow}
 use Rattle.decoding.specs.QuickLaws.{length-quick, bits-quick}
-use Rattle.half.specs.Fold.{folded}
+use Rattle.bit_rows.specs.Fold.{folded}
 use Rattle.rows.specs.Rows.{rowOf, withRow}
 use Rattle.rows.specs.RowLaws.{length-rowOf}
 use Rattle.rows.specs.PlaceLaws.{length-withRow, behind-withRow, rowOf-withRow, rowOf-front}

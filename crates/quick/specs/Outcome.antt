@@ -33,9 +33,9 @@ abbrev pub refused : Refusal → List ℕ → List ℕ → Outcome
 refused why bits word = let c = carried why in record { number = c .number; place = c .place; penalty = c .penalty; bits = bits; word = word }
 
 -- the answer in the rules' numbers
-abbrev pub told : Read → List ℕ → List ℕ → Outcome
-told (Done penalty) = done penalty
-told (Refused why) = refused why
+abbrev pub outcomeOf : Read → List ℕ → List ℕ → Outcome
+outcomeOf (Done penalty) = done penalty
+outcomeOf (Refused why) = refused why
 
 -- the written steps, where no test refuses
 abbrev pub readingBy : Code → List ℤ → Outcome

@@ -25,9 +25,9 @@ pub record WrittenOutcome : Type 0 where
   pub buffer : List ℕ
 
 -- the answer in the rules' numbers
-abbrev pub told : Written → List ℕ → WrittenOutcome
-told (Next next) buffer = record { carry = carrying 0 0 0 0; next = next; buffer = buffer }
-told (Refused why) buffer = record { carry = carried why; next = 0; buffer = buffer }
+abbrev pub outcomeOf : Written → List ℕ → WrittenOutcome
+outcomeOf (Next next) buffer = record { carry = carrying 0 0 0 0; next = next; buffer = buffer }
+outcomeOf (Refused why) buffer = record { carry = carried why; next = 0; buffer = buffer }
 
 -- of a code: the readings l, and a record in a buffer of so many bytes from the place on
 abbrev pub writableBy : Code → List ℤ → ℕ → ℕ → Admitted
@@ -45,9 +45,9 @@ abbrev pub laidAt : ℕ → List ℕ → List ℕ → List ℕ
 laidAt place x d = take place d ++ (x ++ drop (place + length x) d)
 
 abbrev pub writtenBy : Admitted → List ℤ → List ℕ → ℕ → WrittenOutcome
-writtenBy (admission.Refused why) l buffer place = told (Refused why) buffer
+writtenBy (admission.Refused why) l buffer place = outcomeOf (Refused why) buffer
 writtenBy (admission.Allowed c) l buffer place =
-    let new = recordOf (c .r) (c .m) l in told (Next (place + length new)) (laidAt place new buffer)
+    let new = recordOf (c .r) (c .m) l in outcomeOf (Next (place + length new)) (laidAt place new buffer)
 
 -- of r, m, the readings, the buffer and the place
 unfoldable pub writing : ℕ → ℕ → List ℤ → List ℕ → ℕ → WrittenOutcome

@@ -71,20 +71,20 @@ module _ (r m : ℕ) (named : List ℕ) where
       ]
 
   module _ (a b : Encoded) (x y : List ℕ) where
-    pub encode-only : (bits word : List ℕ) → encoder.told a x ≡ encodingShortened r m named bits word → encoder.told b y ≡ encodingShortened r m named bits word
+    pub encode-only : (bits word : List ℕ) → encoder.outcomeOf a x ≡ encodingShortened r m named bits word → encoder.outcomeOf b y ≡ encodingShortened r m named bits word
         → (a ≡ b) × (x ≡ y)
     encode-only bits word =
         let p = encoding-plain bits word in
         encoders.outcome-only (encodingShortened r m named bits word) (p .0) (p .1) a b x y
 
-    pub inverse-only : (word bits : List ℕ) → encoder.told a x ≡ invertingShortened r m named word bits
-        → encoder.told b y ≡ invertingShortened r m named word bits → (a ≡ b) × (x ≡ y)
+    pub inverse-only : (word bits : List ℕ) → encoder.outcomeOf a x ≡ invertingShortened r m named word bits
+        → encoder.outcomeOf b y ≡ invertingShortened r m named word bits → (a ≡ b) × (x ≡ y)
     inverse-only word bits =
         let p = inverting-plain word bits in
         encoders.outcome-only (invertingShortened r m named word bits) (p .0) (p .1) a b x y
 
-  pub quick-only : (l : List ℤ) (bits word : List ℕ) (a b : Read) (x y v w : List ℕ) → reader.told a x y ≡ quickShortened r m named l bits word
-      → reader.told b v w ≡ quickShortened r m named l bits word → (a ≡ b) × (x ≡ v) × (y ≡ w)
+  pub quick-only : (l : List ℤ) (bits word : List ℕ) (a b : Read) (x y v w : List ℕ) → reader.outcomeOf a x y ≡ quickShortened r m named l bits word
+      → reader.outcomeOf b v w ≡ quickShortened r m named l bits word → (a ≡ b) × (x ≡ v) × (y ≡ w)
   quick-only l bits word =
       let p = quick-plain l bits word in
       readers.outcome-only (quickShortened r m named l bits word) (p .0) (p .1)

@@ -23,7 +23,7 @@ ghost use Rattle.shortened.specs.Work.{Workable};
 
 // Writes the word of the information bits that are left into the lent buffer.
 pub fn encode_shortened(r: u32, m: u32, named: &[u8], bits: &[u8], word: &mut [u8]) -> Encoded
-    ensures { λ answer. ⌜ encoder.told answer (now (word .exit))
+    ensures { λ answer. ⌜ encoder.outcomeOf answer (now (word .exit))
         ≡ encodingShortened r m (now (named .entry)) (now (bits .entry)) (now (word .entry)) ⌝ }
 {
     match named::admit_row(r, m, named) {
@@ -34,7 +34,7 @@ pub fn encode_shortened(r: u32, m: u32, named: &[u8], bits: &[u8], word: &mut [u
 
 // Writes the information bits of the word into the lent buffer: a named index is frozen.
 pub fn inverse_shortened(r: u32, m: u32, named: &[u8], word: &[u8], bits: &mut [u8]) -> Encoded
-    ensures { λ answer. ⌜ encoder.told answer (now (bits .exit))
+    ensures { λ answer. ⌜ encoder.outcomeOf answer (now (bits .exit))
         ≡ invertingShortened r m (now (named .entry)) (now (word .entry)) (now (bits .entry)) ⌝ }
 {
     match named::admit_row(r, m, named) {
@@ -52,7 +52,7 @@ pub fn quick_shortened(
     bits: &mut [u8],
     word: &mut [u8],
 ) -> Read
-    ensures { λ answer. ⌜ reader.told answer (now (bits .exit)) (now (word .exit))
+    ensures { λ answer. ⌜ reader.outcomeOf answer (now (bits .exit)) (now (word .exit))
         ≡ quickShortened r m (now (named .entry)) (now (readings .entry))
         (now (bits .entry)) (now (word .entry)) ⌝ }
 {
@@ -65,7 +65,7 @@ pub fn quick_shortened(
 // The tests 2 to 4 of the encoder, and its work.
 fn encode_left(code: Code, named: &[u8], bits: &[u8], word: &mut [u8]) -> Encoded
     requires { ⌜ Sound code × GoodRow (now named) (kinds (code .r) (code .m)) ⌝ }
-    ensures { λ answer. ⌜ encoder.told answer (now (word .exit))
+    ensures { λ answer. ⌜ encoder.outcomeOf answer (now (word .exit))
         ≡ encodingOver (leftOf (now (named .entry)) code) code (now (bits .entry))
         (now (word .entry)) ⌝ }
 {
@@ -93,14 +93,14 @@ fn put_word(code: Code, named: &[u8], kinds: &mut [u8], bits: &[u8], word: &mut 
         ≡ encoded (code .m) (leftOf (now (named .entry)) code) (now (bits .entry)) ⌝ }
 {
     named::put_left(code, named, kinds);
-    half::fill(kinds, bits, word);
-    half::transform(word, code.m as usize);
+    bit_rows::fill(kinds, bits, word);
+    bit_rows::transform(word, code.m as usize);
 }
 
 // The tests 2 to 4 of the inverse, and its work.
 fn inverse_left(code: Code, named: &[u8], word: &[u8], bits: &mut [u8]) -> Encoded
     requires { ⌜ Sound code × GoodRow (now named) (kinds (code .r) (code .m)) ⌝ }
-    ensures { λ answer. ⌜ encoder.told answer (now (bits .exit))
+    ensures { λ answer. ⌜ encoder.outcomeOf answer (now (bits .exit))
         ≡ invertingOver (leftOf (now (named .entry)) code) code (now (word .entry))
         (now (bits .entry)) ⌝ }
 {
@@ -130,19 +130,19 @@ fn take_back(
 ) -> Encoded
     requires { ⌜ Workable code (now named) (now kinds) (length (now bits)) (length (now word))
         (Bits (now word)) × (length (now row) ≡ 2 ^ (code .m)) ⌝ }
-    ensures { λ answer. ⌜ encoder.told answer (now (bits .exit))
+    ensures { λ answer. ⌜ encoder.outcomeOf answer (now (bits .exit))
         ≡ encoder.takingBack (takenBack (code .m) (leftOf (now (named .entry)) code)
         (now (word .entry))) (now (bits .entry)) ⌝ }
 {
     named::put_left(code, named, kinds);
-    half::put_row(word, row, code.m as usize);
+    bit_rows::put_row(word, row, code.m as usize);
     encode::take_row(kinds, row, bits)
 }
 
 // The tests 2 to 4 of the quick reading, and its work.
 fn quick_left(code: Code, named: &[u8], readings: &[i16], bits: &mut [u8], word: &mut [u8]) -> Read
     requires { ⌜ Sound code × GoodRow (now named) (kinds (code .r) (code .m)) ⌝ }
-    ensures { λ answer. ⌜ reader.told answer (now (bits .exit)) (now (word .exit))
+    ensures { λ answer. ⌜ reader.outcomeOf answer (now (bits .exit)) (now (word .exit))
         ≡ quickOver (leftOf (now (named .entry)) code) code (now (readings .entry))
         (now (bits .entry)) (now (word .entry)) ⌝ }
 {
@@ -174,6 +174,6 @@ fn take_reading(
     let m = code.m as usize;
     named::put_left(code, named, kinds);
     quick::quick_word(readings, kinds, word, m);
-    half::take_bits(kinds, word, bits, m);
+    bit_rows::take_bits(kinds, word, bits, m);
     quick::penalty(readings, word)
 }

@@ -10,8 +10,8 @@ ghost use Rattle.words.specs.Bits.{Bits, digits};
 ghost use Rattle.telegram.specs.Telegram.{ofDigits, telegramOf, wordOf};
 ghost use Rattle.telegram.specs.Faults.{tiltFault, fieldFault, writerFault, readerFault};
 ghost use Rattle.telegram.specs.Faults.{faultCarries};
-ghost use Rattle.telegram.specs.Outcome.{toldWritten, writingTelegram};
-ghost use Rattle.telegram.specs.Outcome.{told, judged, readingTelegram, readingBits};
+ghost use Rattle.telegram.specs.Outcome.{writtenOutcomeOf, writingTelegram};
+ghost use Rattle.telegram.specs.Outcome.{outcomeOf, judged, readingTelegram, readingBits};
 
 // What the tilt head says. Direction 1 is to port; the tilt is in hundredths of a degree.
 pub struct Telegram {
@@ -70,7 +70,7 @@ pub enum Heard {
 
 // Writes the telegram's word into the lent buffer.
 pub fn write(cylinder: u32, direction: u32, tilt: u32, word: &mut [u8]) -> Written
-    ensures { λ answer. ⌜ toldWritten answer (now (word .exit))
+    ensures { λ answer. ⌜ writtenOutcomeOf answer (now (word .exit))
         ≡ writingTelegram cylinder direction tilt (now (word .entry)) ⌝ }
 {
     if word.len() != Telegram::LENGTH {
@@ -92,7 +92,7 @@ pub fn write(cylinder: u32, direction: u32, tilt: u32, word: &mut [u8]) -> Writt
 
 // The telegram of the best word for the readings, or why there is none to show.
 pub fn read_within(allowed: u32, readings: &[i16]) -> Heard
-    ensures { λ answer. ⌜ told answer ≡ readingTelegram allowed (now (readings .entry)) ⌝ }
+    ensures { λ answer. ⌜ outcomeOf answer ≡ readingTelegram allowed (now (readings .entry)) ⌝ }
 {
     let mut found = [0u8; 16];
     let mut word = [0u8; 32];
@@ -111,14 +111,14 @@ pub fn read_within(allowed: u32, readings: &[i16]) -> Heard
 
 // The same, with the default allowance.
 pub fn read(readings: &[i16]) -> Heard
-    ensures { λ answer. ⌜ told answer ≡ readingTelegram defaultAllowance (now (readings .entry)) ⌝ }
+    ensures { λ answer. ⌜ outcomeOf answer ≡ readingTelegram defaultAllowance (now (readings .entry)) ⌝ }
 {
     read_within(code::Code::DEFAULT_ALLOWANCE, readings)
 }
 
 // What 16 information bits say, those of a runner-up for one: the reader without its search.
 pub fn of_bits(bits: &[u8]) -> Heard
-    ensures { λ answer. ⌜ told answer ≡ readingBits (now (bits .entry)) ⌝ }
+    ensures { λ answer. ⌜ outcomeOf answer ≡ readingBits (now (bits .entry)) ⌝ }
 {
     if bits.len() != Telegram::BITS {
         return Heard::Refused(Fault::Link(Refusal::InputLength));
@@ -244,7 +244,7 @@ fn telegram_of(bits: &[u8]) -> Telegram
 // Shows the telegram of the bits that the search found, where no fault forbids it.
 fn judge(bits: &[u8], penalty: u32, gap: u32, visits: u32) -> Heard
     requires { ⌜ Bits (now bits) × (length (now bits) ≡ 16) ⌝ }
-    ensures { λ answer. ⌜ told answer ≡ judged (now (bits .entry)) penalty gap visits ⌝ }
+    ensures { λ answer. ⌜ outcomeOf answer ≡ judged (now (bits .entry)) penalty gap visits ⌝ }
 {
     let telegram = telegram_of(bits);
     match reader_fault(bits[15], telegram) {

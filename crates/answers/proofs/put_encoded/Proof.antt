@@ -1,6 +1,6 @@
 -- `answers::put_encoded` meets its contract.
 use Rattle.answers.specs.Answers.{encodedNumber, encodedNumbers}
-use Rattle.answers.specs.ToldLaws.{handed}
+use Rattle.answers.specs.ReportedLaws.{handed}
 use borrow.Author.Needs.{needs}
 use Rattle.answers.proofs.put_encoded.Statement.{statement}
 use Rattle.answers.proofs.put_encoded.Tie as tie

@@ -1,9 +1,9 @@
 -- `answers::put_reordered` meets its contract.
 use mathlib.Core.Path.{_≡_, refl}
 use Rattle.reorder.specs.Outcome.{answerCarries}
-use Rattle.reorder.specs.declared.Answer.the-variants.{Done}
-use Rattle.answers.specs.Told.{numbers}
-use Rattle.answers.specs.ToldLaws.{handed}
+use Rattle.reorder.specs.declared.Reordered.the-variants.{Done}
+use Rattle.answers.specs.Reported.{numbers}
+use Rattle.answers.specs.ReportedLaws.{handed}
 use borrow.Author.Needs.{needs}
 use Rattle.answers.proofs.put_reordered.Statement.{statement}
 use Rattle.answers.proofs.put_reordered.Tie as tie

@@ -2,8 +2,8 @@
 use mathlib.Core.Path.{_≡_, refl}
 use Rattle.packing.specs.Unpacking.{carriedIn}
 use Rattle.packing.specs.declared.Unpacked.the-variants.{Done}
-use Rattle.answers.specs.Told.{numbers}
-use Rattle.answers.specs.ToldLaws.{handed}
+use Rattle.answers.specs.Reported.{numbers}
+use Rattle.answers.specs.ReportedLaws.{handed}
 use borrow.Author.Needs.{needs}
 use Rattle.answers.proofs.put_unpacked.Statement.{statement}
 use Rattle.answers.proofs.put_unpacked.Tie as tie

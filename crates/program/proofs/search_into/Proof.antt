@@ -5,7 +5,7 @@ use Prim.Native.Nat.{ℕ}
 use native.Mathlib.Omega.{arith}
 use Rattle.record.specs.ReaderLaws.{framed-record}
 use Rattle.search.specs.declared.Searched.{Searched}
-use Rattle.search.specs.RunnerUp.{WholeOutcome}
+use Rattle.search.specs.RunnerUp.{RunnerUpOutcome}
 use Rattle.program.specs.Program.{Result, answered, resultOf}
 use Rattle.program.specs.Step.{Stepped}
 use Rattle.program.specs.StepLaws.{resultIn, searched-result, found-bits}
@@ -33,7 +33,7 @@ module _ (r : tie.After-search-framed) where
   says : resultIn (r .search-framed .result .result) bits ≡ resultOf (g .args .s .now)
   says =
       searched-result (g .args .s .now) (g .args .code) bits (r .search-framed .last .1 .1 .1 .1 .0) (g .args .bits .now) (g .args .word .now)
-      (g .pre .0 .0) (g .pre .0 .1) (g .pre .0 .2) (r .search-framed .result .result) (ap (λ (o : WholeOutcome). o .outcome) (r .search-framed .ensures))
+      (g .pre .0 .0) (g .pre .0 .1) (g .pre .0 .2) (r .search-framed .result .result) (ap (λ (o : RunnerUpOutcome). o .outcome) (r .search-framed .ensures))
 
 -- and where it is an answer
 module _ (c : tie.After-known-told) where

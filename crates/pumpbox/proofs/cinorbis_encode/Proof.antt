@@ -1,5 +1,5 @@
 -- `cinorbis_encode` tells the outcome of `encode`.
-use Rattle.answers.specs.ToldLaws.{told-encoded}
+use Rattle.answers.specs.ReportedLaws.{reported-encoded}
 use borrow.Author.Needs.{needs}
 use Rattle.pumpbox.proofs.cinorbis_encode.Statement.{statement}
 use Rattle.pumpbox.proofs.cinorbis_encode.Tie as tie
@@ -17,7 +17,7 @@ returns : tie.Need-returns
 returns c =
     let e = c .before .before .before .before .encode in
     let p = c .put-encoded in
-    told-encoded (e .result) _ _ (p .result) (p .last .1 .0) (e .ensures) (p .ensures .0) (p .ensures .1)
+    reported-encoded (e .result) _ _ (p .result) (p .last .1 .0) (e .ensures) (p .ensures .0) (p .ensures .1)
 
 pub cinorbis-encode-spec : {M : Type 1} → statement M
 cinorbis-encode-spec =

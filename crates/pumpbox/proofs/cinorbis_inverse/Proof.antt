@@ -1,5 +1,5 @@
 -- `cinorbis_inverse` tells the outcome of `inverse`.
-use Rattle.answers.specs.ToldLaws.{told-encoded}
+use Rattle.answers.specs.ReportedLaws.{reported-encoded}
 use borrow.Author.Needs.{needs}
 use Rattle.pumpbox.proofs.cinorbis_inverse.Statement.{statement}
 use Rattle.pumpbox.proofs.cinorbis_inverse.Tie as tie
@@ -17,7 +17,7 @@ returns : tie.Need-returns
 returns c =
     let e = c .before .before .before .before .inverse in
     let p = c .put-encoded in
-    told-encoded (e .result) _ _ (p .result) (p .last .1 .0) (e .ensures) (p .ensures .0) (p .ensures .1)
+    reported-encoded (e .result) _ _ (p .result) (p .last .1 .0) (e .ensures) (p .ensures .0) (p .ensures .1)
 
 pub cinorbis-inverse-spec : {M : Type 1} → statement M
 cinorbis-inverse-spec =

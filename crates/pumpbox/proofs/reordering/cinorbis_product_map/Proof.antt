@@ -1,5 +1,5 @@
 -- `cinorbis_product_map` tells the outcome of `product_map`.
-use Rattle.answers.specs.Reordered.{told-reordered}
+use Rattle.answers.specs.Reordered.{reported-reordered}
 use borrow.Author.Needs.{needs}
 use Rattle.pumpbox.proofs.reordering.cinorbis_product_map.Statement.{statement}
 use Rattle.pumpbox.proofs.reordering.cinorbis_product_map.Tie as tie
@@ -20,7 +20,7 @@ returns : tie.Need-returns
 returns c =
     let e = c .before .before .before .before .before .before .product-map in
     let p = c .put-reordered in
-    told-reordered (e .result) _ _ (p .result) (p .last .1 .0) (e .ensures) (p .ensures .0) (p .ensures .1)
+    reported-reordered (e .result) _ _ (p .result) (p .last .1 .0) (e .ensures) (p .ensures .0) (p .ensures .1)
 
 pub cinorbis-product-map-spec : {M : Type 1} → statement M
 cinorbis-product-map-spec =

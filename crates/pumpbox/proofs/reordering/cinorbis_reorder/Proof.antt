@@ -1,5 +1,5 @@
 -- `cinorbis_reorder` tells the outcome of `reorder`.
-use Rattle.answers.specs.Reordered.{told-reordered}
+use Rattle.answers.specs.Reordered.{reported-reordered}
 use borrow.Author.Needs.{needs}
 use Rattle.pumpbox.proofs.reordering.cinorbis_reorder.Statement.{statement}
 use Rattle.pumpbox.proofs.reordering.cinorbis_reorder.Tie as tie
@@ -17,7 +17,7 @@ returns : tie.Need-returns
 returns c =
     let e = c .before .before .before .reorder in
     let p = c .put-reordered in
-    told-reordered (e .result) _ _ (p .result) (p .last .1 .0) (e .ensures) (p .ensures .0) (p .ensures .1)
+    reported-reordered (e .result) _ _ (p .result) (p .last .1 .0) (e .ensures) (p .ensures .0) (p .ensures .1)
 
 pub cinorbis-reorder-spec : {M : Type 1} → statement M
 cinorbis-reorder-spec =

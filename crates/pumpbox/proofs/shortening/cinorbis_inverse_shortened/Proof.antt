@@ -1,6 +1,6 @@
 -- `cinorbis_inverse_shortened` tells the outcome of `inverse_shortened`.
 use borrow.Author.Needs.{needs}
-use Rattle.answers.specs.ToldLaws.{told-encoded}
+use Rattle.answers.specs.ReportedLaws.{reported-encoded}
 use Rattle.pumpbox.proofs.shortening.cinorbis_inverse_shortened.Statement.{statement}
 use Rattle.pumpbox.proofs.shortening.cinorbis_inverse_shortened.Tie as tie
 
@@ -17,7 +17,7 @@ returns : tie.Need-returns
 returns c =
     let e = c .before .before .before .before .inverse-shortened in
     let p = c .put-encoded in
-    told-encoded (e .result) _ _ (p .result) (p .last .1 .0) (e .ensures) (p .ensures .0) (p .ensures .1)
+    reported-encoded (e .result) _ _ (p .result) (p .last .1 .0) (e .ensures) (p .ensures .0) (p .ensures .1)
 
 pub cinorbis-inverse-shortened-spec : {M : Type 1} → statement M
 cinorbis-inverse-shortened-spec =

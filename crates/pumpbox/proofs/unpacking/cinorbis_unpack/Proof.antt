@@ -2,7 +2,7 @@
 use mathlib.Core.Path.{ap, ap₂, _∙_}
 use mathlib.Core.List.{List}
 use Prim.Native.Nat.{ℕ}
-use Rattle.answers.specs.Unpacked.{unpackTold, shownUnpacked}
+use Rattle.answers.specs.Unpacked.{unpackReported, shownUnpacked}
 use borrow.Author.Needs.{needs}
 use Rattle.pumpbox.proofs.unpacking.cinorbis_unpack.Statement.{statement}
 use Rattle.pumpbox.proofs.unpacking.cinorbis_unpack.Tie as tie
@@ -20,7 +20,7 @@ returns : tie.Need-returns
 returns c =
     let u = c .before .before .before .unpack in
     let p = c .put-unpacked in
-    ap₂ (λ (n : ℕ) (l : List ℕ). unpackTold n l (u .last .1 .0)) (p .ensures .0) (p .ensures .1) ∙ ap shownUnpacked (u .ensures)
+    ap₂ (λ (n : ℕ) (l : List ℕ). unpackReported n l (u .last .1 .0)) (p .ensures .0) (p .ensures .1) ∙ ap shownUnpacked (u .ensures)
 
 pub cinorbis-unpack-spec : {M : Type 1} → statement M
 cinorbis-unpack-spec =
