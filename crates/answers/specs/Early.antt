@@ -1,4 +1,4 @@
--- What the exports of the early answer tell: its outcome, as C sees it.
+-- What the exports of the early answer report: its outcome, as C sees it.
 use mathlib.Core.List.{[], _∷_}
 use Rattle.search.specs.Outcome.{Outcome}
 use Rattle.answers.specs.Reported.{Reported, numbers, reported}

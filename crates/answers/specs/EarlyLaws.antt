@@ -1,4 +1,4 @@
--- An export of the early answer tells the outcome of the call that it makes.
+-- An export of the early answer reports the outcome of the call that it makes.
 use mathlib.Core.Path.{_≡_, refl, ap, ap₂, _∙_}
 use mathlib.Core.List.{List, [], _∷_}
 use Prim.Native.Nat.{ℕ}
@@ -25,6 +25,7 @@ by-answered (Best penalty) bits word = refl
 by-answered (Refused why) bits word = refl
 
 pub reported-answered : (answer : Answered) (bits word : List ℕ) (o : Outcome) (returned : ℕ) (out : List ℕ)
-    → Early.outcomeOf answer bits word ≡ o → returned ≡ answeredNumber answer → out ≡ answeredNumbers answer → reported returned out (bits ∷ word ∷ []) ≡ shownEarly o
+    → Early.outcomeOf answer bits word ≡ o → returned ≡ answeredNumber answer → out ≡ answeredNumbers answer
+    → reported returned out (bits ∷ word ∷ []) ≡ shownEarly o
 reported-answered answer bits word o returned out e f g =
     ap₂ (λ (n : ℕ) (l : List ℕ). reported n l (bits ∷ word ∷ [])) f g ∙ by-answered answer bits word ∙ ap shownEarly e

@@ -34,7 +34,7 @@ frontNumbers index ended = index .records ∷ index .used ∷ ended ∷ []
 abbrev pub shownFront : FrontOutcome → Reported
 shownFront o = reported (o .made .carry .number) (frontNumbers (o .made .index) (o .ended)) (o .made .table ∷ [])
 
--- what a record says and where its packed part stands: r, m, start, length, place
+-- what a record says and where its packed part starts: r, m, start, length, place
 abbrev pub entryNumbers : Header → ℕ → ℕ → List ℕ
 entryNumbers h start n = let t = Reader.outcomeOf h in t .r ∷ t .m ∷ start ∷ n ∷ t .carry .place ∷ []
 

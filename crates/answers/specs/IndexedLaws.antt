@@ -1,4 +1,4 @@
--- The exports of an index tell the outcomes of the calls that they make.
+-- The exports of an index report the outcomes of the calls that they make.
 use mathlib.Core.Path.{_≡_, refl, ap, ap₂, _∙_}
 use mathlib.Core.List.{List, [], _∷_}
 use Prim.Native.Nat.{ℕ}

@@ -1,4 +1,4 @@
--- What the exports tell
+-- What C gets of each answer: the number returned, the numbers written, and the lent buffers
 pub mod Reported
 -- The parts of the answers, and laws
 pub mod Answers

@@ -17,7 +17,7 @@ reorderReported returned out lent = record { returned = returned; out = out; len
 abbrev pub shownReordered : {B : Type 0} → Outcome B → ReorderReported B
 shownReordered o = reorderReported (o .carry .number) (numbers 0 0 0 (o .carry .place)) (o .lent)
 
--- an export tells the outcome of the call that it makes
+-- an export reports the outcome of the call that it makes
 pub reported-reordered : {B : Type 0} (answer : Reordered) (lent : B) (o : Outcome B) (returned : ℕ) (out : List ℕ) → outcomeOf answer lent ≡ o
     → returned ≡ answerCarries answer .number → out ≡ numbers 0 0 0 (answerCarries answer .place) → reorderReported returned out lent ≡ shownReordered o
 reported-reordered answer lent o returned out e f g = ap₂ (λ (n : ℕ) (l : List ℕ). reorderReported n l lent) f g ∙ ap shownReordered e

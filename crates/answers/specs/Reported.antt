@@ -1,4 +1,4 @@
--- What the exports tell: the outcome of each public call, as C sees it.
+-- What the exports report: the outcome of each public call, as C sees it.
 use mathlib.Core.List.{List, [], _∷_}
 use Prim.Native.Nat.{ℕ}
 use lib.ListN.{length}

@@ -1,4 +1,4 @@
--- An export tells the outcome of the call that it makes.
+-- An export reports the outcome of the call that it makes.
 use mathlib.Core.Path.{_≡_, refl, ap, ap₂, _∙_}
 use mathlib.Core.List.{List, [], _∷_}
 use Prim.Native.Nat.{ℕ}
@@ -28,7 +28,8 @@ pub handed : {A : Type 0} (number : A → ℕ) (numbersOf : A → List ℕ) (ans
     → returned ≡ number a → out ≡ numbersOf a → (returned ≡ number answer) × (out ≡ numbersOf answer)
 handed number numbersOf answer a returned out e f g = (rw e f, rw e g)
 
-by-encoded : (answer : Encoded) (buffer : List ℕ) → reported (encodedNumber answer) (encodedNumbers answer) (buffer ∷ []) ≡ shown (Encode.outcomeOf answer buffer)
+by-encoded : (answer : Encoded) (buffer : List ℕ)
+    → reported (encodedNumber answer) (encodedNumbers answer) (buffer ∷ []) ≡ shown (Encode.outcomeOf answer buffer)
 by-encoded encoded.Done buffer = refl
 by-encoded (encoded.Refused why) buffer = refl
 
@@ -37,7 +38,8 @@ pub reported-encoded : (answer : Encoded) (buffer : List ℕ) (o : Encode.Outcom
 reported-encoded answer buffer o returned out e f g =
     ap₂ (λ (n : ℕ) (l : List ℕ). reported n l (buffer ∷ [])) f g ∙ by-encoded answer buffer ∙ ap shown e
 
-by-read : (answer : Read) (bits word : List ℕ) → reported (readNumber answer) (readNumbers answer) (bits ∷ word ∷ []) ≡ shownQuick (Quick.outcomeOf answer bits word)
+by-read : (answer : Read) (bits word : List ℕ)
+    → reported (readNumber answer) (readNumbers answer) (bits ∷ word ∷ []) ≡ shownQuick (Quick.outcomeOf answer bits word)
 by-read (read.Done penalty) bits word = refl
 by-read (read.Refused why) bits word = refl
 
@@ -59,7 +61,8 @@ reported-searched answer bits word o returned out e f g =
 
 -- and with the runner-up
 by-runner-up : (answer : Searched) (bits word shown : List ℕ)
-    → reported (searchedNumber answer) (searchedNumbers answer) (bits ∷ word ∷ shown ∷ []) ≡ shownWithRunnerUp (beside (Search.outcomeOf answer bits word) shown)
+    → reported (searchedNumber answer) (searchedNumbers answer) (bits ∷ word ∷ shown ∷ []) ≡
+    shownWithRunnerUp (beside (Search.outcomeOf answer bits word) shown)
 by-runner-up (Found penalty gap visits) bits word shown = refl
 by-runner-up (Refused why) bits word shown = refl
 
@@ -70,7 +73,7 @@ reported-runner-up answer bits word shown o returned out e f g h =
     ap₂ (λ (n : ℕ) (l : List ℕ). reported n l (bits ∷ word ∷ shown ∷ [])) f g ∙ by-runner-up (answer .result) bits word shown
     ∙ ap shownWithRunnerUp (ap (beside (Search.outcomeOf (answer .result) bits word)) h ∙ e)
 
--- a header that tells what the bytes' header does, and their packed part
+-- a header that reports what the bytes' header does, and their packed part
 pub reported-part : (answer header : Header) (given part out : List ℕ) (returned : ℕ) → Reader.outcomeOf answer ≡ Reader.outcomeOf header → given ≡ part
     → returned ≡ headerNumber answer → out ≡ headerNumbers answer (length given) → reported returned out [] ≡ shownPart header part
 reported-part answer header given part out returned e f n o =

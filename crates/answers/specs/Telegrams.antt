@@ -1,4 +1,4 @@
--- What the telegram's exports tell, as C sees it.
+-- What the telegram's exports report, as C sees it.
 use mathlib.Core.List.{List, [], _∷_}
 use Prim.Native.Nat.{ℕ}
 use Rattle.telegram.specs.declared.Telegram.{Telegram}

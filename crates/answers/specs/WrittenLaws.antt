@@ -1,4 +1,4 @@
--- The export tells the outcome of the writer.
+-- The export reports the outcome of the writer.
 use mathlib.Core.Path.{_≡_, refl, ap, ap₂, _∙_}
 use mathlib.Core.List.{List, [], _∷_}
 use Prim.Native.Nat.{ℕ}
@@ -8,7 +8,8 @@ use Rattle.record.specs.Writing as Writing
 use Rattle.answers.specs.Reported.{reported}
 use Rattle.answers.specs.Written.{shownWrote, wroteNumber, wroteNumbers}
 
-by-wrote : (answer : Written) (buffer : List ℕ) → reported (wroteNumber answer) (wroteNumbers answer) (buffer ∷ []) ≡ shownWrote (Writing.outcomeOf answer buffer)
+by-wrote : (answer : Written) (buffer : List ℕ)
+    → reported (wroteNumber answer) (wroteNumbers answer) (buffer ∷ []) ≡ shownWrote (Writing.outcomeOf answer buffer)
 by-wrote (Next k) buffer = refl
 by-wrote (Refused why) buffer = refl
 

@@ -1,4 +1,4 @@
-// What C is told of an answer: its values go into the numbers that C lends, in the order of the
+// What C gets of an answer: its values go into the numbers that C lends, in the order of the
 // header's structs, and its number is returned, which is 0 or a refusal's.
 use code::Refusal;
 use early::Answered;
@@ -20,7 +20,8 @@ ghost use Rattle.packing.specs.Unpacking.{carriedIn};
 ghost use Rattle.reorder.specs.Outcome.{answerCarries};
 ghost use Rattle.telegram.specs.Outcome as Tilt;
 ghost use Rattle.answers.specs.Reported.{numbers, reported};
-ghost use Rattle.answers.specs.Answers.{encodedNumber, encodedNumbers, readNumber, readNumbers};
+ghost use Rattle.answers.specs.Answers.{encodedNumber, encodedNumbers};
+ghost use Rattle.answers.specs.Answers.{readNumber, readNumbers};
 ghost use Rattle.answers.specs.Answers.{searchedNumber, searchedNumbers};
 ghost use Rattle.answers.specs.Answers.{headerNumber, headerNumbers};
 ghost use Rattle.answers.specs.EarlyLaws.{answeredNumber, answeredNumbers};
@@ -106,7 +107,8 @@ pub fn put_with_runner_up(
     runner_up: &mut [u8; 256],
     out: &mut [u64; 4],
 ) -> u32
-    ensures { λ number. ⌜ (number ≡ searchedNumber (answer .result)) × (now (out .exit) ≡ searchedNumbers (answer .result))
+    ensures { λ number. ⌜ (number ≡ searchedNumber (answer .result))
+        × (now (out .exit) ≡ searchedNumbers (answer .result))
         × (now («runner_up» .exit) ≡ answer .«runner_up») ⌝ }
 {
     let shown = answer.runner_up;
@@ -185,7 +187,8 @@ fn put_places(out: &mut [u64; 2], next: usize, place: usize)
 }
 
 pub fn put_wrote(answer: record::Written, out: &mut [u64; 2]) -> u32
-    ensures { λ number. ⌜ (number ≡ wroteNumber answer) × (now (out .exit) ≡ wroteNumbers answer) ⌝ }
+    ensures { λ number. ⌜ (number ≡ wroteNumber answer)
+        × (now (out .exit) ≡ wroteNumbers answer) ⌝ }
 {
     match answer {
         record::Written::Next(next) => {
@@ -199,7 +202,7 @@ pub fn put_wrote(answer: record::Written, out: &mut [u64; 2]) -> u32
     }
 }
 
-// A telegram's writer tells no more than its number.
+// A telegram's writer reports no more than its number.
 pub fn put_written(answer: telegram::Written, out: &mut [u64; 4]) -> u32
     ensures { λ number. ⌜ (number ≡ writtenNumber answer) × (now (out .exit) ≡ numbers 0 0 0 0) ⌝ }
 {
@@ -242,7 +245,8 @@ pub fn put_heard(answer: Heard, telegram: &mut [u64; 3], out: &mut [u64; 4]) -> 
 
 // The index that was made: records and used.
 pub fn put_made(answer: Indexed, out: &mut [u64; 2]) -> u32
-    ensures { λ number. ⌜ (number ≡ indexedNumber answer) × (now (out .exit) ≡ madeNumbers answer) ⌝ }
+    ensures { λ number. ⌜ (number ≡ indexedNumber answer)
+        × (now (out .exit) ≡ madeNumbers answer) ⌝ }
 {
     match answer {
         Indexed::Done(index) => {
@@ -293,7 +297,7 @@ fn put_five(out: &mut [u64; 5], r: u32, m: u32, start: usize, length: usize, pla
     ];
 }
 
-// A record that was found, and where its packed part stands.
+// A record that was found, and where its packed part starts.
 pub fn put_entry(header: Header, start: usize, length: usize, out: &mut [u64; 5]) -> u32
     ensures { λ number. ⌜ (number ≡ headerNumber header)
         × (now (out .exit) ≡ entryNumbers header start length) ⌝ }

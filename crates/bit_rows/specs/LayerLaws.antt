@@ -30,7 +30,7 @@ module _ (k : ℕ) (x : List ℕ) (e : 2 ^ k + 2 ^ k ≤ length x) where
   length-secondWord =
       length-transform k (take (2 ^ k) (drop (2 ^ k) x)) (length-take-le (2 ^ k) (drop (2 ^ k) x) (simp length-drop (omega arith)))
 
-  -- their words stand in front
+  -- their words are in front
   two-words : blocks (transform k) (2 ^ k) x ≡ (firstWord ++ secondWord) ++ blocks (transform k) (2 ^ k) (drop (2 ^ k + 2 ^ k) x)
   two-words =
       let h = 2 ^ k in

@@ -1,4 +1,4 @@
--- The transform by folds, layers and eights; filling and picking; what the functions ask
+-- Rows of bits: the transform by folds, layers and eights; filling and picking; what the functions require
 pub mod Fold
 pub mod FoldLaws
 pub mod Layers

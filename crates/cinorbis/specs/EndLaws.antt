@@ -96,7 +96,7 @@ module _ (n most : ℕ) (s : Situation) (input output : List ℕ) (r : Ready s i
       subst (λ (x : Situation). suc n + due x ≤ 3 * length (withRead p (k .got) (drop (s .«end» - s .at) input′) .came) + 4) (sym (k .is))
       (due-read (k .got) input′ same (w .2) (w .3) p b)
 
--- the rounds of a chain, and those that are due
+-- the rounds of a chain, and those still to come
 pub chain-due : (n : ℕ) (s : Situation) (input output : List ℕ) (p : Passed) → Chain n s input output p → longest ≤ length input → room ≤ length output
     → n + due s ≤ 3 * length (p .came) + 4
 chain-due n s input output p (start i o) space line = omega arith

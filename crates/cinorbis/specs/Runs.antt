@@ -30,7 +30,7 @@ nothing = record { came = []; over = false; handed = [] }
 abbrev pub withText : Passed → List ℕ → Passed
 withText p text = record { came = p .came; over = p .over; handed = p .handed ++ text }
 
--- a read returned a number, and the bytes that it put stand at the front of fresh
+-- a read returned a number, and the bytes that it put are at the front of fresh
 abbrev pub withRead : Passed → ℤ → List ℕ → Passed
 withRead p (negsuc k) fresh = p
 withRead p (pos zero) fresh = record { came = p .came; over = true; handed = p .handed }
@@ -58,7 +58,8 @@ pub record Ran (s : Situation) (input output : List ℕ) : Type 0 where
   pub chain : Chain rounds s input output passed
   pub ends : (s .going ≡ false) ⊎ (2 ^ 62 < length (passed .came))
 
--- What was told is what the definition says of all bytes of the input: those that came, and whatever was not read, which is nothing where a read returned 0.
+-- What was handed over is what the definition says of all bytes of the input: those that came, and whatever was not read, which is nothing where a read
+-- returned 0.
 pub record Tells (p : Passed) : Type 0 where
   pub tells : (rest : List ℕ) → (p .over ≡ true → rest ≡ []) → p .handed ≡ output (p .came ++ rest)
 

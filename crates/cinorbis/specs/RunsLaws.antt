@@ -1,4 +1,4 @@
--- The theorem of the program: whatever pieces the bytes arrive in, what it tells is the output of all of them.
+-- The theorem of the program: whatever pieces the bytes arrive in, what it hands over is the output of all of them.
 use mathlib.Core.Path.{_≡_, refl, ap, sym, _∙_, subst}
 use mathlib.Core.List.{List, [], _++_, append-assoc, append-nil}
 use mathlib.Core.Logic.{⊎-elim}
@@ -23,7 +23,7 @@ use Rattle.rounds.specs.SituationLaws.{next-shown, there-first, there-whole, ab
 use Rattle.cinorbis.specs.Runs.{RoundTaken, writes, takes, totals, reads, Passed, nothing, withText, withRead, passing}
 use Rattle.cinorbis.specs.Runs.{Chain, start, round, Ran, Tells, Beginning}
 
--- what is still to be told, if these bytes are still to come
+-- what is still to be handed over, if these bytes are still to come
 abbrev pub toTell : Situation → List ℕ → List ℕ → List ℕ
 toTell s input rest = cond (s .closed) [] (linesOf (s .read) (s .refused) (unread s input ++ cond (s .ended) [] rest))
 
@@ -34,7 +34,7 @@ pub record Stands (n : ℕ) (s : Situation) (input output₁ : List ℕ) (p : Pa
   pub over : p .over ≡ true → s .ended ≡ true
   pub done : s .going ≡ false → s .failed ≡ false → (s .closed ≡ true) × (s .text ≡ 0)
 
--- and that what was told, what waits and what is still to be told are the output
+-- and that what was handed over, what waits and what is still to be handed over are the output
 pub record Holds (n : ℕ) (s : Situation) (input output₁ : List ℕ) (p : Passed) : Type 0 where
   pub stands : Stands n s input output₁ p
   pub tells : (rest : List ℕ) → (p .over ≡ true → rest ≡ []) → p .handed ++ take (s .text) output₁ ++ toTell s input rest ≡ output (p .came ++ rest)
@@ -52,7 +52,7 @@ take-min j l =
     (λ k. let e : min j (length l) ≡ length l = omega arith in rw (e, take-length l, take-all j l k))
     (lt-or-le j (length l))
 
--- ---- texts: a line that was put stands behind the text that waited
+-- ---- texts: a line that was put comes behind the text that waited
 put-text : (d : List ℕ) (at : ℕ) (t : List ℕ) («end» : ℕ) (d′ : List ℕ) → Put d at t «end» d′ → at ≤ length d → take «end» d′ ≡ take at d ++ t
 put-text d at t «end» d′ p h =
     let long : length (take at d ++ t) ≡ «end» = omega (arith, length-append (take at d) t, length-take-le at d h, p .end-is) in
@@ -115,7 +115,7 @@ module _ (n : ℕ) (s : Situation) (input output₁ : List ℕ) (p : Passed) (h 
       }
 
   -- ---- a line is put behind it
-  -- if what is to be told begins with the line
+  -- if what is to be handed over begins with the line
   tells-more : (t : Situation) (line output′ rest : List ℕ) → Put output₁ (s .text) line (t .text) output′ → toTell s input rest ≡ line ++ toTell t input rest
       → (p .over ≡ true → rest ≡ []) → p .handed ++ take (t .text) output′ ++ toTell t input rest ≡ output (p .came ++ rest)
   tells-more t line output′ rest k e z =
@@ -223,7 +223,7 @@ module _ (n : ℕ) (s : Situation) (input output₁ : List ℕ) (p : Passed) (h 
             ∙ sym (ap (λ (l : List ℕ). total ++ l) (ap (λ (t : Situation). toTell t input rest) (k .closes)) ∙ append-nil total)) z;
       }
 
-  -- ---- a read, when the unread bytes stand in front
+  -- ---- a read, when the unread bytes are in front
   module _ (closed : s .closed ≡ false) (ended : s .ended ≡ false) (input′ : List ℕ) (same : length input′ ≡ length input)
       (kept : take (s .«end» - s .at) input′ ≡ unread s input) where
     abbrev k : ℕ
@@ -298,7 +298,7 @@ chain-holds n s input output₁ p (start i o) = holds-start i o
 chain-holds n s input output₁ p (round m s₀ input₀ output₀ p₀ t input′ output′ c g e f w) =
     holds-round m s₀ input₀ output₀ p₀ (chain-holds m s₀ input₀ output₀ p₀ c) g t input′ output′ e f w
 
--- At any time, and so after an error too, what was told is a beginning of the output of all bytes.
+-- At any time, and so after an error too, what was handed over is a beginning of the output of all bytes.
 pub chain-begins : (n : ℕ) (s : Situation) (input output₁ : List ℕ) (p : Passed) → Chain n s input output₁ p → (rest : List ℕ) → (p .over ≡ true → rest ≡ [])
     → Beginning (p .handed) (output (p .came ++ rest))
 chain-begins n s input output₁ p c rest z =
@@ -307,7 +307,7 @@ chain-begins n s input output₁ p c rest z =
       is = sym (append-assoc (p .handed) (take (s .text) output₁) (toTell s input rest)) ∙ chain-holds n s input output₁ p c .tells rest z;
     }
 
--- The theorem. A program that has ended without an error has told the output of all bytes.
+-- The theorem. A program that has ended without an error has handed over the output of all bytes.
 pub chain-tells : (n : ℕ) (s : Situation) (input output₁ : List ℕ) (p : Passed) → Chain n s input output₁ p → s .going ≡ false → s .failed ≡ false → Tells p
 chain-tells n s input output₁ p c g f =
     let h = chain-holds n s input output₁ p c in

@@ -1,5 +1,5 @@
 // The program: records in, lines out. Here alone the operating system is called. What it is handed,
-// and what is done with what it gave, is told by functions on slices.
+// and what is done with what it gave, functions on slices say.
 use libc::STDERR_FILENO;
 use libc::STDIN_FILENO;
 use libc::STDOUT_FILENO;
@@ -55,8 +55,8 @@ fn round(input: &mut [u8], output: &mut [u8], s: Situation) -> Situation
     }
 }
 
-// Nothing says that the input ends, so the rounds are counted down, from a number that only more than
-// 2^62 bytes use up.
+// Nothing says that the input ends, so the rounds are counted down, from a number that only more
+// than 2^62 bytes use up.
 fn run(input: &mut [u8], output: &mut [u8]) -> Situation
     requires { ⌜ (longest ≤ length (now input)) × (room ≤ length (now output)) ⌝ }
     ensures { λ s. ⌜ Ran s (now (input .exit)) (now (output .exit)) ⌝ }

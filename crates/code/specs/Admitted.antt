@@ -19,7 +19,7 @@ abbrev pub ifMade : Made → (Code → Admitted) → Admitted
 ifMade (Good c) f = f c
 ifMade Bad f = Refused Parameters
 
--- tests 2 to 4 of a code, where so many information bits are due: readings l, and outputs of k and n bits
+-- tests 2 to 4 of a code, where so many information bits are expected: readings l, and outputs of k and n bits
 abbrev pub admittedBy : Code → ℕ → List ℤ → ℕ → ℕ → Admitted
 admittedBy c due l k n =
     let place = firstBadReading largestReading l in

@@ -10,7 +10,8 @@ ghost use Rattle.numbers.specs.Sums.{tabulate};
 ghost use Rattle.words.specs.Kinds.{kind, kinds, dimension};
 ghost use Rattle.code.specs.Sound.{Sound, largestM, made, carried};
 ghost use Rattle.code.specs.Sound.{largestReading, largestRecordReading};
-ghost use Rattle.code.specs.Entries.{someBadBit, firstBadBit, someBadReading, firstBadReading};
+ghost use Rattle.code.specs.Entries.{someBadBit, firstBadBit};
+ghost use Rattle.code.specs.Entries.{someBadReading, firstBadReading};
 ghost use Rattle.code.specs.Admitted.{admittedBy, admitted};
 
 // The parameters of RM(r,m).
@@ -111,8 +112,8 @@ impl Code {
         row[r] as usize
     }
 
-    // 1 at an information index, 0 at a frozen one. An index fits a byte, and the compiler counts the
-    // ones of many bytes at once.
+    // 1 at an information index, 0 at a frozen one. An index fits a byte, and the compiler counts
+    // the ones of many bytes at once.
     pub fn kind(self, i: usize) -> u8
         requires { ⌜ Sound self × (i < 2 ^ (self .m)) ⌝ }
         ensures { λ k. ⌜ k ≡ kind (self .r) (self .m) i ⌝ }
@@ -233,7 +234,7 @@ pub fn admit(r: u32, m: u32, readings: &[i16], bits: usize, word: usize) -> Admi
     admit_for(code, code.dimension(), readings, bits, word)
 }
 
-// The tests 2 to 4, where so many information bits are due.
+// The tests 2 to 4, where so many information bits are expected.
 pub fn admit_for(code: Code, due: usize, readings: &[i16], bits: usize, word: usize) -> Admitted
     requires { ⌜ Sound code ⌝ }
     ensures { λ answer. ⌜ answer ≡ admittedBy code due (now (readings .entry)) bits word ⌝ }

@@ -1,4 +1,5 @@
--- What `early_within` tells and leaves, for all that it can be given (C-15): at once where C-14's test passes, else what the search gives.
+-- What `early_within` reports and leaves, for every input (docs/RULES.md, §10): the quick reading where the test passes, else
+-- what the search gives.
 use mathlib.Core.Bool.{cond}
 use mathlib.Core.List.{List}
 use Prim.Native.Nat.{ℕ}
@@ -33,7 +34,7 @@ outcomeOf a bits word = Search.outcomeOf (asSearched a) bits word
 abbrev pub wordOnly : Outcome → Outcome
 wordOnly o = cond (eqb (o .number) 0) (foundWith (o .penalty) 0 0 (o .bits) (o .word)) o
 
--- where tests 1 to 4 refuse nothing: the quick reading if C-14's test passes, else by the search
+-- where tests 1 to 4 refuse nothing: the quick reading if the test passes, else by the search
 abbrev pub earlyBy : Code → ℕ → List ℤ → List ℕ → List ℕ → Outcome
 earlyBy c allowed l bits word =
     let ks = kinds (c .r) (c .m) in

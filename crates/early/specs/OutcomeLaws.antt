@@ -35,7 +35,7 @@ pub penalty-only-again : (a : Answered) → penaltyOnly (asSearched a) ≡ a
 penalty-only-again (Best penalty) = refl
 penalty-only-again (Refused why) = refl
 
--- a refusal is told whole
+-- a refusal is reported with all that it carries
 refusal-whole : (why : Refusal) (bits word : List ℕ) → refused why bits word ≡ wordOnly (refused why bits word)
 refusal-whole why bits word = rw (ne-eqb (numberOf why) 0 (λ e. omega (arith, number-above why, e)))
 

@@ -1,4 +1,5 @@
-// The public calls: the best word at once where the quick reading is surely right, else by search.
+// The early answer (docs/RULES.md, §10): the quick reading's word where it is surely the best, else
+// the search's.
 use code::Admitted;
 use code::Code;
 use code::Refusal;

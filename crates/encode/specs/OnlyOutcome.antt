@@ -12,7 +12,7 @@ use Rattle.encode.specs.declared.Encoded.the-variants.{Done, Refused}
 use Rattle.encode.specs.Outcome.{Outcome, outcomeOf, done, encoding, inverting, takingBack}
 use Rattle.encode.specs.OutcomeLaws.{tested-small}
 
--- two answers that tell the same, with a number that carries nothing but a place
+-- two answers that report the same, with a number that carries nothing but a place
 same-answer : (a b : Encoded) (x y : List ℕ) → outcomeOf a x ≡ outcomeOf b y → (outcomeOf a x .number ≡ 6 → ⊥) → (outcomeOf a x .number ≡ 7 → ⊥) → a ≡ b
 same-answer Done Done x y e f g = refl
 same-answer Done (Refused why) x y e f g = absurd (omega (arith, number-above why, ap (λ (o : Outcome). o .number) e))

@@ -1,4 +1,4 @@
--- What `encode` and `inverse` tell and leave, for all that they can be given, in the rules' numbers (docs/RULES.md, §6).
+-- What `encode` and `inverse` report and leave, for every input, in the rules' numbers (docs/RULES.md, §6).
 use mathlib.Core.List.{List}
 use mathlib.Core.Bool.{Bool, true, false, not, cond}
 use Prim.Native.Nat.{ℕ, _^_}

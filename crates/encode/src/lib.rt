@@ -1,4 +1,4 @@
-// The public calls: from information bits to the word, and back.
+// Encoding (docs/RULES.md, §1): from information bits to the word, and back.
 use code::Code;
 use code::Made;
 use code::Refusal;

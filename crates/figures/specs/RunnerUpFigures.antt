@@ -1,4 +1,4 @@
--- The runner-up's figures, by what the search tells and leaves. A lent buffer of the right length may hold anything.
+-- The runner-up's figures, by what the search reports and leaves. A lent buffer of the right length may hold anything.
 use mathlib.Core.Path.{_≡_, refl}
 use mathlib.Core.List.{List, [], _∷_, map}
 use Prim.Native.Nat.{ℕ}

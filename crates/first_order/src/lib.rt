@@ -1,5 +1,6 @@
-// First-order words without a walk: the entries of one transform are, but for their signs, the
-// correlations of all words of RM(1,m), so the best two of them say what the search would say.
+// First-order words (docs/RULES.md, §13), without a walk: the entries of one transform are, but for
+// their signs, the correlations of all words of RM(1,m), so that the best two of them say what the
+// search would say.
 use code::Admitted;
 use code::Refusal;
 use search::Searched;

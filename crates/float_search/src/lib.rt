@@ -1,4 +1,5 @@
-// The public calls on readings that are floats: the search with an allowance, and the short call.
+// The float board (docs/RULES.md, §16): the search of float readings, with an allowance and the
+// short call.
 use code::Admitted;
 use code::Code;
 use code::Refusal;
@@ -10,13 +11,14 @@ ghost use lib.ListN.{length, take};
 ghost use Rattle.words.specs.Kinds.{kinds};
 ghost use Rattle.code.specs.Sound.{defaultAllowance};
 ghost use Rattle.code.specs.SoundInput.{SoundReadings};
-ghost use Rattle.search.specs.RunnerUp.{runnerUpOutcomeOf, runnerUpOutcomeBy, searchingWithRunnerUp};
+ghost use Rattle.search.specs.RunnerUp.{runnerUpOutcomeOf, runnerUpOutcomeBy};
+ghost use Rattle.search.specs.RunnerUp.{searchingWithRunnerUp};
 ghost use Rattle.search.specs.Work.{Searchable};
 ghost use Rattle.float_numbers.specs.Whole.{wholes};
 ghost use Rattle.float_walk.specs.Held.{count, Penalty};
 
-// What the search tells and writes for the whole numbers that the readings are. A float that is no
-// whole number is refused as a reading out of range is.
+// What the search reports and writes for the whole numbers that the readings are. A float that is
+// no whole number is refused as a reading out of range is.
 pub fn search_float_within(
     r: u32,
     m: u32,
@@ -60,8 +62,8 @@ fn search_sound(
     requires { ⌜ SoundReadings code (wholes (now readings))
         (length (now bits)) (length (now word)) ⌝ }
     ensures { λ r. ⌜ runnerUpOutcomeOf r (now (bits .exit)) (now (word .exit))
-        ≡ runnerUpOutcomeBy (code .m) (kinds (code .r) (code .m)) (wholes (now (readings .entry))) allowed
-        (now (bits .entry)) (now (word .entry)) ⌝ }
+        ≡ runnerUpOutcomeBy (code .m) (kinds (code .r) (code .m)) (wholes (now (readings .entry)))
+        allowed (now (bits .entry)) (now (word .entry)) ⌝ }
 {
     let mut kinds = [0u8; 256];
     let mut own = [0.0f32; 256];

@@ -1,4 +1,5 @@
-// Work on the images of all positions, which stand in one array of 256, and on columns of tables.
+// Maps of positions at work (docs/RULES.md, §12): the images of all positions, in one array of 256,
+// and columns of tables.
 ghost use mathlib.Core.Path.{_≡_};
 ghost use mathlib.Core.List.{[]};
 ghost use Prim.Native.Nat.{_+_, _*_, _^_, _%_, _/_, _≤_, _<_};
@@ -12,7 +13,8 @@ ghost use Rattle.images.specs.Images.{Moves, moved, spreadOf, UndoPut, P
 
 // The number whose bit p is the entry at row p and column q of a table of m rows.
 pub fn column(table: &[u8], width: usize, q: usize, m: usize) -> u8
-    requires { ⌜ (m ≤ largestM) × (q < width) × (length (now table) ≡ m * width) × Bits (now table) ⌝ }
+    requires { ⌜ (m ≤ largestM) × (q < width)
+        × (length (now table) ≡ m * width) × Bits (now table) ⌝ }
     ensures { λ x. ⌜ x ≡ number m (λ p. getD (now (table .entry)) (p * width + q) 0) ⌝ }
 {
     let mut x = 0;

@@ -62,7 +62,7 @@ every-miss (suc k) [] u h e = refl
 every-miss zero (x ∷ l) u h e = ap (λ (y : List ℕ). x ∷ y) (every-miss 15 l u (omega arith) (λ z. e (omega arith)))
 every-miss (suc k) (x ∷ l) u h e = every-miss k l u (omega arith) (λ z. e (omega arith))
 
--- an entry behind those that stand at the front of the table
+-- an entry behind those at the front of the table
 set-behind : (e t : List ℕ) (u : ℕ) → take (length e) t ≡ e → length e < length t → (e ++ (u ∷ [])) ++ drop (length e + 1) t ≡ set t (length e) u
 set-behind [] [] u f h = absurd (omega arith)
 set-behind [] (y ∷ t) u f h = refl

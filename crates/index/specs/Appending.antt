@@ -1,4 +1,4 @@
--- What an append tells and leaves, for all that it can be given: 1, 2, 4, then 3 for either buffer (docs/RULES.md, §14).
+-- What an append reports and leaves, for every input: 1, 2, 4, then 3 for either buffer (docs/RULES.md, §14).
 use mathlib.Core.Path.{_≡_}
 use mathlib.Core.List.{List}
 use mathlib.Core.Bool.{Bool, true, false, cond}
@@ -40,7 +40,7 @@ abbrev pub full : Index → ℕ → Bool
 full index entries =
     cond (eqb (index .records) largestCount) true (cond (eqb (index .records % block) 0) (leb entries (index .records / block)) false)
 
--- C-11's writer at the end of the used part, and the new record's entry if it has one
+-- the writer of records at the end of the used part, and the new record's entry if it has one
 abbrev pub appended : Index → ℕ → ℕ → List ℤ → List ℕ → List ℕ → AppendOutcome
 appended index r m l capture table =
     let wrote = writing r m l capture (index .used) in

@@ -1,4 +1,4 @@
--- What making an index tells and leaves, for all that it can be given: 1 or 8, whichever is met first, then 3 (docs/RULES.md, §14).
+-- What making an index reports and leaves, for every input: 1 or 8, whichever is met first, then 3 (docs/RULES.md, §14).
 use mathlib.Core.Path.{_≡_}
 use mathlib.Core.List.{List, [], _∷_, _++_}
 use mathlib.Core.Bool.{cond}

@@ -1,4 +1,4 @@
--- What is promised of a capture's own table, and of any table (C-16). Met in OwnMet, AppendMet, BelongsMet and InUseMet.
+-- What is promised of a capture's own table, and of any table (docs/RULES.md, §14). Met in OwnMet, AppendMet, BelongsMet and InUseMet.
 use mathlib.Core.Path.{_≡_}
 use mathlib.Core.List.{List, _++_}
 use Prim.Native.Nat.{ℕ, _/_, _≤_, _<_}

@@ -1,4 +1,5 @@
--- C-20, sentence by sentence, over the definitions of Maps. That it holds for every map and every m is proved in TurnedOrdersMet.
+-- What is proved of position orders (docs/RULES.md, §12), over the definitions of Maps. That it holds for every map and every m is proved in
+-- PositionOrdersMet.
 use mathlib.Core.Path.{_≡_}
 use mathlib.Core.Logic.{_↔_}
 use mathlib.Core.Bool.{true}

@@ -47,7 +47,7 @@ namesFrozen [] ks = false
 namesFrozen (a ∷ named) [] = false
 namesFrozen (a ∷ named) (k ∷ ks) = namedFrozen a k || namesFrozen named ks
 
--- the test; that it tells `GoodRow` is proved in NamedLaws
+-- the test; that it decides `GoodRow` is proved in NamedLaws
 unfoldable pub goodRow : List ℕ → List ℕ → Bool
 goodRow named ks =
     eqb (length named) (length ks) && (not (ltb (firstBadBit named) (length named)) && (not (namesFrozen named ks) && ltb 0 (sum (left named ks))))

@@ -1,4 +1,4 @@
--- What unpacking tells and leaves, for all that it can be given: 2 for a part whose length no record has, 3 for the buffer.
+-- What unpacking reports and leaves, for every input: 2 for a part whose length no record has, 3 for the buffer.
 use mathlib.Core.List.{List}
 use mathlib.Core.Bool.{cond, not}
 use Prim.Native.Nat.{ℕ, suc}

@@ -1,4 +1,5 @@
-// Readings in packed bytes and back: a field of 12 bits for each, two fields in three bytes.
+// Readings in packed bytes (docs/RULES.md, §7) and back: a field of 12 bits for each, two fields in
+// three bytes.
 use code::Code;
 use code::Refusal;
 ghost use mathlib.Core.Path.{_≡_};

@@ -1,4 +1,4 @@
-// The C exports of the early answer.
+// The C exports of the early answer (docs/RULES.md, §10).
 use answers::put_answered;
 ghost use mathlib.Core.Path.{_≡_};
 ghost use mathlib.Core.List.{[], _∷_};
@@ -17,7 +17,8 @@ pub extern "C" fn cinorbis_early_within(
     word: &mut [u8],
     out: &mut [u64; 4],
 ) -> u32
-    ensures { λ number. ⌜ reported number (now (out .exit)) (now (bits .exit) ∷ now (word .exit) ∷ [])
+    ensures { λ number. ⌜ reported number (now (out .exit))
+        (now (bits .exit) ∷ now (word .exit) ∷ [])
         ≡ shownEarly (answering r m allowed (now (readings .entry))
         (now (bits .entry)) (now (word .entry))) ⌝ }
 {
@@ -34,7 +35,8 @@ pub extern "C" fn cinorbis_early(
     word: &mut [u8],
     out: &mut [u64; 4],
 ) -> u32
-    ensures { λ number. ⌜ reported number (now (out .exit)) (now (bits .exit) ∷ now (word .exit) ∷ [])
+    ensures { λ number. ⌜ reported number (now (out .exit))
+        (now (bits .exit) ∷ now (word .exit) ∷ [])
         ≡ shownEarly (answering r m defaultAllowance (now (readings .entry))
         (now (bits .entry)) (now (word .entry))) ⌝ }
 {

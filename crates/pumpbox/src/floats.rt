@@ -1,4 +1,4 @@
-// The C exports of the float board.
+// The C exports of the float board (docs/RULES.md, §16).
 use answers::put_with_runner_up;
 ghost use mathlib.Core.Path.{_≡_};
 ghost use mathlib.Core.List.{[], _∷_};
@@ -20,8 +20,8 @@ pub extern "C" fn cinorbis_search_float_within(
 ) -> u32
     ensures { λ number. ⌜ reported number (now (out .exit))
         (now (bits .exit) ∷ now (word .exit) ∷ now («runner_up» .exit) ∷ [])
-        ≡ shownWithRunnerUp (searchingWithRunnerUp r m allowed (wholes (now (readings .entry)))
-        (now (bits .entry)) (now (word .entry))) ⌝ }
+        ≡ shownWithRunnerUp (searchingWithRunnerUp r m allowed
+        (wholes (now (readings .entry))) (now (bits .entry)) (now (word .entry))) ⌝ }
 {
     let answer = float_search::search_float_within(r, m, allowed, readings, bits, word);
     put_with_runner_up(answer, runner_up, out)
@@ -39,8 +39,8 @@ pub extern "C" fn cinorbis_search_float(
 ) -> u32
     ensures { λ number. ⌜ reported number (now (out .exit))
         (now (bits .exit) ∷ now (word .exit) ∷ now («runner_up» .exit) ∷ [])
-        ≡ shownWithRunnerUp (searchingWithRunnerUp r m defaultAllowance (wholes (now (readings .entry)))
-        (now (bits .entry)) (now (word .entry))) ⌝ }
+        ≡ shownWithRunnerUp (searchingWithRunnerUp r m defaultAllowance
+        (wholes (now (readings .entry))) (now (bits .entry)) (now (word .entry))) ⌝ }
 {
     let answer = float_search::search_float(r, m, readings, bits, word);
     put_with_runner_up(answer, runner_up, out)

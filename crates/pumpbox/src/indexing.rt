@@ -1,5 +1,5 @@
-// An index of a capture: making it, of the whole capture or of its front; asking it for a record;
-// appending a record.
+// The C exports of an index (docs/RULES.md, §14): making it, of the whole capture or of its front;
+// asking it for a record; appending a record.
 use answers::put_appended;
 use answers::put_entry;
 use answers::put_front;

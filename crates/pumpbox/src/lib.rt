@@ -64,8 +64,10 @@ pub extern "C" fn cinorbis_quick(
     word: &mut [u8],
     out: &mut [u64; 4],
 ) -> u32
-    ensures { λ number. ⌜ reported number (now (out .exit)) (now (bits .exit) ∷ now (word .exit) ∷ [])
-        ≡ shownQuick (quickReading r m (now (readings .entry)) (now (bits .entry)) (now (word .entry))) ⌝ }
+    ensures { λ number. ⌜ reported number (now (out .exit))
+        (now (bits .exit) ∷ now (word .exit) ∷ [])
+        ≡ shownQuick (quickReading r m (now (readings .entry))
+        (now (bits .entry)) (now (word .entry))) ⌝ }
 {
     let answer = quick::quick(r, m, readings, bits, word);
     put_read(answer, out)
@@ -82,8 +84,10 @@ pub extern "C" fn cinorbis_search_within(
     runner_up: &mut [u8; 256],
     out: &mut [u64; 4],
 ) -> u32
-    ensures { λ number. ⌜ reported number (now (out .exit)) (now (bits .exit) ∷ now (word .exit) ∷ now («runner_up» .exit) ∷ [])
-        ≡ shownWithRunnerUp (searchingWithRunnerUp r m allowed (now (readings .entry)) (now (bits .entry)) (now (word .entry))) ⌝ }
+    ensures { λ number. ⌜ reported number (now (out .exit))
+        (now (bits .exit) ∷ now (word .exit) ∷ now («runner_up» .exit) ∷ [])
+        ≡ shownWithRunnerUp (searchingWithRunnerUp r m allowed (now (readings .entry))
+        (now (bits .entry)) (now (word .entry))) ⌝ }
 {
     let answer = search::search_within(r, m, allowed, readings, bits, word);
     put_with_runner_up(answer, runner_up, out)
@@ -99,8 +103,10 @@ pub extern "C" fn cinorbis_search(
     runner_up: &mut [u8; 256],
     out: &mut [u64; 4],
 ) -> u32
-    ensures { λ number. ⌜ reported number (now (out .exit)) (now (bits .exit) ∷ now (word .exit) ∷ now («runner_up» .exit) ∷ [])
-        ≡ shownWithRunnerUp (searchingWithRunnerUp r m defaultAllowance (now (readings .entry)) (now (bits .entry)) (now (word .entry))) ⌝ }
+    ensures { λ number. ⌜ reported number (now (out .exit))
+        (now (bits .exit) ∷ now (word .exit) ∷ now («runner_up» .exit) ∷ [])
+        ≡ shownWithRunnerUp (searchingWithRunnerUp r m defaultAllowance (now (readings .entry))
+        (now (bits .entry)) (now (word .entry))) ⌝ }
 {
     let answer = search::search(r, m, readings, bits, word);
     put_with_runner_up(answer, runner_up, out)
@@ -115,8 +121,10 @@ pub extern "C" fn cinorbis_search_record(
     runner_up: &mut [u8; 256],
     out: &mut [u64; 4],
 ) -> u32
-    ensures { λ number. ⌜ reported number (now (out .exit)) (now (bits .exit) ∷ now (word .exit) ∷ now («runner_up» .exit) ∷ [])
-        ≡ shownWithRunnerUp (searchingRecordWithRunnerUp allowed (now (bytes .entry)) (now (bits .entry)) (now (word .entry))) ⌝ }
+    ensures { λ number. ⌜ reported number (now (out .exit))
+        (now (bits .exit) ∷ now (word .exit) ∷ now («runner_up» .exit) ∷ [])
+        ≡ shownWithRunnerUp (searchingRecordWithRunnerUp allowed (now (bytes .entry))
+        (now (bits .entry)) (now (word .entry))) ⌝ }
 {
     let answer = record::search_record(bytes, allowed, bits, word);
     put_with_runner_up(answer, runner_up, out)
@@ -125,7 +133,8 @@ pub extern "C" fn cinorbis_search_record(
 #[no_mangle]
 pub extern "C" fn cinorbis_record(bytes: &[u8], out: &mut [u64; 4]) -> u32
     ensures { λ number. ⌜ reported number (now (out .exit)) []
-        ≡ shownPart (headerOf (now (bytes .entry))) (partBy (headerOf (now (bytes .entry))) (now (bytes .entry))) ⌝ }
+        ≡ shownPart (headerOf (now (bytes .entry)))
+        (partBy (headerOf (now (bytes .entry))) (now (bytes .entry))) ⌝ }
 {
     let header = record::header_of(bytes);
     let part = record::packed(bytes);

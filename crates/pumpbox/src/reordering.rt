@@ -1,4 +1,4 @@
-// Position orders: reordering by a map of positions, undo maps and products.
+// The C exports of position orders (docs/RULES.md, §12): reordering, undo maps and products.
 use answers::put_reordered;
 ghost use mathlib.Core.Path.{_≡_};
 ghost use Rattle.reorder.specs.Outcome.{reordering, reorderingWord, undoing, multiplying};

@@ -1,4 +1,4 @@
-// The C exports of the calls on a shortened set.
+// The C exports of the calls on a shortened set (docs/RULES.md, §15).
 use answers::put_encoded;
 use answers::put_read;
 use answers::put_with_runner_up;
@@ -53,7 +53,8 @@ pub extern "C" fn cinorbis_quick_shortened(
     word: &mut [u8],
     out: &mut [u64; 4],
 ) -> u32
-    ensures { λ number. ⌜ reported number (now (out .exit)) (now (bits .exit) ∷ now (word .exit) ∷ [])
+    ensures { λ number. ⌜ reported number (now (out .exit))
+        (now (bits .exit) ∷ now (word .exit) ∷ [])
         ≡ shownQuick (quickShortened r m (now (named .entry)) (now (readings .entry))
         (now (bits .entry)) (now (word .entry))) ⌝ }
 {

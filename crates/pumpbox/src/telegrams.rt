@@ -1,4 +1,4 @@
-// The C exports of the tilt telegram.
+// The C exports of the tilt telegram (docs/RULES.md, §11).
 use answers::put_heard;
 use answers::put_written;
 ghost use mathlib.Core.Path.{_≡_};

@@ -1,4 +1,4 @@
-// The readings of a packed part.
+// The C export that unpacks a packed part (docs/RULES.md, §7).
 use answers::put_unpacked;
 ghost use mathlib.Core.Path.{_≡_};
 ghost use Rattle.packing.specs.Unpacking.{unpacking};

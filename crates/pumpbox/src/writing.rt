@@ -1,4 +1,4 @@
-// Writing a record into a capture.
+// The C export that writes a record into a capture (docs/RULES.md, §7).
 use answers::put_wrote;
 ghost use mathlib.Core.Path.{_≡_};
 ghost use mathlib.Core.List.{[], _∷_};

@@ -13,8 +13,9 @@ use Rattle.quick.specs.declared.Read.the-variants.{Done, Refused}
 use Rattle.quick.specs.Outcome.{Outcome, outcomeOf, readingBy, quickReading}
 use Rattle.quick.specs.OutcomeLaws.{reading-refused, reading-done}
 
--- two answers that tell the same, with a number that carries nothing but a place
-same-answer : (a b : Read) (x y v w : List ℕ) → outcomeOf a x y ≡ outcomeOf b v w → (outcomeOf a x y .number ≡ 6 → ⊥) → (outcomeOf a x y .number ≡ 7 → ⊥) → a ≡ b
+-- two answers that report the same, with a number that carries nothing but a place
+same-answer : (a b : Read) (x y v w : List ℕ) → outcomeOf a x y ≡ outcomeOf b v w → (outcomeOf a x y .number ≡ 6 → ⊥)
+    → (outcomeOf a x y .number ≡ 7 → ⊥) → a ≡ b
 same-answer (Done p) (Done q) x y v w e f g = ap (λ (o : Outcome). Done (o .penalty)) e
 same-answer (Done p) (Refused why) x y v w e f g = absurd (omega (arith, number-above why, ap (λ (o : Outcome). o .number) e))
 same-answer (Refused why) (Done q) x y v w e f g = absurd (omega (arith, number-above why, ap (λ (o : Outcome). o .number) e))

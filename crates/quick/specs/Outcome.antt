@@ -1,4 +1,4 @@
--- What `quick` tells and leaves, for all that it can be given, in the rules' numbers (docs/RULES.md, §6).
+-- What `quick` reports and leaves, for every input, in the rules' numbers (docs/RULES.md, §6).
 use mathlib.Core.List.{List}
 use Prim.Native.Nat.{ℕ}
 use lib.IntN.{ℤ}

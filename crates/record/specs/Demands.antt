@@ -16,7 +16,7 @@ use Rattle.record.specs.Reader.{partOf, readingsOf, HeaderOutcome, heade
 use Rattle.record.specs.Searching.{searchingRecord, searchingRecordWithRunnerUp}
 use Rattle.record.specs.Writing.{WrittenOutcome, writing}
 
--- r and m stand in the first byte; with no byte at all both read as 0, so that it is 8
+-- r and m are in the first byte; with no byte at all both read as 0, so that it is 8
 abbrev pub saidR : List ℕ → ℕ
 saidR s = getD s 0 0 % 16
 

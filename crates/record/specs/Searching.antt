@@ -1,4 +1,4 @@
--- What the search of a record tells and leaves, for all that it can be given: a record checks 1, 8, 9, then 3, 6 and 7.
+-- What the search of a record reports and leaves, for every input: a record checks 1, 8, 9, then 3, 6 and 7.
 use mathlib.Core.List.{List, []}
 use Prim.Native.Nat.{ℕ}
 use Rattle.words.specs.Kinds.{kinds}

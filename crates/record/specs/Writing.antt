@@ -1,4 +1,4 @@
--- What writing a record tells and leaves, for all that it can be given: 1, 2, 4, then 3.
+-- What writing a record reports and leaves, for every input: 1, 2, 4, then 3.
 use mathlib.Core.List.{List, _++_}
 use mathlib.Core.Bool.{cond, not}
 use Prim.Native.Nat.{ℕ, suc, _+_, _-_, _^_}

@@ -56,7 +56,7 @@ module _ (r m : ℕ) (l : List ℤ) (d : List ℕ) (place : ℕ) where
   abbrev new : List ℕ
   new = recordOf r m l
 
-  -- what it tells and leaves
+  -- what it reports and leaves
   abbrev done : WrittenOutcome
   done = outcomeOf (Next (place + length new)) (laidAt place new d)
 

@@ -1,15 +1,17 @@
-// Packed records: the reader, the writer, and the search of a record.
+// Packed records (docs/RULES.md, §7): the reader, the writer, and the search of a record.
 ghost use mathlib.Core.Path.{_≡_};
 ghost use Prim.Native.Nat.{suc, _<_, _≤_};
 ghost use lib.ListN.{length};
 ghost use Rattle.decoding.specs.Readings.{Within};
 ghost use Rattle.code.specs.Sound.{Sound, largestRecordReading};
 ghost use Rattle.packing.specs.Layout.{recordOf, partLength};
-ghost use Rattle.record.specs.Reader.{codeOf, lengthBy, headedBy, headerOf, outcomeOf, partBy};
+ghost use Rattle.record.specs.Reader.{codeOf, lengthBy, headedBy, headerOf};
+ghost use Rattle.record.specs.Reader.{outcomeOf, partBy};
 ghost use Rattle.record.specs.Writing as Writing;
 ghost use Rattle.record.specs.Writing.{writable, writing};
 ghost use Rattle.search.specs.RunnerUp.{runnerUpOutcomeOf};
-ghost use Rattle.record.specs.Searching.{searchingWithRunnerUpBy, searchingRecordWithRunnerUp};
+ghost use Rattle.record.specs.Searching.{searchingWithRunnerUpBy};
+ghost use Rattle.record.specs.Searching.{searchingRecordWithRunnerUp};
 use code::Admitted;
 use code::Code;
 use code::Made;
@@ -35,7 +37,7 @@ fn code_of(first: u8) -> Made
     Code::new(first % 16, first / 16)
 }
 
-// How many bytes a record has, told by its first byte; 0 where that byte is refused.
+// How many bytes a record has, by its first byte; 0 where that byte is refused.
 pub fn record_length(first: u8) -> usize
     ensures { λ k. ⌜ k ≡ lengthBy (codeOf first) ⌝ }
 {
@@ -98,7 +100,8 @@ pub fn packed(s: &[u8]) -> &[u8]
 // Searches the record that the bytes begin with. The refusals are 1, 8, 9, 3, 6, 7, in this order.
 pub fn search_record(s: &[u8], allowed: u32, bits: &mut [u8], word: &mut [u8]) -> WithRunnerUp
     ensures { λ answer. ⌜ runnerUpOutcomeOf answer (now (bits .exit)) (now (word .exit))
-        ≡ searchingRecordWithRunnerUp allowed (now (s .entry)) (now (bits .entry)) (now (word .entry)) ⌝ }
+        ≡ searchingRecordWithRunnerUp allowed (now (s .entry))
+        (now (bits .entry)) (now (word .entry)) ⌝ }
 {
     match frame(s) {
         Header::Record(code) => search_framed(s, code, allowed, bits, word),

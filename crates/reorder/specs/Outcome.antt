@@ -1,4 +1,4 @@
--- What `reorder`, `reorder_word`, `undo_map` and `product_map` tell and leave, for all that they can be given (C-20).
+-- What `reorder`, `reorder_word`, `undo_map` and `product_map` report and leave, for every input (docs/RULES.md, §12).
 use mathlib.Core.List.{List}
 use mathlib.Core.Bool.{Bool, not, cond, _&&_}
 use Prim.Native.Nat.{ℕ, _*_, _^_}

@@ -1,5 +1,5 @@
-// Position orders: reordering by a map of positions, the map that undoes it, and the product
-// of two maps. A map is an m by m table of bits, row by row, and a row of m bits.
+// Position orders (docs/RULES.md, §12): reordering by a map of positions, the map that undoes it,
+// and the product of two maps. A map is an m by m table of bits, row by row, and a row of m bits.
 use code::Code;
 use code::Refusal;
 ghost use mathlib.Core.Path.{_≡_};
@@ -7,7 +7,8 @@ ghost use Prim.Native.Nat.{_^_};
 ghost use lib.ListN.{length};
 ghost use Rattle.reorder.specs.Outcome.{outcomeOf, isLong};
 ghost use Rattle.reorder.specs.Outcome.{reordering, reorderingWord, undoing, multiplying};
-ghost use Rattle.reorder.specs.Outcome.{reorderingLong, reorderingWordLong, undoingLong, multiplyingLong};
+ghost use Rattle.reorder.specs.Outcome.{reorderingLong, reorderingWordLong};
+ghost use Rattle.reorder.specs.Outcome.{undoingLong, multiplyingLong};
 ghost use Rattle.reorder.specs.Work.{lengthOf, sizesOf};
 ghost use Rattle.images.specs.Images.{Mapped};
 

@@ -1,3 +1,3 @@
--- Where the program stands between two rounds, and its laws
+-- The program's state between two rounds, and its laws
 pub mod Situation
 pub mod SituationLaws

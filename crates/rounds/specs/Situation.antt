@@ -1,4 +1,4 @@
--- Where the program stands between two rounds, and what each kind of round does to it. Its own functions are equal to these.
+-- The program's state between two rounds, and what each kind of round does to it. The functions of the code are equal to these.
 use mathlib.Core.Path.{_≡_}
 use mathlib.Core.List.{List}
 use mathlib.Core.Bool.{Bool, true, false, cond, not}
@@ -72,14 +72,14 @@ after s (answered bits penalty gap visits) text at = counted s at (s .ended) tex
 after s (refused why) text at =
     cond (stops (refused why)) (counted s (s .«end») true text (s .read) (s .refused + 1)) (counted s at (s .ended) text (s .read) (s .refused + 1))
 
--- the same by what the work on the record tells
+-- the same by what the work on the record reports
 abbrev pub countedBy : Situation → Step → Situation
 countedBy s step =
     cond (step .answered) (counted s (s .at + step .taken) (s .ended) (step .«end») (s .read + 1) (s .refused))
     (cond (step .stop) (counted s (s .«end») true (step .«end») (s .read) (s .refused + 1))
     (counted s (s .at + step .taken) (s .ended) (step .«end») (s .read) (s .refused + 1)))
 
--- the next record is taken: its line stands behind the text, and it is counted
+-- the next record is taken: its line comes behind the text, and it is counted
 pub record Took (s : Situation) (input output : List ℕ) (t : Situation) (output′ : List ℕ) : Type 0 where
   pub line : Put output (s .text) (lineOf (s .read + s .refused) (resultOf (unread s input))) (t .text) output′
   pub counts : t ≡ after s (resultOf (unread s input)) (t .text) (s .at + nextStart (unread s input))
@@ -99,7 +99,7 @@ texted s text closed going failed =
       failed = failed;
     }
 
--- the total stands behind the text
+-- the total comes behind the text
 pub record Finished (s : Situation) (output : List ℕ) (t : Situation) (output′ : List ℕ) : Type 0 where
   pub line : Put output (s .text) (totalLine (s .read) (s .refused)) (t .text) output′
   pub closes : t ≡ texted s (t .text) true (s .going) (s .failed)
@@ -134,7 +134,7 @@ afterRead (negsuc k) n s = moved s (s .«end» - s .at) (s .ended) false true
 afterRead (pos zero) n s = moved s (s .«end» - s .at) true (s .going) (s .failed)
 afterRead (pos (suc k)) n s = moved s (s .«end» - s .at + min (suc k) n) (s .ended) (s .going) (s .failed)
 
--- the unread bytes stand at the front, and behind them what the read put there
+-- the unread bytes are at the front, and behind them what the read put there
 pub record Refilled (s : Situation) (input : List ℕ) (t : Situation) (input′ : List ℕ) : Type 0 where
   pub got : ℤ
   pub kept : take (s .«end» - s .at) input′ ≡ unread s input

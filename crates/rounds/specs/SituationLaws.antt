@@ -1,4 +1,4 @@
--- Laws of where the program stands: what is next, a record that is taken, and the bytes behind which is read.
+-- Laws of the program's state: what is next, a record that is taken, and the bytes behind which is read.
 use mathlib.Core.Path.{_≡_, refl, ap, sym, _∙_, subst}
 use mathlib.Core.List.{List, _++_}
 use mathlib.Core.Logic.{_⊎_, inl, inr, ⊎-elim}
@@ -92,7 +92,7 @@ module _ (z : ℤ) (n : ℕ) (s : Situation) where
       came (pos zero) e h m = absurd (h refl)
       came (pos (suc k)) e h m = rw m
 
--- what stood in front before a read behind it stands there still
+-- what was in front before a read behind it is there still
 pub kept-front : (d m q : List ℕ) (at «end» : ℕ) → at ≤ «end» → «end» ≤ length d → m ≡ take («end» - at) (drop at d) ++ drop («end» - at) d
     → take («end» - at) (putMid («end» - at) (length m - («end» - at)) m q) ≡ take («end» - at) (drop at d)
 kept-front d m q at «end» h l e =

@@ -1,4 +1,4 @@
-// Where the program stands between two rounds, and all that it does between two calls of the
+// The program's state between two rounds, and all that it does between two calls of the
 // operating system: functions of the bytes and of what the last call answered.
 use program::Step;
 ghost use mathlib.Core.Path.{_≡_};
@@ -22,7 +22,7 @@ pub struct Situation {
     pub text: usize,
     pub read: u64,
     pub refused: u64,
-    // the total stands at the end of the text
+    // the total is at the end of the text
     pub closed: bool,
     pub going: bool,
     // the operating system reported an error
@@ -94,7 +94,8 @@ pub fn next_round(input: &[u8], output: usize, s: Situation) -> Next
 }
 
 fn count(s: Situation, step: Step) -> Situation
-    requires { ⌜ (s .at + step .taken < 2 ^ 64) × (s .read + 1 < 2 ^ 64) × (s .refused + 1 < 2 ^ 64) ⌝ }
+    requires { ⌜ (s .at + step .taken < 2 ^ 64)
+        × (s .read + 1 < 2 ^ 64) × (s .refused + 1 < 2 ^ 64) ⌝ }
     ensures { λ t. ⌜ t ≡ countedBy s step ⌝ }
 {
     let next = s.at + step.taken;
@@ -152,7 +153,8 @@ pub fn finish(output: &mut [u8], s: Situation) -> Situation
 pub fn move_to_front(buffer: &mut [u8], at: usize, end: usize)
     requires { ⌜ (at ≤ «end») × («end» ≤ length (now buffer)) ⌝ }
     ensures { λ _. ⌜ now (buffer .exit)
-        ≡ take («end» - at) (drop at (now (buffer .entry))) ++ drop («end» - at) (now (buffer .entry)) ⌝ }
+        ≡ take («end» - at) (drop at (now (buffer .entry)))
+        ++ drop («end» - at) (now (buffer .entry)) ⌝ }
 {
     let n = end - at;
     let mut i = 0;
@@ -162,7 +164,7 @@ pub fn move_to_front(buffer: &mut [u8], at: usize, end: usize)
     }
 }
 
-// After a read into fresh, which stands behind the unread bytes, answered got.
+// After a read into fresh, the bytes behind the unread ones, returned got.
 pub fn after_read(got: isize, fresh: &[u8], s: Situation) -> Situation
     requires { ⌜ (s .at ≤ s .«end») × (s .«end» - s .at + length (now fresh) < 2 ^ 64) ⌝ }
     ensures { λ t. ⌜ t ≡ afterRead got (length (now (fresh .entry))) s ⌝ }

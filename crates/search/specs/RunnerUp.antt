@@ -1,4 +1,5 @@
--- The search's whole answer (C-22): its outcome, and beside it the runner-up, the second full path that is held when the written walk ends.
+-- The search's answer with the runner-up (docs/RULES.md, §5): its outcome, and beside it the second full path that is held when the written walk
+-- ends.
 use mathlib.Core.Bool.{cond}
 use mathlib.Core.List.{List, [], _++_}
 use Prim.Native.Nat.{ℕ, _-_}

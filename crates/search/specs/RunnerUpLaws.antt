@@ -1,4 +1,4 @@
--- The whole answer at each place where the search returns, and its runner-up in an array of zeros.
+-- The answer with the runner-up at each place where the search returns, and its runner-up in an array of zeros.
 use mathlib.Core.Path.{_≡_, ap, sym, _∙_}
 use mathlib.Core.List.{List, _++_}
 use Prim.Native.Nat.{ℕ, _+_, _-_, _≤_}
@@ -32,10 +32,12 @@ none-shown x why bits word = rw (ne-eqb (numberOf why) 0 (λ e. omega (arith, nu
 
 -- where tests 1 to 4 refuse nothing: by the answer, over the words of any row of kinds
 module _ (m : ℕ) (ks : List ℕ) (l : List ℤ) (allowed : ℕ) (bits word : List ℕ) where
-  pub runner-up-out : answer m ks l allowed ≡ outOfVisits → runnerUpOutcomeOf (withNone (Refused (OutOfVisits allowed))) bits word ≡ runnerUpOutcomeBy m ks l allowed bits word
+  pub runner-up-out : answer m ks l allowed ≡ outOfVisits
+      → runnerUpOutcomeOf (withNone (Refused (OutOfVisits allowed))) bits word ≡ runnerUpOutcomeBy m ks l allowed bits word
   runner-up-out e = rw e
 
-  pub runner-up-tied : {p v : ℕ} → answer m ks l allowed ≡ tied p v → runnerUpOutcomeOf (withNone (Refused (Tied p v))) bits word ≡ runnerUpOutcomeBy m ks l allowed bits word
+  pub runner-up-tied : {p v : ℕ} → answer m ks l allowed ≡ tied p v
+      → runnerUpOutcomeOf (withNone (Refused (Tied p v))) bits word ≡ runnerUpOutcomeBy m ks l allowed bits word
   runner-up-tied e = rw e
 
   pub runner-up-found : {b x y : List ℕ} {p g v : ℕ} → answer m ks l allowed ≡ found b x p g v → y ≡ runnerUp m ks l

@@ -71,7 +71,8 @@ module _ (r m : ℕ) (named : List ℕ) where
       ]
 
   module _ (a b : Encoded) (x y : List ℕ) where
-    pub encode-only : (bits word : List ℕ) → encoder.outcomeOf a x ≡ encodingShortened r m named bits word → encoder.outcomeOf b y ≡ encodingShortened r m named bits word
+    pub encode-only : (bits word : List ℕ)
+        → encoder.outcomeOf a x ≡ encodingShortened r m named bits word → encoder.outcomeOf b y ≡ encodingShortened r m named bits word
         → (a ≡ b) × (x ≡ y)
     encode-only bits word =
         let p = encoding-plain bits word in

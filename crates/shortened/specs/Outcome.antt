@@ -1,4 +1,4 @@
--- What the calls on a shortened set tell and leave, for all that they can be given (docs/RULES.md, §15): refused as 1 or 12 by the row's tests, else as the
+-- What the calls on a shortened set report and leave, for every input (docs/RULES.md, §15): refused as 1 or 12 by the row's tests, else as the
 -- plain calls do it, over the words of the kinds that are left.
 use mathlib.Core.List.{List}
 use Prim.Native.Nat.{ℕ, _^_}

@@ -1,5 +1,5 @@
-// The public calls on a shortened set: encoder, inverse and quick reading. A row names information
-// indices that are to be 0 as well, 1 where named.
+// Encoder, inverse and quick reading on a shortened set (docs/RULES.md, §15). A row names
+// information indices that are to be 0 as well, 1 where named.
 use code::Admitted;
 use code::Code;
 use code::Refusal;
@@ -43,7 +43,7 @@ pub fn inverse_shortened(r: u32, m: u32, named: &[u8], word: &[u8], bits: &mut [
     }
 }
 
-// Reads the readings by halves: writes the information bits and the word, and tells the penalty.
+// Reads the readings by halves: writes the information bits and the word, and gives the penalty.
 pub fn quick_shortened(
     r: u32,
     m: u32,

@@ -104,7 +104,8 @@ module _ (r m allowed : ℕ) (named : List ℕ) (l : List ℤ) (bits word : List
   refused-zeros : (why : Refusal) (w : RunnerUpOutcome) → refusedWithNone why bits word ≡ w → (w .outcome .number ≡ 0 → ⊥) × (w .runnerUp ≡ replicate 256 0)
   refused-zeros why w e = rw (← e) (λ z. omega (arith, number-above why), refl)
 
-  runner-refused : (why : Refusal) → refusedWithNone why bits word ≡ searchingShortened r m allowed named l bits word → RunnerUpLeft r m allowed named l bits word
+  runner-refused : (why : Refusal) → refusedWithNone why bits word ≡ searchingShortened r m allowed named l bits word
+      → RunnerUpLeft r m allowed named l bits word
   runner-refused why e =
       let z = refused-zeros why (searchingShortened r m allowed named l bits word) e in
       record { found = λ n. absurd (z .0 n); refused = λ n. z .1 }
@@ -122,7 +123,8 @@ module _ (r m allowed : ℕ) (named : List ℕ) (l : List ℤ) (bits word : List
               | refuses why f h ↦ runner-refused why (over-refused ks (rm r m) allowed l bits word why (f ∙ sym same) ∙ left)
               | allows c f is a ↦
                   let is-left : runnerUpOutcomeBy m ks l allowed bits word ≡ searchingShortened r m allowed named l bits word =
-                  ap (λ (d : Code). runnerUpOutcomeBy (d .m) ks l allowed bits word) (sym is) ∙ over-answered ks (rm r m) allowed l bits word c (f ∙ sym same) ∙ left in
+                  ap (λ (d : Code). runnerUpOutcomeBy (d .m) ks l allowed bits word) (sym is)
+                  ∙ over-answered ks (rm r m) allowed l bits word c (f ∙ sym same) ∙ left in
                   let long = a .entries .long ∙ ap (λ (d : Code). 2 ^ d .m) is in
                   record {
                     found = λ n. rw (← is-left)

@@ -33,7 +33,8 @@ module _ (r m allowed : ℕ) (l : List ℤ) (bits word : List ℕ) where
             ∙ ap (λ (d : Code). runnerUpOutcomeBy (d .m) (kinds r m) l allowed bits word) is
             ∙ ap (λ (d : Code). runnerUpOutcomeBy (d .m) (kinds (d .r) (d .m)) l allowed bits word) (sym is)
             ∙ sym (runner-up-answered r m allowed l bits word c e)
-        | refuses why e h ↦ sym (over-refused (kinds r m) (rm r m) allowed l bits word why (e ∙ sym same)) ∙ sym (runner-up-refused r m allowed l bits word why e)
+        | refuses why e h ↦ sym (over-refused (kinds r m) (rm r m) allowed l bits word why (e ∙ sym same))
+            ∙ sym (runner-up-refused r m allowed l bits word why e)
       ]
 
   abbrev none : List ℕ

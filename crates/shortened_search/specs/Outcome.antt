@@ -1,4 +1,4 @@
--- What the search on a shortened set tells and leaves, for all that it can be given (docs/RULES.md, §15): refused as 1 or 12 by the row's tests, else as the
+-- What the search on a shortened set reports and leaves, for every input (docs/RULES.md, §15): refused as 1 or 12 by the row's tests, else as the
 -- plain search does it, over the words of the kinds that are left.
 use mathlib.Core.List.{List}
 use Prim.Native.Nat.{ℕ}
@@ -20,7 +20,8 @@ refusedWithNone why bits word = runnerUpOutcomeOf (withNone (Refused why)) bits 
 -- over the words of a row of kinds: information bits are as many as the indices that carry them
 abbrev pub searchingOver : List ℕ → Code → ℕ → List ℤ → List ℕ → List ℕ → RunnerUpOutcome
 searchingOver ks c allowed l bits word =
-    afterTest (admittedBy c (sum ks) l (length bits) (length word)) (λ why. refusedWithNone why bits word) (λ d. runnerUpOutcomeBy (d .m) ks l allowed bits word)
+    afterTest (admittedBy c (sum ks) l (length bits) (length word)) (λ why. refusedWithNone why bits word)
+    (λ d. runnerUpOutcomeBy (d .m) ks l allowed bits word)
 
 -- of r, m, the allowance, the row, the readings, and the buffers for the information bits and the word
 unfoldable pub searchingShortened : ℕ → ℕ → ℕ → List ℕ → List ℤ → List ℕ → List ℕ → RunnerUpOutcome

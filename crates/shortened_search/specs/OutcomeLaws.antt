@@ -23,7 +23,8 @@ use Rattle.shortened.specs.WorkLaws.{long-left, are-left}
 use Rattle.shortened_search.specs.Outcome.{refusedWithNone, searchingOver, searchingShortened}
 
 module _ (r m allowed : ℕ) (named : List ℕ) (l : List ℤ) (bits word : List ℕ) where
-  pub searching-refused : (why : Refusal) → Refused why ≡ rowAdmitted r m named → refusedWithNone why bits word ≡ searchingShortened r m allowed named l bits word
+  pub searching-refused : (why : Refusal) → Refused why ≡ rowAdmitted r m named
+      → refusedWithNone why bits word ≡ searchingShortened r m allowed named l bits word
   unfolding searchingShortened
   searching-refused why e = rw (← e)
 

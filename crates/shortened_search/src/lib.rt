@@ -1,4 +1,4 @@
-// The public calls on a shortened set: the search with an allowance, and the short call.
+// The search on a shortened set (docs/RULES.md, §15): with an allowance, and the short call.
 use code::Admitted;
 use code::Code;
 use search::WithRunnerUp;
@@ -83,8 +83,8 @@ fn search_sound(
         × SoundFor code (sum (leftOf (now named) code)) (length (now bits)) (length (now word))
         (GoodReadings code (now readings)) ⌝ }
     ensures { λ answer. ⌜ runnerUpOutcomeOf answer (now (bits .exit)) (now (word .exit))
-        ≡ runnerUpOutcomeBy (code .m) (leftOf (now (named .entry)) code) (now (readings .entry)) allowed
-        (now (bits .entry)) (now (word .entry)) ⌝ }
+        ≡ runnerUpOutcomeBy (code .m) (leftOf (now (named .entry)) code) (now (readings .entry))
+        allowed (now (bits .entry)) (now (word .entry)) ⌝ }
 {
     let mut kinds = [0u8; 256];
     let mut own = [0i16; 256];

@@ -1,4 +1,4 @@
--- What the writer and the reader tell and leave, for all that they can be given.
+-- What the writer and the reader report and leave, for every input.
 use mathlib.Core.List.{List}
 use mathlib.Core.Bool.{cond, not}
 use Prim.Native.Nat.{ℕ}

@@ -1,5 +1,5 @@
-// The tilt telegram: a cylinder, a direction and a tilt in one word of RM(2,5).
-// It stands above the encoder and the search and knows no more of them than they promise.
+// The tilt telegram (docs/RULES.md, §11): a cylinder, a direction and a tilt in one word of
+// RM(2,5), over the encoder and the search, of which no more is known here than they promise.
 use code::Refusal;
 use search::Searched;
 ghost use mathlib.Core.Path.{_≡_};
@@ -111,7 +111,8 @@ pub fn read_within(allowed: u32, readings: &[i16]) -> Heard
 
 // The same, with the default allowance.
 pub fn read(readings: &[i16]) -> Heard
-    ensures { λ answer. ⌜ outcomeOf answer ≡ readingTelegram defaultAllowance (now (readings .entry)) ⌝ }
+    ensures { λ answer. ⌜ outcomeOf answer
+        ≡ readingTelegram defaultAllowance (now (readings .entry)) ⌝ }
 {
     read_within(code::Code::DEFAULT_ALLOWANCE, readings)
 }

@@ -88,7 +88,7 @@ returns-2 : tie.Need-returns-2
 returns-2 c =
     let k = c .before .before .before .before in
     let r = c .before .before .before .before .before .before .before .before .before .before .before in
-    let g = c .before .before .before .before .before .before .before .before .before .before .before .before .before .before .before .before .before .before .args in
+    let g = r .before .before .before .before .before .before .before .args in
     let t = c .before .before .refuse in
     let is = ap (λ (a : Searched). resultIn a (bits r)) (sym (k .before .result2 .given .1)) ∙ says r in
     subst (λ (x : Result). Stepped (g .w) (g .s .now) x (g .out .now) (g .at) (t .result) (t .last .1 .1 .1 .0)) is (t .ensures)

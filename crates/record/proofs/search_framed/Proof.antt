@@ -98,7 +98,7 @@ same-length-2 c = search needs
 returns : tie.Need-returns
 returns c =
     let lending = c .before .before .before .before .before .before .before .before .before .before .before .before .before in
-    let g = c .before .before .before .before .before .before .before .before .before .before .before .before .before .before .before .before .before .before .args in
+    let g = lending .before .before .before .before .before .args in
     let put = c .before .before .before .before .before .before .before .before .before .before .put-readings in
     let read = lent-again (n lending) zeros (put .last .1 .0) (ap length (put .ensures) ∙ count lending) ∙ put .ensures ∙ ap unpacked (taken lending) in
     c .before .before .before .before .search-within .ensures
