@@ -47,6 +47,15 @@ pub enum Refusal {
     Named,
 }
 
+// What a refusal reports: the rules' number, and the place, penalty and visits that it carries, 0
+// where it carries none.
+pub struct Shown {
+    pub number: u32,
+    pub place: usize,
+    pub penalty: u32,
+    pub visits: u32,
+}
+
 // What the tests on readings leave.
 pub enum Admitted {
     Allowed(Code),
@@ -257,89 +266,75 @@ pub fn admit_for(code: Code, due: usize, readings: &[i16], bits: usize, word: us
 }
 
 impl Refusal {
-    // The rules' number.
+    // What the refusal reports, by the rules' table.
+    pub fn shown(self) -> Shown
+        ensures { λ s. ⌜ (s .number ≡ carried self .number) × (s .place ≡ carried self .place)
+            × (s .penalty ≡ carried self .penalty) × (s .visits ≡ carried self .visits) ⌝ }
+    {
+        let none = Shown {
+            number: 0,
+            place: 0,
+            penalty: 0,
+            visits: 0,
+        };
+        match self {
+            Refusal::Parameters => Shown { number: 1, ..none },
+            Refusal::InputLength => Shown { number: 2, ..none },
+            Refusal::OutputLength => Shown { number: 3, ..none },
+            Refusal::Entry(place) => Shown {
+                number: 4,
+                place,
+                ..none
+            },
+            Refusal::NotAWord(place) => Shown {
+                number: 5,
+                place,
+                ..none
+            },
+            Refusal::OutOfVisits(visits) => Shown {
+                number: 6,
+                visits,
+                ..none
+            },
+            Refusal::Tied { penalty, visits } => Shown {
+                number: 7,
+                penalty,
+                visits,
+                ..none
+            },
+            Refusal::Torn => Shown { number: 8, ..none },
+            Refusal::Pad => Shown { number: 9, ..none },
+            Refusal::NoEntry => Shown { number: 10, ..none },
+            Refusal::Map => Shown { number: 11, ..none },
+            Refusal::Named => Shown { number: 12, ..none },
+        }
+    }
+
     pub fn number(self) -> u32
         ensures { λ r. ⌜ r ≡ carried self .number ⌝ }
     {
-        match self {
-            Refusal::Parameters => 1,
-            Refusal::InputLength => 2,
-            Refusal::OutputLength => 3,
-            Refusal::Entry(_) => 4,
-            Refusal::NotAWord(_) => 5,
-            Refusal::OutOfVisits(_) => 6,
-            Refusal::Tied {
-                penalty: _,
-                visits: _,
-            } => 7,
-            Refusal::Torn => 8,
-            Refusal::Pad => 9,
-            Refusal::NoEntry => 10,
-            Refusal::Map => 11,
-            Refusal::Named => 12,
-        }
+        let shown = self.shown();
+        shown.number
     }
 
-    // The place that 4 and 5 carry, else 0.
     pub fn place(self) -> usize
         ensures { λ r. ⌜ r ≡ carried self .place ⌝ }
     {
-        match self {
-            Refusal::Entry(place) => place,
-            Refusal::NotAWord(index) => index,
-            Refusal::Parameters => 0,
-            Refusal::InputLength => 0,
-            Refusal::OutputLength => 0,
-            Refusal::OutOfVisits(_) => 0,
-            Refusal::Tied {
-                penalty: _,
-                visits: _,
-            } => 0,
-            Refusal::Torn => 0,
-            Refusal::Pad => 0,
-            Refusal::NoEntry => 0,
-            Refusal::Map => 0,
-            Refusal::Named => 0,
-        }
+        let shown = self.shown();
+        shown.place
     }
 
-    // The least penalty under 7, else 0.
     pub fn penalty(self) -> u32
         ensures { λ r. ⌜ r ≡ carried self .penalty ⌝ }
     {
-        match self {
-            Refusal::Tied { penalty, visits: _ } => penalty,
-            Refusal::Parameters => 0,
-            Refusal::InputLength => 0,
-            Refusal::OutputLength => 0,
-            Refusal::Entry(_) => 0,
-            Refusal::NotAWord(_) => 0,
-            Refusal::OutOfVisits(_) => 0,
-            Refusal::Torn => 0,
-            Refusal::Pad => 0,
-            Refusal::NoEntry => 0,
-            Refusal::Map => 0,
-            Refusal::Named => 0,
-        }
+        let shown = self.shown();
+        shown.penalty
     }
 
-    // The allowance under 6, the walk's visits under 7, else 0.
     pub fn visits(self) -> u32
         ensures { λ r. ⌜ r ≡ carried self .visits ⌝ }
     {
-        match self {
-            Refusal::OutOfVisits(allowed) => allowed,
-            Refusal::Tied { penalty: _, visits } => visits,
-            Refusal::Parameters => 0,
-            Refusal::InputLength => 0,
-            Refusal::OutputLength => 0,
-            Refusal::Entry(_) => 0,
-            Refusal::NotAWord(_) => 0,
-            Refusal::Torn => 0,
-            Refusal::Pad => 0,
-            Refusal::NoEntry => 0,
-            Refusal::Map => 0,
-            Refusal::Named => 0,
-        }
+        let shown = self.shown();
+        shown.visits
     }
 }
