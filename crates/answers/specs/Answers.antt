@@ -2,8 +2,6 @@
 use mathlib.Core.List.{List}
 use Prim.Native.Nat.{ℕ}
 use Rattle.code.specs.Sound.{carried}
-use Rattle.encode.specs.declared.Encoded.{Encoded}
-use Rattle.encode.specs.declared.Encoded.the-variants as encoded
 use Rattle.quick.specs.declared.Read.{Read}
 use Rattle.quick.specs.declared.Read.the-variants as read
 use Rattle.record.specs.declared.Header.{Header}
@@ -11,15 +9,6 @@ use Rattle.record.specs.Reader as Reader
 use Rattle.search.specs.declared.Searched.{Searched}
 use Rattle.search.specs.declared.Searched.the-variants.{Found, Refused}
 use Rattle.answers.specs.Reported.{numbers}
-
--- ---- of an answer of encode or inverse
-abbrev pub encodedNumber : Encoded → ℕ
-encodedNumber encoded.Done = 0
-encodedNumber (encoded.Refused why) = carried why .number
-
-abbrev pub encodedNumbers : Encoded → List ℕ
-encodedNumbers encoded.Done = numbers 0 0 0 0
-encodedNumbers (encoded.Refused why) = numbers 0 0 0 (carried why .place)
 
 -- ---- of a header, beside a packed part of so many bytes
 abbrev pub headerNumber : Header → ℕ

@@ -3,7 +3,6 @@ pub mod Reported
 -- The parts of the answers, and laws
 pub mod Answers
 pub mod ReportedLaws
-pub mod Early
 pub mod EarlyLaws
 pub mod Indexed
 pub mod IndexedLaws

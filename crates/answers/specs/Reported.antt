@@ -13,14 +13,18 @@ use Rattle.search.specs.RunnerUp.{RunnerUpOutcome}
 abbrev pub numbers : ℕ → ℕ → ℕ → ℕ → List ℕ
 numbers penalty gap visits place = penalty ∷ gap ∷ visits ∷ place ∷ []
 
--- what is returned, the numbers, and the lent buffers in the order of the arguments
-pub record Reported : Type 0 where
+-- what is returned, the numbers, and what was lent
+pub record Report (B : Type 0) : Type 0 where
   pub returned : ℕ
   pub out : List ℕ
-  pub buffers : List (List ℕ)
+  pub lent : B
 
-abbrev pub reported : ℕ → List ℕ → List (List ℕ) → Reported
-reported returned out buffers = record { returned = returned; out = out; buffers = buffers }
+abbrev pub reported : {B : Type 0} → ℕ → List ℕ → B → Report B
+reported returned out lent = record { returned = returned; out = out; lent = lent }
+
+-- of lent buffers of bytes, in the order of the arguments
+abbrev pub Reported : Type 0
+Reported = Report (List (List ℕ))
 
 -- an outcome of encode or inverse
 abbrev pub shown : Encode.Outcome → Reported

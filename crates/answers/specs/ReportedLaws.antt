@@ -3,8 +3,9 @@ use mathlib.Core.Path.{_≡_, refl, ap, ap₂, _∙_}
 use mathlib.Core.List.{List, [], _∷_}
 use Prim.Native.Nat.{ℕ}
 use lib.ListN.{length}
-use Rattle.encode.specs.declared.Encoded.{Encoded}
-use Rattle.encode.specs.declared.Encoded.the-variants as encoded
+use Rattle.code.specs.Sound.{completed}
+use Rattle.code.specs.declared.Completed.{Completed}
+use Rattle.code.specs.declared.Completed.the-variants as completion
 use Rattle.encode.specs.Outcome as Encode
 use Rattle.quick.specs.declared.Read.{Read}
 use Rattle.quick.specs.declared.Read.the-variants as read
@@ -16,8 +17,8 @@ use Rattle.search.specs.declared.Searched.the-variants.{Found, Refused}
 use Rattle.search.specs.declared.WithRunnerUp.{WithRunnerUp}
 use Rattle.search.specs.Outcome as Search
 use Rattle.search.specs.RunnerUp.{RunnerUpOutcome, runnerUpOutcomeOf}
-use Rattle.answers.specs.Reported.{reported, shown, shownQuick, shownSearch, shownWithRunnerUp, shownPart}
-use Rattle.answers.specs.Answers.{encodedNumber, encodedNumbers, headerNumber, headerNumbers}
+use Rattle.answers.specs.Reported.{numbers, reported, shown, shownQuick, shownSearch, shownWithRunnerUp, shownPart}
+use Rattle.answers.specs.Answers.{headerNumber, headerNumbers}
 use Rattle.answers.specs.Answers.{readNumber, readNumbers, searchedNumber, searchedNumbers}
 
 abbrev beside : Search.Outcome → List ℕ → RunnerUpOutcome
@@ -28,13 +29,14 @@ pub handed : {A : Type 0} (number : A → ℕ) (numbersOf : A → List ℕ) (ans
     → returned ≡ number a → out ≡ numbersOf a → (returned ≡ number answer) × (out ≡ numbersOf answer)
 handed number numbersOf answer a returned out e f g = (rw e f, rw e g)
 
-by-encoded : (answer : Encoded) (buffer : List ℕ)
-    → reported (encodedNumber answer) (encodedNumbers answer) (buffer ∷ []) ≡ shown (Encode.outcomeOf answer buffer)
-by-encoded encoded.Done buffer = refl
-by-encoded (encoded.Refused why) buffer = refl
+by-encoded : (answer : Completed) (buffer : List ℕ)
+    → reported (completed answer .number) (numbers 0 0 0 (completed answer .place)) (buffer ∷ []) ≡ shown (Encode.outcomeOf answer buffer)
+by-encoded completion.Done buffer = refl
+by-encoded (completion.Refused why) buffer = refl
 
-pub reported-encoded : (answer : Encoded) (buffer : List ℕ) (o : Encode.Outcome) (returned : ℕ) (out : List ℕ)
-    → Encode.outcomeOf answer buffer ≡ o → returned ≡ encodedNumber answer → out ≡ encodedNumbers answer → reported returned out (buffer ∷ []) ≡ shown o
+pub reported-encoded : (answer : Completed) (buffer : List ℕ) (o : Encode.Outcome) (returned : ℕ) (out : List ℕ)
+    → Encode.outcomeOf answer buffer ≡ o → returned ≡ completed answer .number → out ≡ numbers 0 0 0 (completed answer .place)
+    → reported returned out (buffer ∷ []) ≡ shown o
 reported-encoded answer buffer o returned out e f g =
     ap₂ (λ (n : ℕ) (l : List ℕ). reported n l (buffer ∷ [])) f g ∙ by-encoded answer buffer ∙ ap shown e
 

@@ -1,26 +1,21 @@
 // What C gets of an answer: its values go into the numbers that C lends, in the order of the
 // header's structs, and its number is returned, which is 0 or a refusal's.
+use code::Completed;
 use code::Refusal;
 use early::Answered;
-use encode::Encoded;
 use index::Fronted;
 use index::Indexed;
-use packing::Unpacked;
 use quick::Read;
 use record::Header;
-use reorder::Reordered;
 use search::Searched;
 use search::WithRunnerUp;
 use telegram::Heard;
 use telegram::Telegram;
 ghost use mathlib.Core.Path.{_≡_};
 ghost use mathlib.Core.List.{[], _∷_};
-ghost use Rattle.code.specs.Sound.{carried};
-ghost use Rattle.packing.specs.Unpacking.{carriedIn};
-ghost use Rattle.reorder.specs.Outcome.{answerCarries};
+ghost use Rattle.code.specs.Sound.{carried, completed};
 ghost use Rattle.telegram.specs.Outcome as Tilt;
 ghost use Rattle.answers.specs.Reported.{numbers, reported};
-ghost use Rattle.answers.specs.Answers.{encodedNumber, encodedNumbers};
 ghost use Rattle.answers.specs.Answers.{readNumber, readNumbers};
 ghost use Rattle.answers.specs.Answers.{searchedNumber, searchedNumbers};
 ghost use Rattle.answers.specs.Answers.{headerNumber, headerNumbers};
@@ -56,16 +51,17 @@ fn put_refused(why: Refusal, out: &mut [u64; 4]) -> u32
     why.number()
 }
 
-pub fn put_encoded(answer: Encoded, out: &mut [u64; 4]) -> u32
-    ensures { λ number. ⌜ (number ≡ encodedNumber answer)
-        × (now (out .exit) ≡ encodedNumbers answer) ⌝ }
+// A call that is done, or its refusal.
+pub fn put_completed(answer: Completed, out: &mut [u64; 4]) -> u32
+    ensures { λ number. ⌜ (number ≡ completed answer .number)
+        × (now (out .exit) ≡ numbers 0 0 0 (completed answer .place)) ⌝ }
 {
     match answer {
-        Encoded::Done => {
+        Completed::Done => {
             put_numbers(out, 0, 0, 0, 0);
             0
         }
-        Encoded::Refused(why) => put_place(why, out),
+        Completed::Refused(why) => put_place(why, out),
     }
 }
 
@@ -127,32 +123,6 @@ pub fn put_answered(answer: Answered, out: &mut [u64; 4]) -> u32
             0
         }
         Answered::Refused(why) => put_refused(why, out),
-    }
-}
-
-pub fn put_reordered(answer: Reordered, out: &mut [u64; 4]) -> u32
-    ensures { λ number. ⌜ (number ≡ answerCarries answer .number)
-        × (now (out .exit) ≡ numbers 0 0 0 (answerCarries answer .place)) ⌝ }
-{
-    match answer {
-        Reordered::Done => {
-            put_numbers(out, 0, 0, 0, 0);
-            0
-        }
-        Reordered::Refused(why) => put_place(why, out),
-    }
-}
-
-pub fn put_unpacked(answer: Unpacked, out: &mut [u64; 4]) -> u32
-    ensures { λ number. ⌜ (number ≡ carriedIn answer .number)
-        × (now (out .exit) ≡ numbers 0 0 0 (carriedIn answer .place)) ⌝ }
-{
-    match answer {
-        Unpacked::Done => {
-            put_numbers(out, 0, 0, 0, 0);
-            0
-        }
-        Unpacked::Refused(why) => put_place(why, out),
     }
 }
 

@@ -56,7 +56,8 @@ take-min j l =
 put-text : (d : List ℕ) (at : ℕ) (t : List ℕ) («end» : ℕ) (d′ : List ℕ) → Put d at t «end» d′ → at ≤ length d → take «end» d′ ≡ take at d ++ t
 put-text d at t «end» d′ p h =
     let long : length (take at d ++ t) ≡ «end» = omega (arith, length-append (take at d) t, length-take-le at d h, p .end-is) in
-    rw (p .text-is) (take-at (take at d ++ t) (drop (at + length t) d) «end» long)
+    let same : d′ ≡ take at d ++ t ++ drop (at + length t) d = p .text-is ∙ sym (append-assoc (take at d) t (drop (at + length t) d)) in
+    rw same (take-at (take at d ++ t) (drop (at + length t) d) «end» long)
 
 put-within : (d : List ℕ) (at : ℕ) (t : List ℕ) («end» : ℕ) (d′ : List ℕ) → Put d at t «end» d′ → at ≤ length d → length d′ ≡ length d → «end» ≤ length d
 put-within d at t «end» d′ p h e =
@@ -65,8 +66,8 @@ put-within d at t «end» d′ p h e =
       arith,
       p .end-is,
       ap length (p .text-is),
-      length-append (take at d ++ t) (drop n d),
-      length-append (take at d) t,
+      length-append (take at d) (t ++ drop n d),
+      length-append t (drop n d),
       length-take-le at d h,
       length-drop n d,
     )

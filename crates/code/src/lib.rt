@@ -56,6 +56,12 @@ pub struct Shown {
     pub visits: u32,
 }
 
+// The answer of a call that reports no more than a refusal.
+pub enum Completed {
+    Done,
+    Refused(Refusal),
+}
+
 // What the tests on readings leave.
 pub enum Admitted {
     Allowed(Code),
@@ -85,6 +91,9 @@ impl Code {
     pub const LARGEST_M: u32 = 8;
 
     pub const LARGEST_READING: i16 = 32767;
+
+    // the same, as a float
+    pub const LARGEST_FLOAT_READING: f32 = 32767.0;
 
     // of a record, whose fields have 12 bits
     pub const LARGEST_RECORD_READING: i16 = 2047;

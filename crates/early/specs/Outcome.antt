@@ -11,9 +11,7 @@ use Rattle.decoding.specs.Quick.{quickWord, quickBits, quickPenalty}
 use Rattle.decoding.specs.Answer.{answer}
 use Rattle.sure.specs.Test.{passes}
 use Rattle.code.specs.declared.Code.{Code}
-use Rattle.code.specs.declared.Admitted.{Admitted}
-use Rattle.code.specs.declared.Admitted.the-variants as admission
-use Rattle.code.specs.Admitted.{admitted}
+use Rattle.code.specs.Admitted.{admitted, afterTest}
 use Rattle.search.specs.declared.Searched.{Searched}
 use Rattle.search.specs.declared.Searched.the-variants as search
 use Rattle.search.specs.Outcome.{Outcome, foundWith, refused, byAnswer}
@@ -42,10 +40,7 @@ earlyBy c allowed l bits word =
     (foundWith (quickPenalty (c .m) ks l) 0 0 (quickBits (c .m) ks l) (quickWord (c .m) ks l))
     (wordOnly (byAnswer allowed bits word (answer (c .m) ks l allowed)))
 
-abbrev pub afterTests : Admitted → ℕ → List ℤ → List ℕ → List ℕ → Outcome
-afterTests (admission.Allowed c) allowed l bits word = earlyBy c allowed l bits word
-afterTests (admission.Refused why) allowed l bits word = refused why bits word
-
 -- of r, m, the allowance, the readings, and the buffers for the information bits and the word
 unfoldable pub answering : ℕ → ℕ → ℕ → List ℤ → List ℕ → List ℕ → Outcome
-answering r m allowed l bits word = afterTests (admitted r m l (length bits) (length word)) allowed l bits word
+answering r m allowed l bits word =
+    afterTest (admitted r m l (length bits) (length word)) (λ why. refused why bits word) (λ c. earlyBy c allowed l bits word)

@@ -12,8 +12,8 @@ use Rattle.code.specs.declared.Refusal.{Refusal}
 use Rattle.code.specs.declared.Refusal.the-variants.{Parameters, InputLength, OutputLength, Entry, NotAWord}
 use Rattle.code.specs.Sound.{made, carried}
 use Rattle.code.specs.Entries.{firstBadBit}
-use Rattle.encode.specs.declared.Encoded.{Encoded}
-use Rattle.encode.specs.declared.Encoded.the-variants.{Done, Refused}
+use Rattle.code.specs.declared.Completed.{Completed}
+use Rattle.code.specs.declared.Completed.the-variants.{Done, Refused}
 
 pub record Outcome : Type 0 where
   -- 0 where the call is done, else the refusal's number
@@ -31,7 +31,7 @@ abbrev pub refused : Refusal → List ℕ → Outcome
 refused why buffer = record { number = carried why .number; place = carried why .place; buffer = buffer }
 
 -- the answer in the rules' numbers
-abbrev pub outcomeOf : Encoded → List ℕ → Outcome
+abbrev pub outcomeOf : Completed → List ℕ → Outcome
 outcomeOf Done = done
 outcomeOf (Refused why) = refused why
 

@@ -55,8 +55,3 @@ goodRow named ks =
 -- 1, and then 12 exactly if the row is no good one
 unfoldable pub rowAdmitted : ℕ → ℕ → List ℕ → Admitted
 rowAdmitted r m named = ifMade (made r m) (λ c. cond (goodRow named (kinds (c .r) (c .m))) (Allowed c) (Refused Named))
-
--- what a call gives after these tests: refused, or as a call of a code does
-abbrev pub afterTest : {O : Type 0} → Admitted → (Refusal → O) → (Code → O) → O
-afterTest (Refused why) refuse then = refuse why
-afterTest (Allowed c) refuse then = then c

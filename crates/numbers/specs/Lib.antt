@@ -3,6 +3,7 @@ pub mod Parts
 pub mod Sums
 pub mod Least
 pub mod Lowest
+pub mod Laid
 -- Their laws
 pub mod PartsLaws
 pub mod SumsLaws

@@ -1,6 +1,7 @@
 // Readings in packed bytes (docs/RULES.md, §7) and back: a field of 12 bits for each, two fields in
 // three bytes.
 use code::Code;
+use code::Completed;
 use code::Refusal;
 ghost use mathlib.Core.Path.{_≡_};
 ghost use Prim.Native.Nat.{suc, _*_, _/_, _≤_, _<_};
@@ -14,11 +15,6 @@ ghost use Rattle.packing.specs.Layout.{partLength, readingsIn};
 ghost use Rattle.packing.specs.Unpacking.{outcomeOf, unpacking};
 
 // What unpacking answers: the readings are there, or why not.
-pub enum Unpacked {
-    Done,
-    Refused(Refusal),
-}
-
 // How many bytes follow a record's first.
 pub fn part_length(code: Code) -> usize
     requires { ⌜ Sound code ⌝ }
@@ -142,17 +138,17 @@ fn readings_in(bytes: usize) -> usize
 }
 
 // Writes the readings of a packed part into the lent buffer.
-pub fn unpack(part: &[u8], readings: &mut [i16]) -> Unpacked
+pub fn unpack(part: &[u8], readings: &mut [i16]) -> Completed
     ensures { λ answer. ⌜ outcomeOf answer (now (readings .exit))
         ≡ unpacking (now (part .entry)) (now (readings .entry)) ⌝ }
 {
     let n = readings_in(part.len());
     if n == 0 {
-        return Unpacked::Refused(Refusal::InputLength);
+        return Completed::Refused(Refusal::InputLength);
     }
     if readings.len() != n {
-        return Unpacked::Refused(Refusal::OutputLength);
+        return Completed::Refused(Refusal::OutputLength);
     }
     put_readings(part, readings);
-    Unpacked::Done
+    Completed::Done
 }

@@ -4,8 +4,7 @@ ghost use mathlib.Core.Path.{_≡_};
 ghost use mathlib.Core.List.{[], _∷_};
 ghost use Rattle.code.specs.Sound.{defaultAllowance};
 ghost use Rattle.early.specs.Outcome.{answering};
-ghost use Rattle.answers.specs.Reported.{reported};
-ghost use Rattle.answers.specs.Early.{shownEarly};
+ghost use Rattle.answers.specs.Reported.{reported, shownSearch};
 
 #[no_mangle]
 pub extern "C" fn cinorbis_early_within(
@@ -19,7 +18,7 @@ pub extern "C" fn cinorbis_early_within(
 ) -> u32
     ensures { λ number. ⌜ reported number (now (out .exit))
         (now (bits .exit) ∷ now (word .exit) ∷ [])
-        ≡ shownEarly (answering r m allowed (now (readings .entry))
+        ≡ shownSearch (answering r m allowed (now (readings .entry))
         (now (bits .entry)) (now (word .entry))) ⌝ }
 {
     let answer = early::early_within(r, m, allowed, readings, bits, word);
@@ -37,7 +36,7 @@ pub extern "C" fn cinorbis_early(
 ) -> u32
     ensures { λ number. ⌜ reported number (now (out .exit))
         (now (bits .exit) ∷ now (word .exit) ∷ [])
-        ≡ shownEarly (answering r m defaultAllowance (now (readings .entry))
+        ≡ shownSearch (answering r m defaultAllowance (now (readings .entry))
         (now (bits .entry)) (now (word .entry))) ⌝ }
 {
     let answer = early::early(r, m, readings, bits, word);

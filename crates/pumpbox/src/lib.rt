@@ -11,7 +11,7 @@ mod telegrams;
 mod unpacking;
 mod writing;
 
-use answers::put_encoded;
+use answers::put_completed;
 use answers::put_header;
 use answers::put_read;
 use answers::put_with_runner_up;
@@ -37,7 +37,7 @@ pub extern "C" fn cinorbis_encode(
         ≡ shown (encoding r m (now (bits .entry)) (now (word .entry))) ⌝ }
 {
     let answer = encode::encode(r, m, bits, word);
-    put_encoded(answer, out)
+    put_completed(answer, out)
 }
 
 #[no_mangle]
@@ -52,7 +52,7 @@ pub extern "C" fn cinorbis_inverse(
         ≡ shown (inverting r m (now (word .entry)) (now (bits .entry))) ⌝ }
 {
     let answer = encode::inverse(r, m, word, bits);
-    put_encoded(answer, out)
+    put_completed(answer, out)
 }
 
 #[no_mangle]

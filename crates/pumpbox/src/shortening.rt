@@ -1,5 +1,5 @@
 // The C exports of the calls on a shortened set (docs/RULES.md, §15).
-use answers::put_encoded;
+use answers::put_completed;
 use answers::put_read;
 use answers::put_with_runner_up;
 ghost use mathlib.Core.Path.{_≡_};
@@ -23,7 +23,7 @@ pub extern "C" fn cinorbis_encode_shortened(
         (now (word .entry))) ⌝ }
 {
     let answer = shortened::encode_shortened(r, m, named, bits, word);
-    put_encoded(answer, out)
+    put_completed(answer, out)
 }
 
 #[no_mangle]
@@ -40,7 +40,7 @@ pub extern "C" fn cinorbis_inverse_shortened(
         (now (bits .entry))) ⌝ }
 {
     let answer = shortened::inverse_shortened(r, m, named, word, bits);
-    put_encoded(answer, out)
+    put_completed(answer, out)
 }
 
 #[no_mangle]

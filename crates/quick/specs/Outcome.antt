@@ -7,10 +7,8 @@ use Rattle.words.specs.Kinds.{kinds}
 use Rattle.decoding.specs.Quick.{quickWord, quickBits, quickPenalty}
 use Rattle.code.specs.declared.Code.{Code}
 use Rattle.code.specs.declared.Refusal.{Refusal}
-use Rattle.code.specs.declared.Admitted.{Admitted}
-use Rattle.code.specs.declared.Admitted.the-variants as admission
 use Rattle.code.specs.Sound.{carried}
-use Rattle.code.specs.Admitted.{admitted}
+use Rattle.code.specs.Admitted.{admitted, afterTest}
 use Rattle.quick.specs.declared.Read.{Read}
 use Rattle.quick.specs.declared.Read.the-variants.{Done, Refused}
 
@@ -41,10 +39,6 @@ outcomeOf (Refused why) = refused why
 abbrev pub readingBy : Code → List ℤ → Outcome
 readingBy c l = let ks = kinds (c .r) (c .m) in done (quickPenalty (c .m) ks l) (quickBits (c .m) ks l) (quickWord (c .m) ks l)
 
-abbrev pub afterTests : Admitted → List ℤ → List ℕ → List ℕ → Outcome
-afterTests (admission.Allowed c) l bits word = readingBy c l
-afterTests (admission.Refused why) l bits word = refused why bits word
-
 -- of r, m, the readings, and the buffers for the information bits and the word
 unfoldable pub quickReading : ℕ → ℕ → List ℤ → List ℕ → List ℕ → Outcome
-quickReading r m l bits word = afterTests (admitted r m l (length bits) (length word)) l bits word
+quickReading r m l bits word = afterTest (admitted r m l (length bits) (length word)) (λ why. refused why bits word) (λ c. readingBy c l)

@@ -1,10 +1,11 @@
 -- What writing a record reports and leaves, for every input: 1, 2, 4, then 3.
-use mathlib.Core.List.{List, _++_}
+use mathlib.Core.List.{List}
 use mathlib.Core.Bool.{cond, not}
 use Prim.Native.Nat.{ℕ, suc, _+_, _-_, _^_}
 use lib.IntN.{ℤ}
-use lib.ListN.{length, take, drop}
+use lib.ListN.{length}
 use lib.Dec.{ltb, eqb}
+use Rattle.numbers.specs.Laid.{laidAt}
 use Rattle.code.specs.Sound.{Carried, carrying, carried, largestRecordReading, made}
 use Rattle.code.specs.Entries.{firstBadReading}
 use Rattle.code.specs.Admitted.{ifMade}
@@ -39,10 +40,6 @@ writableBy c l bytes place =
 
 unfoldable pub writable : ℕ → ℕ → List ℤ → ℕ → ℕ → Admitted
 writable r m l bytes place = ifMade (made r m) (λ c. writableBy c l bytes place)
-
--- the bytes x in d from the place on, in the place of as many
-abbrev pub laidAt : ℕ → List ℕ → List ℕ → List ℕ
-laidAt place x d = take place d ++ (x ++ drop (place + length x) d)
 
 abbrev pub writtenBy : Admitted → List ℤ → List ℕ → ℕ → WrittenOutcome
 writtenBy (admission.Refused why) l buffer place = outcomeOf (Refused why) buffer

@@ -12,6 +12,7 @@ use borrow.Rule.Slice.PartMut.{putMid}
 use borrow.Author.Tests.{eq-eqb, ne-eqb, lt-ltb, le-ltb}
 use Rattle.numbers.specs.Choice.{lt-or-le}
 use Rattle.decoding.specs.Readings.{Within}
+use Rattle.numbers.specs.Laid.{laidAt}
 use Rattle.code.specs.Sound.{Sound, largestRecordReading, made, rm}
 use Rattle.code.specs.SoundLaws.{made-of, made-good}
 use Rattle.code.specs.Entries.{firstBadReading}
@@ -26,7 +27,7 @@ use Rattle.code.specs.declared.Admitted.the-variants as admission
 use Rattle.record.specs.declared.Written.{Written}
 use Rattle.record.specs.declared.Written.the-variants.{Next, Refused}
 use Rattle.packing.specs.Layout.{recordOf, partLength}
-use Rattle.record.specs.Writing.{WrittenOutcome, outcomeOf, writable, laidAt, writtenBy}
+use Rattle.record.specs.Writing.{WrittenOutcome, outcomeOf, writable, writtenBy}
 
 -- the answers of the tests
 module _ (r m : ℕ) (l : List ℤ) (bytes place : ℕ) where

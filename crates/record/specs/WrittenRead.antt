@@ -8,6 +8,7 @@ use lib.IntN.{ℤ}
 use lib.ListN.{length, getD, take, drop, length-append, length-drop, take-append-drop}
 use lib.Seq.{take-at, drop-at, drop-drop, length-take-le, getD-drop}
 use Rattle.decoding.specs.Readings.{Within}
+use Rattle.numbers.specs.Laid.{laidAt}
 use Rattle.code.specs.Sound.{Sound, largestRecordReading, rm}
 use Rattle.code.specs.RefusalLaws.{number-above}
 use Rattle.code.specs.declared.Code.{Code}
@@ -21,7 +22,7 @@ use Rattle.packing.specs.LayoutLaws.{Below, length-record}
 use Rattle.record.specs.Reader.{codeOf, lengthBy, partOf, readingsOf, headerOf, partBy}
 use Rattle.record.specs.Accepted.{Begins, begins-accepted, begins-readings, begins-handed-back, begins-said, accepted-begins, readings-within}
 use Rattle.record.specs.ReaderLaws.{framed-record, length-readings-of}
-use Rattle.record.specs.Writing.{WrittenOutcome, outcomeOf, laidAt, writable, writtenBy, writing}
+use Rattle.record.specs.Writing.{WrittenOutcome, outcomeOf, writable, writtenBy, writing}
 use Rattle.record.specs.WritingLaws.{Writable, allowed-writable, writable-allowed}
 
 -- ---- bytes laid over others

@@ -7,12 +7,12 @@ use lib.ListN.{length}
 use lib.Dec.{ltb, eqb}
 use Rattle.code.specs.declared.Refusal.{Refusal}
 use Rattle.code.specs.declared.Refusal.the-variants.{Parameters, InputLength, OutputLength, Entry, Map}
-use Rattle.code.specs.Sound.{largestM, largestReading, Carried, carrying, carried}
+use Rattle.code.specs.Sound.{largestM, largestReading, Carried, completed}
 use Rattle.code.specs.Entries.{firstBadBit, firstBadReading}
 use Rattle.maps.specs.Maps.{reordered, productTable, productRow, undoTable, undoRow}
 use Rattle.images.specs.Images.{isMap}
-use Rattle.reorder.specs.declared.Reordered.{Reordered}
-use Rattle.reorder.specs.declared.Reordered.the-variants.{Done, Refused}
+use Rattle.code.specs.declared.Completed.{Completed}
+use Rattle.code.specs.declared.Completed.the-variants.{Done, Refused}
 
 -- B is what is lent to be written: one buffer, or two
 pub record Outcome (B : Type 0) : Type 0 where
@@ -22,12 +22,8 @@ pub record Outcome (B : Type 0) : Type 0 where
   pub lent : B
 
 -- the answer in the rules' numbers
-abbrev pub answerCarries : Reordered → Carried
-answerCarries Done = carrying 0 0 0 0
-answerCarries (Refused why) = carried why
-
-abbrev pub outcomeOf : {B : Type 0} → Reordered → B → Outcome B
-outcomeOf answer lent = record { carry = answerCarries answer; lent = lent }
+abbrev pub outcomeOf : {B : Type 0} → Completed → B → Outcome B
+outcomeOf answer lent = record { carry = completed answer; lent = lent }
 
 abbrev pub done : {B : Type 0} → B → Outcome B
 done lent = outcomeOf Done lent

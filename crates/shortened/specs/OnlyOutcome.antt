@@ -13,7 +13,7 @@ use Rattle.code.specs.Sound.{Sound, rm}
 use Rattle.code.specs.SoundLaws.{made-good}
 use Rattle.code.specs.AdmittedLaws.{allows, refuses, decided-for, tested-made}
 use Rattle.named.specs.NamedLaws.{bad-parameters, bad-row, sound-row, row-decided}
-use Rattle.encode.specs.declared.Encoded.{Encoded}
+use Rattle.code.specs.declared.Completed.{Completed}
 use Rattle.encode.specs.Outcome as encoder
 use Rattle.encode.specs.OutcomeLaws.{tested-small}
 use Rattle.encode.specs.OnlyOutcome as encoders
@@ -70,7 +70,7 @@ module _ (r m : ℕ) (named : List ℕ) where
         | sound-row s g e ↦ rw (← quick-left r m named (rm r m) e l bits word) (small-plain (over-small (leftOf named (rm r m)) l bits word s))
       ]
 
-  module _ (a b : Encoded) (x y : List ℕ) where
+  module _ (a b : Completed) (x y : List ℕ) where
     pub encode-only : (bits word : List ℕ)
         → encoder.outcomeOf a x ≡ encodingShortened r m named bits word → encoder.outcomeOf b y ≡ encodingShortened r m named bits word
         → (a ≡ b) × (x ≡ y)

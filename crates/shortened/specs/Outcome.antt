@@ -9,8 +9,8 @@ use Rattle.words.specs.Kinds.{kinds, encoded}
 use Rattle.words.specs.Inverse.{takenBack}
 use Rattle.decoding.specs.Quick.{quickWord, quickBits, quickPenalty}
 use Rattle.code.specs.declared.Code.{Code}
-use Rattle.code.specs.Admitted.{admittedBy}
-use Rattle.named.specs.Named.{left, rowAdmitted, afterTest}
+use Rattle.code.specs.Admitted.{admittedBy, afterTest}
+use Rattle.named.specs.Named.{left, rowAdmitted}
 use Rattle.encode.specs.Outcome as encoder
 use Rattle.quick.specs.Outcome as reader
 

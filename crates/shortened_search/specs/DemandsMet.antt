@@ -18,12 +18,12 @@ use Rattle.code.specs.declared.Admitted.the-variants as admission
 use Rattle.code.specs.Sound.{Sound, rm}
 use Rattle.code.specs.SoundLaws.{made-good}
 use Rattle.code.specs.SoundInput.{GoodReadings, SoundFor}
-use Rattle.code.specs.Admitted.{admittedBy, admittedFor}
+use Rattle.code.specs.Admitted.{admittedBy, admittedFor, afterTest}
 use Rattle.code.specs.AdmittedLaws.{allows, refuses, decided-for, tested-made, sound-allowed-for}
 use Rattle.code.specs.RefusalLaws.{number-above}
 use Rattle.code.specs.Demand1.{View, readingChecksFor}
 use Rattle.code.specs.Demand1Laws.{demand-1, decides-readings-for}
-use Rattle.named.specs.Named.{GoodRow, rowAdmitted, afterTest}
+use Rattle.named.specs.Named.{GoodRow, rowAdmitted}
 use Rattle.named.specs.NamedLaws.{bad-parameters, bad-row, sound-row, row-decided}
 use Rattle.search.specs.Outcome.{byAnswer}
 use Rattle.search.specs.RunnerUp.{RunnerUpOutcome, runnerUp, shownWith, runnerUpOutcomeBy}

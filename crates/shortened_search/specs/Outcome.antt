@@ -7,8 +7,8 @@ use lib.ListN.{length}
 use Rattle.numbers.specs.Sums.{sum}
 use Rattle.code.specs.declared.Code.{Code}
 use Rattle.code.specs.declared.Refusal.{Refusal}
-use Rattle.code.specs.Admitted.{admittedBy}
-use Rattle.named.specs.Named.{rowAdmitted, afterTest}
+use Rattle.code.specs.Admitted.{admittedBy, afterTest}
+use Rattle.named.specs.Named.{rowAdmitted}
 use Rattle.search.specs.declared.Searched.the-variants.{Refused}
 use Rattle.search.specs.RunnerUp.{RunnerUpOutcome, runnerUpOutcomeOf, withNone, runnerUpOutcomeBy}
 use Rattle.shortened.specs.Outcome.{leftOf}

@@ -1,6 +1,7 @@
 // The tilt telegram (docs/RULES.md, §11): a cylinder, a direction and a tilt in one word of
 // RM(2,5), over the encoder and the search, of which no more is known here than they promise.
 use code::Refusal;
+use code::Shown;
 use search::Searched;
 ghost use mathlib.Core.Path.{_≡_};
 ghost use Prim.Native.Nat.{_≤_};
@@ -260,53 +261,53 @@ fn judge(bits: &[u8], penalty: u32, gap: u32, visits: u32) -> Heard
 }
 
 impl Fault {
-    // The rules' number.
-    pub fn number(self) -> u32
-        ensures { λ r. ⌜ r ≡ faultCarries self .number ⌝ }
+    // What the fault reports: what the search's refusal does, else its number alone.
+    pub fn shown(self) -> Shown
+        ensures { λ s. ⌜ (s .number ≡ faultCarries self .number)
+            × (s .place ≡ faultCarries self .place)
+            × (s .penalty ≡ faultCarries self .penalty)
+            × (s .visits ≡ faultCarries self .visits) ⌝ }
     {
+        let none = Shown {
+            number: 0,
+            place: 0,
+            penalty: 0,
+            visits: 0,
+        };
         match self {
-            Fault::Link(why) => why.number(),
-            Fault::Marker => 13,
-            Fault::Tilt => 14,
-            Fault::ZeroTilt => 15,
-            Fault::Field => 16,
+            Fault::Link(why) => why.shown(),
+            Fault::Marker => Shown { number: 13, ..none },
+            Fault::Tilt => Shown { number: 14, ..none },
+            Fault::ZeroTilt => Shown { number: 15, ..none },
+            Fault::Field => Shown { number: 16, ..none },
         }
     }
 
-    // What the search's refusal carries, else 0.
+    pub fn number(self) -> u32
+        ensures { λ r. ⌜ r ≡ faultCarries self .number ⌝ }
+    {
+        let shown = self.shown();
+        shown.number
+    }
+
     pub fn place(self) -> usize
         ensures { λ r. ⌜ r ≡ faultCarries self .place ⌝ }
     {
-        match self {
-            Fault::Link(why) => why.place(),
-            Fault::Marker => 0,
-            Fault::Tilt => 0,
-            Fault::ZeroTilt => 0,
-            Fault::Field => 0,
-        }
+        let shown = self.shown();
+        shown.place
     }
 
     pub fn penalty(self) -> u32
         ensures { λ r. ⌜ r ≡ faultCarries self .penalty ⌝ }
     {
-        match self {
-            Fault::Link(why) => why.penalty(),
-            Fault::Marker => 0,
-            Fault::Tilt => 0,
-            Fault::ZeroTilt => 0,
-            Fault::Field => 0,
-        }
+        let shown = self.shown();
+        shown.penalty
     }
 
     pub fn visits(self) -> u32
         ensures { λ r. ⌜ r ≡ faultCarries self .visits ⌝ }
     {
-        match self {
-            Fault::Link(why) => why.visits(),
-            Fault::Marker => 0,
-            Fault::Tilt => 0,
-            Fault::ZeroTilt => 0,
-            Fault::Field => 0,
-        }
+        let shown = self.shown();
+        shown.visits
     }
 }

@@ -1,6 +1,6 @@
 -- `packing::unpack` meets its contract: 2, then 3, then the readings.
 use mathlib.Core.Path.{ap, sym, _∙_}
-use Rattle.packing.specs.declared.Unpacked.the-variants.{Done}
+use Rattle.code.specs.declared.Completed.the-variants.{Done}
 use Rattle.packing.specs.LayoutLaws.{readings-in}
 use Rattle.packing.specs.Unpacking.{outcomeOf}
 use Rattle.packing.specs.UnpackingLaws.{no-part, other-room, all-unpacked}

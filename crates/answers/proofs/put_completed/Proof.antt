@@ -1,12 +1,12 @@
--- `answers::put_unpacked` meets its contract.
+-- `answers::put_completed` meets its contract.
 use mathlib.Core.Path.{_≡_, refl}
-use Rattle.packing.specs.Unpacking.{carriedIn}
-use Rattle.packing.specs.declared.Unpacked.the-variants.{Done}
+use Rattle.code.specs.Sound.{completed}
+use Rattle.code.specs.declared.Completed.the-variants.{Done}
 use Rattle.answers.specs.Reported.{numbers}
 use Rattle.answers.specs.ReportedLaws.{handed}
 use borrow.Author.Needs.{needs}
-use Rattle.answers.proofs.put_unpacked.Statement.{statement}
-use Rattle.answers.proofs.put_unpacked.Tie as tie
+use Rattle.answers.proofs.put_completed.Statement.{statement}
+use Rattle.answers.proofs.put_completed.Tie as tie
 
 enum-told : tie.Need-enum-told
 enum-told c = search needs
@@ -25,16 +25,17 @@ returns c =
     let p = c .put-numbers in
     let g = c .before .before .before .before .args in
     let is : g .answer ≡ Done = cc in
-    handed (λ a. carriedIn a .number) (λ a. numbers 0 0 0 (carriedIn a .place)) _ _ 0 (p .last .0) is refl (p .ensures)
+    handed (λ a. completed a .number) (λ a. numbers 0 0 0 (completed a .place)) _ _ 0 (p .last .0) is refl (p .ensures)
 
 returns-2 : tie.Need-returns-2
 returns-2 c =
     let p = c .put-place in
-    handed (λ a. carriedIn a .number) (λ a. numbers 0 0 0 (carriedIn a .place)) _ _ (p .result) (p .last .1 .0) (c .before .before .before .answer .given .1)
+    handed (λ a. completed a .number) (λ a. numbers 0 0 0 (completed a .place)) _ _ (p .result)
+    (p .last .1 .0) (c .before .before .before .answer .given .1)
     (p .ensures .0) (p .ensures .1)
 
-pub put-unpacked-spec : {M : Type 1} → statement M
-put-unpacked-spec =
+pub put-completed-spec : {M : Type 1} → statement M
+put-completed-spec =
     tie.close
     (tie.spec
     enum-told
