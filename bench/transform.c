@@ -1,5 +1,5 @@
 /* Times the library's transform of 256 bits, which no export hands out, beside the recursion by halves in plain C (plain.h), in one run:
- * the least of several alternating rounds. Both must give the same bits. bench/run makes `half_transform` of the library's module. */
+ * the least of several alternating rounds. Both must give the same bits. bench/run makes `bit_rows_transform` of the library's module. */
 #include "draw.h"
 #include "plain.h"
 #include <stdio.h>
@@ -14,14 +14,14 @@ typedef struct {
     size_t length;
 } part;
 
-void half_transform(part *word, size_t m);
+void bit_rows_transform(part *word, size_t m);
 
 static uint8_t library_bits[256], plain_bits[256];
 
 static double library_round(void) {
     part word = {library_bits, sizeof library_bits};
     double start = now();
-    for (int i = 0; i < REPEATS; i++) half_transform(&word, 8);
+    for (int i = 0; i < REPEATS; i++) bit_rows_transform(&word, 8);
     return (now() - start) / REPEATS;
 }
 
@@ -35,7 +35,7 @@ int main(void) {
     double library = 1e300, plain = 1e300;
     for (size_t i = 0; i < 256; i++) library_bits[i] = plain_bits[i] = (uint8_t)(i * 7919 % 31 & 1);
     part word = {library_bits, sizeof library_bits};
-    half_transform(&word, 8);
+    bit_rows_transform(&word, 8);
     plain_transform(plain_bits, sizeof plain_bits);
     int same = memcmp(library_bits, plain_bits, sizeof plain_bits) == 0;
     for (int i = 0; i < ROUNDS; i++) {

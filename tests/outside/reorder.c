@@ -1,4 +1,4 @@
-/* Turned position orders: all tables of m = 3 with all rows, random maps for every m, products, undo maps, the search on both sides, and refusals
+/* Position orders: all tables of m = 3 with all rows, random maps for every m, products, undo maps, the search on both sides, and refusals
  * with several faults at once. The reference works position by position and undoes a table by elimination; the library does neither. */
 #include "call.h"
 #include "check.h"

@@ -2,31 +2,20 @@
 use mathlib.Core.List.{List}
 use Prim.Native.Nat.{ℕ}
 use Rattle.code.specs.Sound.{carried}
-use Rattle.encode.specs.declared.Encoded.{Encoded}
-use Rattle.encode.specs.declared.Encoded.the-variants as encoded
 use Rattle.quick.specs.declared.Read.{Read}
 use Rattle.quick.specs.declared.Read.the-variants as read
 use Rattle.record.specs.declared.Header.{Header}
 use Rattle.record.specs.Reader as Reader
 use Rattle.search.specs.declared.Searched.{Searched}
 use Rattle.search.specs.declared.Searched.the-variants.{Found, Refused}
-use Rattle.answers.specs.Told.{numbers}
-
--- ---- of an answer of encode or inverse
-abbrev pub encodedNumber : Encoded → ℕ
-encodedNumber encoded.Done = 0
-encodedNumber (encoded.Refused why) = carried why .number
-
-abbrev pub encodedNumbers : Encoded → List ℕ
-encodedNumbers encoded.Done = numbers 0 0 0 0
-encodedNumbers (encoded.Refused why) = numbers 0 0 0 (carried why .place)
+use Rattle.answers.specs.Reported.{numbers}
 
 -- ---- of a header, beside a packed part of so many bytes
 abbrev pub headerNumber : Header → ℕ
-headerNumber h = Reader.told h .carry .number
+headerNumber h = Reader.outcomeOf h .carry .number
 
 abbrev pub headerNumbers : Header → ℕ → List ℕ
-headerNumbers h n = let t = Reader.told h in numbers (t .r) (t .m) n (t .carry .place)
+headerNumbers h n = let t = Reader.outcomeOf h in numbers (t .r) (t .m) n (t .carry .place)
 
 -- ---- of a quick reading's answer
 abbrev pub readNumber : Read → ℕ

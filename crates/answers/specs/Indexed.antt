@@ -15,7 +15,7 @@ use Rattle.index.specs.declared.Fronted.the-variants as fronted
 use Rattle.index.specs.Making.{IndexOutcome, indexOf}
 use Rattle.index.specs.Fronting.{FrontOutcome}
 use Rattle.index.specs.Appending.{AppendOutcome}
-use Rattle.answers.specs.Told.{Told, told}
+use Rattle.answers.specs.Reported.{Reported, reported}
 
 -- records and used: the header's struct
 abbrev pub pair : Index → List ℕ
@@ -24,27 +24,27 @@ pair index = index .records ∷ index .used ∷ []
 abbrev pub indexIn : List ℕ → Index
 indexIn lent = indexOf (getD lent 0 0) (getD lent 1 0)
 
-abbrev pub shownMade : IndexOutcome → Told
-shownMade o = told (o .carry .number) (pair (o .index)) (o .table ∷ [])
+abbrev pub shownMade : IndexOutcome → Reported
+shownMade o = reported (o .carry .number) (pair (o .index)) (o .table ∷ [])
 
 -- records, used, and the number of what ended them: the header's struct
 abbrev pub frontNumbers : Index → ℕ → List ℕ
 frontNumbers index ended = index .records ∷ index .used ∷ ended ∷ []
 
-abbrev pub shownFront : FrontOutcome → Told
-shownFront o = told (o .made .carry .number) (frontNumbers (o .made .index) (o .ended)) (o .made .table ∷ [])
+abbrev pub shownFront : FrontOutcome → Reported
+shownFront o = reported (o .made .carry .number) (frontNumbers (o .made .index) (o .ended)) (o .made .table ∷ [])
 
--- what a record says and where its packed part stands: r, m, start, length, place
+-- what a record says and where its packed part starts: r, m, start, length, place
 abbrev pub entryNumbers : Header → ℕ → ℕ → List ℕ
-entryNumbers h start n = let t = Reader.told h in t .r ∷ t .m ∷ start ∷ n ∷ t .carry .place ∷ []
+entryNumbers h start n = let t = Reader.outcomeOf h in t .r ∷ t .m ∷ start ∷ n ∷ t .carry .place ∷ []
 
-abbrev pub shownEntry : Header → ℕ → List ℕ → Told
-shownEntry h start part = told (Reader.told h .carry .number) (entryNumbers h start (length part)) []
+abbrev pub shownEntry : Header → ℕ → List ℕ → Reported
+shownEntry h start part = reported (Reader.outcomeOf h .carry .number) (entryNumbers h start (length part)) []
 
 -- the new end and the place under 4; the index, which stays as it is on refusal; both buffers
-abbrev pub shownAppended : List ℕ → AppendOutcome → Told
+abbrev pub shownAppended : List ℕ → AppendOutcome → Reported
 shownAppended before o =
-    told (o .carry .number) (o .index .used ∷ o .carry .place ∷ [])
+    reported (o .carry .number) (o .index .used ∷ o .carry .place ∷ [])
     (cond (eqb (o .carry .number) 0) (pair (o .index)) before ∷ o .capture ∷ o .table ∷ [])
 
 -- ---- the number of an answer, and the numbers that its values become

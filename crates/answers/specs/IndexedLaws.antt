@@ -1,4 +1,4 @@
--- The exports of an index tell the outcomes of the calls that they make.
+-- The exports of an index report the outcomes of the calls that they make.
 use mathlib.Core.Path.{_≡_, refl, ap, ap₂, _∙_}
 use mathlib.Core.List.{List, [], _∷_}
 use Prim.Native.Nat.{ℕ}
@@ -15,47 +15,47 @@ use Rattle.index.specs.declared.Fronted.{Fronted}
 use Rattle.index.specs.declared.Fronted.the-variants as fronted
 use Rattle.index.specs.Making as Making
 use Rattle.index.specs.Making.{IndexOutcome}
-use Rattle.index.specs.Fronting.{FrontOutcome, toldFront}
-use Rattle.index.specs.Appending.{AppendOutcome, toldAppend}
-use Rattle.answers.specs.Told.{told}
+use Rattle.index.specs.Fronting.{FrontOutcome, frontOutcomeOf}
+use Rattle.index.specs.Appending.{AppendOutcome, appendOutcomeOf}
+use Rattle.answers.specs.Reported.{reported}
 use Rattle.answers.specs.Answers.{headerNumber}
 use Rattle.answers.specs.Indexed.{shownMade, entryNumbers, shownEntry, shownAppended, indexedNumber, madeNumbers, appendedNumbers, pairAfter}
 use Rattle.answers.specs.Indexed.{shownFront, frontedNumber, frontedNumbers}
 
-by-made : (a : Indexed) (t : List ℕ) → told (indexedNumber a) (madeNumbers a) (t ∷ []) ≡ shownMade (Making.told a t)
+by-made : (a : Indexed) (t : List ℕ) → reported (indexedNumber a) (madeNumbers a) (t ∷ []) ≡ shownMade (Making.outcomeOf a t)
 by-made (Done i) t = refl
 by-made (Refused why) t = refl
 
-pub told-made : (a : Indexed) (t : List ℕ) (o : IndexOutcome) (returned : ℕ) (out : List ℕ) → Making.told a t ≡ o
-    → returned ≡ indexedNumber a → out ≡ madeNumbers a → told returned out (t ∷ []) ≡ shownMade o
-told-made a t o returned out e f g = ap₂ (λ (n : ℕ) (l : List ℕ). told n l (t ∷ [])) f g ∙ by-made a t ∙ ap shownMade e
+pub reported-made : (a : Indexed) (t : List ℕ) (o : IndexOutcome) (returned : ℕ) (out : List ℕ) → Making.outcomeOf a t ≡ o
+    → returned ≡ indexedNumber a → out ≡ madeNumbers a → reported returned out (t ∷ []) ≡ shownMade o
+reported-made a t o returned out e f g = ap₂ (λ (n : ℕ) (l : List ℕ). reported n l (t ∷ [])) f g ∙ by-made a t ∙ ap shownMade e
 
-by-front : (a : Fronted) (t : List ℕ) → told (frontedNumber a) (frontedNumbers a) (t ∷ []) ≡ shownFront (toldFront a t)
+by-front : (a : Fronted) (t : List ℕ) → reported (frontedNumber a) (frontedNumbers a) (t ∷ []) ≡ shownFront (frontOutcomeOf a t)
 by-front (fronted.Done f) t = refl
 by-front (fronted.Refused why) t = refl
 
-pub told-front : (a : Fronted) (t : List ℕ) (o : FrontOutcome) (returned : ℕ) (out : List ℕ) → toldFront a t ≡ o
-    → returned ≡ frontedNumber a → out ≡ frontedNumbers a → told returned out (t ∷ []) ≡ shownFront o
-told-front a t o returned out e f g = ap₂ (λ (n : ℕ) (l : List ℕ). told n l (t ∷ [])) f g ∙ by-front a t ∙ ap shownFront e
+pub reported-front : (a : Fronted) (t : List ℕ) (o : FrontOutcome) (returned : ℕ) (out : List ℕ) → frontOutcomeOf a t ≡ o
+    → returned ≡ frontedNumber a → out ≡ frontedNumbers a → reported returned out (t ∷ []) ≡ shownFront o
+reported-front a t o returned out e f g = ap₂ (λ (n : ℕ) (l : List ℕ). reported n l (t ∷ [])) f g ∙ by-front a t ∙ ap shownFront e
 
 by-appended : (before : List ℕ) (a : Indexed) (d t : List ℕ)
-    → told (indexedNumber a) (appendedNumbers a) (pairAfter before a ∷ d ∷ t ∷ []) ≡ shownAppended before (toldAppend a d t)
+    → reported (indexedNumber a) (appendedNumbers a) (pairAfter before a ∷ d ∷ t ∷ []) ≡ shownAppended before (appendOutcomeOf a d t)
 by-appended before (Done i) d t = refl
 by-appended before (Refused why) d t = rw (ne-eqb (carried why .number) 0 (λ z. omega (arith, number-above why, z)))
 
-pub told-appended : (before : List ℕ) (a : Indexed) (d t : List ℕ) (o : AppendOutcome) (returned : ℕ) (out after : List ℕ)
-    → toldAppend a d t ≡ o → returned ≡ indexedNumber a → out ≡ appendedNumbers a → after ≡ pairAfter before a
-    → told returned out (after ∷ d ∷ t ∷ []) ≡ shownAppended before o
-told-appended before a d t o returned out after e f g h =
-    ap₂ (λ (n : ℕ) (l : List ℕ). told n l (after ∷ d ∷ t ∷ [])) f g
-    ∙ ap (λ (x : List ℕ). told (indexedNumber a) (appendedNumbers a) (x ∷ d ∷ t ∷ [])) h
+pub reported-appended : (before : List ℕ) (a : Indexed) (d t : List ℕ) (o : AppendOutcome) (returned : ℕ) (out after : List ℕ)
+    → appendOutcomeOf a d t ≡ o → returned ≡ indexedNumber a → out ≡ appendedNumbers a → after ≡ pairAfter before a
+    → reported returned out (after ∷ d ∷ t ∷ []) ≡ shownAppended before o
+reported-appended before a d t o returned out after e f g h =
+    ap₂ (λ (n : ℕ) (l : List ℕ). reported n l (after ∷ d ∷ t ∷ [])) f g
+    ∙ ap (λ (x : List ℕ). reported (indexedNumber a) (appendedNumbers a) (x ∷ d ∷ t ∷ [])) h
     ∙ by-appended before a d t
     ∙ ap (shownAppended before) e
 
-pub told-entry : (answer header : Header) (start first : ℕ) (given part out : List ℕ) (returned : ℕ) → Reader.told answer ≡ Reader.told header
+pub reported-entry : (answer header : Header) (start first : ℕ) (given part out : List ℕ) (returned : ℕ) → Reader.outcomeOf answer ≡ Reader.outcomeOf header
     → start ≡ first → given ≡ part → returned ≡ headerNumber answer → out ≡ entryNumbers answer start (length given)
-    → told returned out [] ≡ shownEntry header first part
-told-entry answer header start first given part out returned e s f n o =
+    → reported returned out [] ≡ shownEntry header first part
+reported-entry answer header start first given part out returned e s f n o =
     cc (
       o,
       s,

@@ -1,10 +1,9 @@
--- What the exports tell
-pub mod Told
+-- What C gets of each answer: the number returned, the numbers written, and the lent buffers
+pub mod Reported
 -- The parts of the answers, and laws
 pub mod Answers
-pub mod ToldLaws
-pub mod AtOnce
-pub mod AtOnceLaws
+pub mod ReportedLaws
+pub mod EarlyLaws
 pub mod Indexed
 pub mod IndexedLaws
 pub mod Reordered

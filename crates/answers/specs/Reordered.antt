@@ -2,22 +2,15 @@
 use mathlib.Core.Path.{_≡_, ap, ap₂, _∙_}
 use mathlib.Core.List.{List}
 use Prim.Native.Nat.{ℕ}
-use Rattle.reorder.specs.declared.Answer.{Answer}
-use Rattle.reorder.specs.Outcome.{Outcome, answerCarries, told}
-use Rattle.answers.specs.Told.{numbers}
+use Rattle.code.specs.Sound.{completed}
+use Rattle.code.specs.declared.Completed.{Completed}
+use Rattle.reorder.specs.Outcome.{Outcome, outcomeOf}
+use Rattle.answers.specs.Reported.{Report, reported, numbers}
 
-pub record ReorderTold (B : Type 0) : Type 0 where
-  pub returned : ℕ
-  pub out : List ℕ
-  pub lent : B
+abbrev pub shownReordered : {B : Type 0} → Outcome B → Report B
+shownReordered o = reported (o .carry .number) (numbers 0 0 0 (o .carry .place)) (o .lent)
 
-abbrev pub reorderTold : {B : Type 0} → ℕ → List ℕ → B → ReorderTold B
-reorderTold returned out lent = record { returned = returned; out = out; lent = lent }
-
-abbrev pub shownReordered : {B : Type 0} → Outcome B → ReorderTold B
-shownReordered o = reorderTold (o .carry .number) (numbers 0 0 0 (o .carry .place)) (o .lent)
-
--- an export tells the outcome of the call that it makes
-pub told-reordered : {B : Type 0} (answer : Answer) (lent : B) (o : Outcome B) (returned : ℕ) (out : List ℕ) → told answer lent ≡ o
-    → returned ≡ answerCarries answer .number → out ≡ numbers 0 0 0 (answerCarries answer .place) → reorderTold returned out lent ≡ shownReordered o
-told-reordered answer lent o returned out e f g = ap₂ (λ (n : ℕ) (l : List ℕ). reorderTold n l lent) f g ∙ ap shownReordered e
+-- an export reports the outcome of the call that it makes
+pub reported-reordered : {B : Type 0} (answer : Completed) (lent : B) (o : Outcome B) (returned : ℕ) (out : List ℕ) → outcomeOf answer lent ≡ o
+    → returned ≡ completed answer .number → out ≡ numbers 0 0 0 (completed answer .place) → reported returned out lent ≡ shownReordered o
+reported-reordered answer lent o returned out e f g = ap₂ (λ (n : ℕ) (l : List ℕ). reported n l lent) f g ∙ ap shownReordered e

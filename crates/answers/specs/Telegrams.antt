@@ -1,4 +1,4 @@
--- What the telegram's exports tell, as C sees it.
+-- What the telegram's exports report, as C sees it.
 use mathlib.Core.List.{List, [], _∷_}
 use Prim.Native.Nat.{ℕ}
 use Rattle.telegram.specs.declared.Telegram.{Telegram}
@@ -6,7 +6,7 @@ use Rattle.telegram.specs.declared.Written.{Written}
 use Rattle.telegram.specs.declared.Written.the-variants.{Done, Refused}
 use Rattle.telegram.specs.Faults.{faultCarries}
 use Rattle.telegram.specs.Outcome.{WriteOutcome, ReadOutcome}
-use Rattle.answers.specs.Told.{Told, told, numbers}
+use Rattle.answers.specs.Reported.{Reported, reported, numbers}
 
 -- cylinder, direction, tilt: the header's struct
 abbrev pub fields : Telegram → List ℕ
@@ -18,9 +18,9 @@ writtenNumber Done = 0
 writtenNumber (Refused why) = faultCarries why .number
 
 -- an outcome of the writer, whose refusals carry no more than their number
-abbrev pub shownWritten : WriteOutcome → Told
-shownWritten o = told (o .carry .number) (numbers 0 0 0 0) (o .word ∷ [])
+abbrev pub shownWritten : WriteOutcome → Reported
+shownWritten o = reported (o .carry .number) (numbers 0 0 0 0) (o .word ∷ [])
 
 -- an outcome of the reader: the lent struct gets the telegram
-abbrev pub shownRead : ReadOutcome → Told
-shownRead o = let c = o .carry in told (c .number) (numbers (c .penalty) (o .gap) (c .visits) (c .place)) (fields (o .telegram) ∷ [])
+abbrev pub shownRead : ReadOutcome → Reported
+shownRead o = let c = o .carry in reported (c .number) (numbers (c .penalty) (o .gap) (c .visits) (c .place)) (fields (o .telegram) ∷ [])

@@ -1,4 +1,4 @@
--- The telegram's exports tell the outcomes of the calls that they make.
+-- The telegram's exports report the outcomes of the calls that they make.
 use mathlib.Core.Path.{_≡_, refl, ap, ap₂, _∙_}
 use mathlib.Core.List.{List, [], _∷_}
 use Prim.Native.Nat.{ℕ}
@@ -9,27 +9,27 @@ use Rattle.telegram.specs.declared.Fault.{Fault}
 use Rattle.telegram.specs.declared.Heard.{Heard}
 use Rattle.telegram.specs.declared.Heard.the-variants as hear
 use Rattle.telegram.specs.Faults.{faultCarries}
-use Rattle.telegram.specs.Outcome.{WriteOutcome, toldWritten}
+use Rattle.telegram.specs.Outcome.{WriteOutcome, writtenOutcomeOf}
 use Rattle.telegram.specs.Outcome as Tilt
-use Rattle.answers.specs.Told.{told, numbers}
+use Rattle.answers.specs.Reported.{reported, numbers}
 use Rattle.answers.specs.Telegrams.{fields, writtenNumber, shownWritten, shownRead}
 
-by-written : (answer : Written) (word : List ℕ) → told (writtenNumber answer) (numbers 0 0 0 0) (word ∷ []) ≡ shownWritten (toldWritten answer word)
+by-written : (answer : Written) (word : List ℕ) → reported (writtenNumber answer) (numbers 0 0 0 0) (word ∷ []) ≡ shownWritten (writtenOutcomeOf answer word)
 by-written Done word = refl
 by-written (Refused why) word = refl
 
-pub told-written : (answer : Written) (word : List ℕ) (o : WriteOutcome) (returned : ℕ) (out : List ℕ)
-    → toldWritten answer word ≡ o → returned ≡ writtenNumber answer → out ≡ numbers 0 0 0 0 → told returned out (word ∷ []) ≡ shownWritten o
-told-written answer word o returned out e f g =
-    ap₂ (λ (n : ℕ) (l : List ℕ). told n l (word ∷ [])) f g ∙ by-written answer word ∙ ap shownWritten e
+pub reported-written : (answer : Written) (word : List ℕ) (o : WriteOutcome) (returned : ℕ) (out : List ℕ)
+    → writtenOutcomeOf answer word ≡ o → returned ≡ writtenNumber answer → out ≡ numbers 0 0 0 0 → reported returned out (word ∷ []) ≡ shownWritten o
+reported-written answer word o returned out e f g =
+    ap₂ (λ (n : ℕ) (l : List ℕ). reported n l (word ∷ [])) f g ∙ by-written answer word ∙ ap shownWritten e
 
 -- the reader's two answers
 module _ (answer : Heard) where
-  pub told-shown : (t : Telegram) (p g v : ℕ) (out telegram : List ℕ) → answer ≡ hear.Shown t p g v → out ≡ numbers p g v 0 → telegram ≡ fields t
-      → told 0 out (telegram ∷ []) ≡ shownRead (Tilt.told answer)
-  told-shown t p g v out telegram e f h = rw (e, f, h)
+  pub reported-shown : (t : Telegram) (p g v : ℕ) (out telegram : List ℕ) → answer ≡ hear.Shown t p g v → out ≡ numbers p g v 0 → telegram ≡ fields t
+      → reported 0 out (telegram ∷ []) ≡ shownRead (Tilt.outcomeOf answer)
+  reported-shown t p g v out telegram e f h = rw (e, f, h)
 
-  pub told-unread : (why : Fault) (number penalty visits place : ℕ) (out : List ℕ) → answer ≡ hear.Refused why → number ≡ faultCarries why .number
+  pub reported-unread : (why : Fault) (number penalty visits place : ℕ) (out : List ℕ) → answer ≡ hear.Refused why → number ≡ faultCarries why .number
       → penalty ≡ faultCarries why .penalty → visits ≡ faultCarries why .visits → place ≡ faultCarries why .place → out ≡ numbers penalty 0 visits place
-      → told number out ((0 ∷ 0 ∷ 0 ∷ []) ∷ []) ≡ shownRead (Tilt.told answer)
-  told-unread why number penalty visits place out e n p v a f = rw (e, f, n, p, v, a)
+      → reported number out ((0 ∷ 0 ∷ 0 ∷ []) ∷ []) ≡ shownRead (Tilt.outcomeOf answer)
+  reported-unread why number penalty visits place out e n p v a f = rw (e, f, n, p, v, a)

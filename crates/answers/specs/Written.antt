@@ -5,10 +5,10 @@ use Rattle.code.specs.Sound.{carried}
 use Rattle.record.specs.declared.Written.{Written}
 use Rattle.record.specs.declared.Written.the-variants.{Next, Refused}
 use Rattle.record.specs.Writing.{WrittenOutcome}
-use Rattle.answers.specs.Told.{Told, told}
+use Rattle.answers.specs.Reported.{Reported, reported}
 
-abbrev pub shownWrote : WrittenOutcome → Told
-shownWrote o = told (o .carry .number) (o .next ∷ o .carry .place ∷ []) (o .buffer ∷ [])
+abbrev pub shownWrote : WrittenOutcome → Reported
+shownWrote o = reported (o .carry .number) (o .next ∷ o .carry .place ∷ []) (o .buffer ∷ [])
 
 -- ---- the number of an answer, and the numbers that its values become
 abbrev pub wroteNumber : Written → ℕ

@@ -1,29 +1,25 @@
-// What C is told of an answer: its values go into the numbers that C lends, in the order of the
+// What C gets of an answer: its values go into the numbers that C lends, in the order of the
 // header's structs, and its number is returned, which is 0 or a refusal's.
+use code::Completed;
 use code::Refusal;
 use early::Answered;
-use encode::Encoded;
 use index::Fronted;
 use index::Indexed;
-use packing::Unpacked;
 use quick::Read;
 use record::Header;
-use reorder::Answer;
 use search::Searched;
 use search::WithRunnerUp;
 use telegram::Heard;
 use telegram::Telegram;
 ghost use mathlib.Core.Path.{_≡_};
 ghost use mathlib.Core.List.{[], _∷_};
-ghost use Rattle.code.specs.Sound.{carried};
-ghost use Rattle.packing.specs.Unpacking.{carriedIn};
-ghost use Rattle.reorder.specs.Outcome.{answerCarries};
+ghost use Rattle.code.specs.Sound.{carried, completed};
 ghost use Rattle.telegram.specs.Outcome as Tilt;
-ghost use Rattle.answers.specs.Told.{numbers, told};
-ghost use Rattle.answers.specs.Answers.{encodedNumber, encodedNumbers, readNumber, readNumbers};
+ghost use Rattle.answers.specs.Reported.{numbers, reported};
+ghost use Rattle.answers.specs.Answers.{readNumber, readNumbers};
 ghost use Rattle.answers.specs.Answers.{searchedNumber, searchedNumbers};
 ghost use Rattle.answers.specs.Answers.{headerNumber, headerNumbers};
-ghost use Rattle.answers.specs.AtOnceLaws.{answeredNumber, answeredNumbers};
+ghost use Rattle.answers.specs.EarlyLaws.{answeredNumber, answeredNumbers};
 ghost use Rattle.answers.specs.Indexed.{indexedNumber, madeNumbers, entryNumbers};
 ghost use Rattle.answers.specs.Indexed.{appendedNumbers, pairAfter};
 ghost use Rattle.answers.specs.Indexed.{frontedNumber, frontedNumbers};
@@ -55,16 +51,17 @@ fn put_refused(why: Refusal, out: &mut [u64; 4]) -> u32
     why.number()
 }
 
-pub fn put_encoded(answer: Encoded, out: &mut [u64; 4]) -> u32
-    ensures { λ number. ⌜ (number ≡ encodedNumber answer)
-        × (now (out .exit) ≡ encodedNumbers answer) ⌝ }
+// A call that is done, or its refusal.
+pub fn put_completed(answer: Completed, out: &mut [u64; 4]) -> u32
+    ensures { λ number. ⌜ (number ≡ completed answer .number)
+        × (now (out .exit) ≡ numbers 0 0 0 (completed answer .place)) ⌝ }
 {
     match answer {
-        Encoded::Done => {
+        Completed::Done => {
             put_numbers(out, 0, 0, 0, 0);
             0
         }
-        Encoded::Refused(why) => put_place(why, out),
+        Completed::Refused(why) => put_place(why, out),
     }
 }
 
@@ -101,8 +98,13 @@ pub fn put_searched(answer: Searched, out: &mut [u64; 4]) -> u32
 }
 
 // An answer with a runner-up, which goes into the lent bytes, zeros as they are.
-pub fn put_whole(answer: WithRunnerUp, runner_up: &mut [u8; 256], out: &mut [u64; 4]) -> u32
-    ensures { λ number. ⌜ (number ≡ searchedNumber (answer .result)) × (now (out .exit) ≡ searchedNumbers (answer .result))
+pub fn put_with_runner_up(
+    answer: WithRunnerUp,
+    runner_up: &mut [u8; 256],
+    out: &mut [u64; 4],
+) -> u32
+    ensures { λ number. ⌜ (number ≡ searchedNumber (answer .result))
+        × (now (out .exit) ≡ searchedNumbers (answer .result))
         × (now («runner_up» .exit) ≡ answer .«runner_up») ⌝ }
 {
     let shown = answer.runner_up;
@@ -121,32 +123,6 @@ pub fn put_answered(answer: Answered, out: &mut [u64; 4]) -> u32
             0
         }
         Answered::Refused(why) => put_refused(why, out),
-    }
-}
-
-pub fn put_reordered(answer: Answer, out: &mut [u64; 4]) -> u32
-    ensures { λ number. ⌜ (number ≡ answerCarries answer .number)
-        × (now (out .exit) ≡ numbers 0 0 0 (answerCarries answer .place)) ⌝ }
-{
-    match answer {
-        Answer::Done => {
-            put_numbers(out, 0, 0, 0, 0);
-            0
-        }
-        Answer::Refused(why) => put_place(why, out),
-    }
-}
-
-pub fn put_unpacked(answer: Unpacked, out: &mut [u64; 4]) -> u32
-    ensures { λ number. ⌜ (number ≡ carriedIn answer .number)
-        × (now (out .exit) ≡ numbers 0 0 0 (carriedIn answer .place)) ⌝ }
-{
-    match answer {
-        Unpacked::Done => {
-            put_numbers(out, 0, 0, 0, 0);
-            0
-        }
-        Unpacked::Refused(why) => put_place(why, out),
     }
 }
 
@@ -181,7 +157,8 @@ fn put_places(out: &mut [u64; 2], next: usize, place: usize)
 }
 
 pub fn put_wrote(answer: record::Written, out: &mut [u64; 2]) -> u32
-    ensures { λ number. ⌜ (number ≡ wroteNumber answer) × (now (out .exit) ≡ wroteNumbers answer) ⌝ }
+    ensures { λ number. ⌜ (number ≡ wroteNumber answer)
+        × (now (out .exit) ≡ wroteNumbers answer) ⌝ }
 {
     match answer {
         record::Written::Next(next) => {
@@ -195,7 +172,7 @@ pub fn put_wrote(answer: record::Written, out: &mut [u64; 2]) -> u32
     }
 }
 
-// A telegram's writer tells no more than its number.
+// A telegram's writer reports no more than its number.
 pub fn put_written(answer: telegram::Written, out: &mut [u64; 4]) -> u32
     ensures { λ number. ⌜ (number ≡ writtenNumber answer) × (now (out .exit) ≡ numbers 0 0 0 0) ⌝ }
 {
@@ -214,8 +191,8 @@ fn put_telegram(out: &mut [u64; 3], t: Telegram)
 }
 
 pub fn put_heard(answer: Heard, telegram: &mut [u64; 3], out: &mut [u64; 4]) -> u32
-    ensures { λ number. ⌜ told number (now (out .exit)) (now (telegram .exit) ∷ [])
-        ≡ shownRead (Tilt.told answer) ⌝ }
+    ensures { λ number. ⌜ reported number (now (out .exit)) (now (telegram .exit) ∷ [])
+        ≡ shownRead (Tilt.outcomeOf answer) ⌝ }
 {
     match answer {
         Heard::Shown {
@@ -238,7 +215,8 @@ pub fn put_heard(answer: Heard, telegram: &mut [u64; 3], out: &mut [u64; 4]) -> 
 
 // The index that was made: records and used.
 pub fn put_made(answer: Indexed, out: &mut [u64; 2]) -> u32
-    ensures { λ number. ⌜ (number ≡ indexedNumber answer) × (now (out .exit) ≡ madeNumbers answer) ⌝ }
+    ensures { λ number. ⌜ (number ≡ indexedNumber answer)
+        × (now (out .exit) ≡ madeNumbers answer) ⌝ }
 {
     match answer {
         Indexed::Done(index) => {
@@ -289,7 +267,7 @@ fn put_five(out: &mut [u64; 5], r: u32, m: u32, start: usize, length: usize, pla
     ];
 }
 
-// A record that was found, and where its packed part stands.
+// A record that was found, and where its packed part starts.
 pub fn put_entry(header: Header, start: usize, length: usize, out: &mut [u64; 5]) -> u32
     ensures { λ number. ⌜ (number ≡ headerNumber header)
         × (now (out .exit) ≡ entryNumbers header start length) ⌝ }

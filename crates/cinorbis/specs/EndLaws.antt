@@ -1,4 +1,4 @@
--- The program ends: each turn brings it nearer, so that a run has at most three turns for each byte that came, and four.
+-- The program ends: each round brings it nearer, so that a run has at most three rounds for each byte that came, and four.
 use mathlib.Core.Path.{_≡_, refl, ap, sym, _∙_, subst}
 use mathlib.Core.List.{List, _++_}
 use mathlib.Core.Logic.{_⊎_, inl, inr, ⊎-elim}
@@ -10,16 +10,16 @@ use lib.Dec.{ltb}
 use lib.ListN.{length, take, drop, length-append, length-drop, length-take}
 use borrow.Author.Tests.{ltb-true}
 use Rattle.numbers.specs.Choice.{cond-by}
-use Rattle.turns.specs.declared.Situation.{Situation}
-use Rattle.turns.specs.declared.Next.the-variants.{Write, Take, Total, Read}
+use Rattle.rounds.specs.declared.Situation.{Situation}
+use Rattle.rounds.specs.declared.Next.the-variants.{Write, Take, Total, Read}
 use Rattle.program.specs.Program.{Result, answered, refused, resultOf, stops, nextStart}
 use Rattle.program.specs.OutputLaws.{goes-on-there}
-use Rattle.turns.specs.Situation.{room, longest, starting, Ready, unread, isThere, after, afterRead, afterWrite}
-use Rattle.turns.specs.SituationLaws.{next-shown, there-first, absent-short}
-use Rattle.cinorbis.specs.Runs.{TurnTaken, writes, takes, totals, reads, Passed, nothing, withRead, passing, Chain, start, turn, Ran}
+use Rattle.rounds.specs.Situation.{room, longest, starting, Ready, unread, isThere, after, afterRead, afterWrite}
+use Rattle.rounds.specs.SituationLaws.{next-shown, there-first, absent-short}
+use Rattle.cinorbis.specs.Runs.{RoundTaken, writes, takes, totals, reads, Passed, nothing, withRead, passing, Chain, start, round, Ran}
 use Rattle.cinorbis.specs.RunsLaws.{Stands, chain-holds}
 
--- as many turns may still come if no other byte does
+-- as many rounds may still come if no other byte does
 abbrev pub due : Situation → ℕ
 due s = 2 * (s .«end» - s .at) + min 1 (s .text) + cond (s .closed) 0 2 + cond (s .ended) 0 1 + cond (s .going) 1 0
 
@@ -79,57 +79,57 @@ module _ (n most : ℕ) (s : Situation) (input output : List ℕ) (r : Ready s i
       (grown n (length (p .came)) k c (min 1 (s .text)) (cond (s .closed) 0 2) (cond (s .ended) 0 1) (cond (s .going) 1 0)
       (rw b at before) one (at-most-one (s .going)))
 
-  due-turned : (p : Passed) → most ≡ 3 * length (p .came) + 4 → (t : Situation) (input′ output′ : List ℕ) → length input′ ≡ length input
-      → (w : TurnTaken s input output t input′ output′) → suc n + due t ≤ 3 * length (passing s input output t input′ output′ w p .came) + 4
-  due-turned p b t input′ output′ same (writes next k i o) =
+  due-round : (p : Passed) → most ≡ 3 * length (p .came) + 4 → (t : Situation) (input′ output′ : List ℕ) → length input′ ≡ length input
+      → (w : RoundTaken s input output t input′ output′) → suc n + due t ≤ 3 * length (passing s input output t input′ output′ w p .came) + 4
+  due-round p b t input′ output′ same (writes next k i o) =
       subst (λ (x : Situation). suc n + due x ≤ 3 * length (p .came) + 4) (sym (k .is))
       (rw (← b) (due-written (k .done) (next-shown s input (length output) Write next)))
-  due-turned p b t input′ output′ same (takes next k i) =
+  due-round p b t input′ output′ same (takes next k i) =
       let w = next-shown s input (length output) Take next in
       subst (λ (x : Situation). suc n + due x ≤ 3 * length (p .came) + 4) (sym (k .counts))
       (rw (← b) (due-after (resultOf (unread s input)) (t .text) (w .2) refl))
-  due-turned p b t input′ output′ same (totals next k i) =
+  due-round p b t input′ output′ same (totals next k i) =
       let c = rw (next-shown s input (length output) Total next .0) at before in
       subst (λ (x : Situation). suc n + due x ≤ 3 * length (p .came) + 4) (sym (k .closes)) (omega (arith, c, at-most-one (s .going)))
-  due-turned p b t input′ output′ same (reads next k o) =
+  due-round p b t input′ output′ same (reads next k o) =
       let w = next-shown s input (length output) Read next in
       subst (λ (x : Situation). suc n + due x ≤ 3 * length (withRead p (k .got) (drop (s .«end» - s .at) input′) .came) + 4) (sym (k .is))
       (due-read (k .got) input′ same (w .2) (w .3) p b)
 
--- the turns of a chain, and those that are due
+-- the rounds of a chain, and those still to come
 pub chain-due : (n : ℕ) (s : Situation) (input output : List ℕ) (p : Passed) → Chain n s input output p → longest ≤ length input → room ≤ length output
     → n + due s ≤ 3 * length (p .came) + 4
 chain-due n s input output p (start i o) space line = omega arith
-chain-due n s input output p (turn m s₀ input₀ output₀ p₀ t input′ output′ c g e f w) space line =
+chain-due n s input output p (round m s₀ input₀ output₀ p₀ t input′ output′ c g e f w) space line =
     let big : longest ≤ length input₀ = omega arith in
     let wide : room ≤ length output₀ = omega arith in
     let r = chain-holds m s₀ input₀ output₀ p₀ c .stands .ready in
-    due-turned m (3 * length (p₀ .came) + 4) s₀ input₀ output₀ r g big wide (chain-due m s₀ input₀ output₀ p₀ c big wide) p₀ refl t input′ output′ e w
+    due-round m (3 * length (p₀ .came) + 4) s₀ input₀ output₀ r g big wide (chain-due m s₀ input₀ output₀ p₀ c big wide) p₀ refl t input′ output′ e w
 
--- ---- for the proof at the code: a chain of turns when so many are left of those that are counted
+-- ---- for the proof at the code: a chain of rounds when so many are left of those that are counted
 pub record Along (left : ℕ) (s : Situation) (input output : List ℕ) : Type 0 where
-  pub turns : ℕ
+  pub rounds : ℕ
   pub passed : Passed
-  pub chain : Chain turns s input output passed
-  pub count : turns + left ≡ 2 ^ 64 - 1
+  pub chain : Chain rounds s input output passed
+  pub count : rounds + left ≡ 2 ^ 64 - 1
   pub space : longest ≤ length input
   pub line : room ≤ length output
 
 pub along-start : (input output : List ℕ) (s : Situation) → s ≡ starting → longest ≤ length input → room ≤ length output → Along (2 ^ 64 - 1) s input output
 along-start input output s e space line =
-    rw e (record { turns = 0; passed = nothing; chain = start input output; count = refl; space = space; line = line })
+    rw e (record { rounds = 0; passed = nothing; chain = start input output; count = refl; space = space; line = line })
 
 module _ (left : ℕ) (s : Situation) (input output : List ℕ) (a : Along left s input output) where
-  pub along-stands : Stands (a .turns) s input output (a .passed)
-  along-stands = chain-holds (a .turns) s input output (a .passed) (a .chain) .stands
+  pub along-stands : Stands (a .rounds) s input output (a .passed)
+  along-stands = chain-holds (a .rounds) s input output (a .passed) (a .chain) .stands
 
-  pub along-turn : (t : Situation) (input′ output′ : List ℕ) → 0 < left → s .going ≡ true → length input′ ≡ length input → length output′ ≡ length output
-      → TurnTaken s input output t input′ output′ → Along (left - 1) t input′ output′
-  along-turn t input′ output′ h g e f w =
+  pub along-round : (t : Situation) (input′ output′ : List ℕ) → 0 < left → s .going ≡ true → length input′ ≡ length input → length output′ ≡ length output
+      → RoundTaken s input output t input′ output′ → Along (left - 1) t input′ output′
+  along-round t input′ output′ h g e f w =
       record {
-        turns = suc (a .turns);
+        rounds = suc (a .rounds);
         passed = passing s input output t input′ output′ w (a .passed);
-        chain = turn (a .turns) s input output (a .passed) t input′ output′ (a .chain) g e f w;
+        chain = round (a .rounds) s input output (a .passed) t input′ output′ (a .chain) g e f w;
         count = omega (arith, a .count);
         space = omega (arith, a .space);
         line = omega (arith, a .line);
@@ -138,10 +138,10 @@ module _ (left : ℕ) (s : Situation) (input output : List ℕ) (a : Along left 
   pub along-ran : (s .going ≡ false) ⊎ (left ≡ 0) → Ran s input output
   along-ran e =
       record {
-        turns = a .turns;
+        rounds = a .rounds;
         passed = a .passed;
         chain = a .chain;
         ends =
             ⊎-elim (λ g. inl g)
-            (λ z. inr (omega (arith, a .count, chain-due (a .turns) s input output (a .passed) (a .chain) (a .space) (a .line)))) e;
+            (λ z. inr (omega (arith, a .count, chain-due (a .rounds) s input output (a .passed) (a .chain) (a .space) (a .line)))) e;
       }

@@ -1,4 +1,4 @@
--- A run of the program: any chain of turns, with all that passed between it and the operating system.
+-- A run of the program: any chain of rounds, with all that passed between it and the operating system.
 use mathlib.Core.Path.{_≡_}
 use mathlib.Core.List.{List, [], _++_}
 use mathlib.Core.Bool.{Bool, true, false}
@@ -6,62 +6,63 @@ use mathlib.Core.Logic.{_⊎_}
 use Prim.Native.Nat.{ℕ, zero, suc, _-_, _^_, _<_}
 use lib.IntN.{ℤ, pos, negsuc}
 use lib.ListN.{length, take, drop}
-use Rattle.turns.specs.declared.Situation.{Situation}
-use Rattle.turns.specs.declared.Next.the-variants.{Write, Take, Total, Read}
+use Rattle.rounds.specs.declared.Situation.{Situation}
+use Rattle.rounds.specs.declared.Next.the-variants.{Write, Take, Total, Read}
 use Rattle.program.specs.Program.{output}
-use Rattle.turns.specs.Situation.{starting, nextOf, textOf, Took, Finished, Flushed, Refilled}
+use Rattle.rounds.specs.Situation.{starting, nextOf, textOf, Took, Finished, Flushed, Refilled}
 
--- a turn does what is next, and only that
-pub data TurnTaken (s : Situation) (input output : List ℕ) (t : Situation) (input′ output′ : List ℕ) : Type 0 where
-  writes : nextOf s input (length output) ≡ Write → Flushed s t → input′ ≡ input → output′ ≡ output → TurnTaken s input output t input′ output′
-  takes : nextOf s input (length output) ≡ Take → Took s input output t output′ → input′ ≡ input → TurnTaken s input output t input′ output′
-  totals : nextOf s input (length output) ≡ Total → Finished s output t output′ → input′ ≡ input → TurnTaken s input output t input′ output′
-  reads : nextOf s input (length output) ≡ Read → Refilled s input t input′ → output′ ≡ output → TurnTaken s input output t input′ output′
+-- a round does what is next, and only that
+pub data RoundTaken (s : Situation) (input output : List ℕ) (t : Situation) (input′ output′ : List ℕ) : Type 0 where
+  writes : nextOf s input (length output) ≡ Write → Flushed s t → input′ ≡ input → output′ ≡ output → RoundTaken s input output t input′ output′
+  takes : nextOf s input (length output) ≡ Take → Took s input output t output′ → input′ ≡ input → RoundTaken s input output t input′ output′
+  totals : nextOf s input (length output) ≡ Total → Finished s output t output′ → input′ ≡ input → RoundTaken s input output t input′ output′
+  reads : nextOf s input (length output) ≡ Read → Refilled s input t input′ → output′ ≡ output → RoundTaken s input output t input′ output′
 
 -- what has passed so far: the bytes that came, one read after another; whether a read returned 0; and the texts handed to the writer, one after another
 pub record Passed : Type 0 where
   pub came : List ℕ
   pub over : Bool
-  pub told : List ℕ
+  pub handed : List ℕ
 
 abbrev pub nothing : Passed
-nothing = record { came = []; over = false; told = [] }
+nothing = record { came = []; over = false; handed = [] }
 
 abbrev pub withText : Passed → List ℕ → Passed
-withText p text = record { came = p .came; over = p .over; told = p .told ++ text }
+withText p text = record { came = p .came; over = p .over; handed = p .handed ++ text }
 
--- a read returned a number, and the bytes that it put stand at the front of fresh
+-- a read returned a number, and the bytes that it put are at the front of fresh
 abbrev pub withRead : Passed → ℤ → List ℕ → Passed
 withRead p (negsuc k) fresh = p
-withRead p (pos zero) fresh = record { came = p .came; over = true; told = p .told }
-withRead p (pos (suc k)) fresh = record { came = p .came ++ take (suc k) fresh; over = p .over; told = p .told }
+withRead p (pos zero) fresh = record { came = p .came; over = true; handed = p .handed }
+withRead p (pos (suc k)) fresh = record { came = p .came ++ take (suc k) fresh; over = p .over; handed = p .handed }
 
--- what a turn adds: all of the text that waits is handed over, and each byte that a read gave came
+-- what a round adds: all of the text that waits is handed over, and each byte that a read gave came
 abbrev pub passing : (s : Situation) (input output : List ℕ) (t : Situation) (input′ output′ : List ℕ)
-    → TurnTaken s input output t input′ output′ → Passed → Passed
+    → RoundTaken s input output t input′ output′ → Passed → Passed
 passing s input output t input′ output′ (writes next f i o) p = withText p (textOf s output)
 passing s input output t input′ output′ (takes next f i) p = p
 passing s input output t input′ output′ (totals next f i) p = p
 passing s input output t input′ output′ (reads next f o) p = withRead p (f .got) (drop (s .«end» - s .at) input′)
 
--- n turns from the start on, each while the program is going
+-- n rounds from the start on, each while the program is going
 pub data Chain : ℕ → Situation → List ℕ → List ℕ → Passed → Type 0 where
   start : (input output : List ℕ) → Chain 0 starting input output nothing
-  turn : (n : ℕ) (s : Situation) (input output : List ℕ) (p : Passed) (t : Situation) (input′ output′ : List ℕ)
+  round : (n : ℕ) (s : Situation) (input output : List ℕ) (p : Passed) (t : Situation) (input′ output′ : List ℕ)
       → Chain n s input output p → s .going ≡ true → length input′ ≡ length input → length output′ ≡ length output
-      → (w : TurnTaken s input output t input′ output′) → Chain (suc n) t input′ output′ (passing s input output t input′ output′ w p)
+      → (w : RoundTaken s input output t input′ output′) → Chain (suc n) t input′ output′ (passing s input output t input′ output′ w p)
 
--- A run that leaves this situation and these buffers is a chain of turns from the start on. It has ended, unless more than 2^62 bytes came.
+-- A run that leaves this situation and these buffers is a chain of rounds from the start on. It has ended, unless more than 2^62 bytes came.
 pub record Ran (s : Situation) (input output : List ℕ) : Type 0 where
-  pub turns : ℕ
+  pub rounds : ℕ
   pub passed : Passed
-  pub chain : Chain turns s input output passed
+  pub chain : Chain rounds s input output passed
   pub ends : (s .going ≡ false) ⊎ (2 ^ 62 < length (passed .came))
 
--- What was told is what the definition says of all bytes of the input: those that came, and whatever was not read, which is nothing where a read returned 0.
+-- What was handed over is what the definition says of all bytes of the input: those that came, and whatever was not read, which is nothing where a read
+-- returned 0.
 pub record Tells (p : Passed) : Type 0 where
-  pub tells : (rest : List ℕ) → (p .over ≡ true → rest ≡ []) → p .told ≡ output (p .came ++ rest)
+  pub tells : (rest : List ℕ) → (p .over ≡ true → rest ≡ []) → p .handed ≡ output (p .came ++ rest)
 
-pub record Beginning (told all : List ℕ) : Type 0 where
+pub record Beginning (handed all : List ℕ) : Type 0 where
   pub more : List ℕ
-  pub is : told ++ more ≡ all
+  pub is : handed ++ more ≡ all

@@ -1,4 +1,4 @@
--- The theorem of the program: whatever pieces the bytes arrive in, what it tells is the output of all of them.
+-- The theorem of the program: whatever pieces the bytes arrive in, what it hands over is the output of all of them.
 use mathlib.Core.Path.{_≡_, refl, ap, sym, _∙_, subst}
 use mathlib.Core.List.{List, [], _++_, append-assoc, append-nil}
 use mathlib.Core.Logic.{⊎-elim}
@@ -13,31 +13,31 @@ use lib.Seq.{length-take-le, take-at, take-add, take-all, take-length, drop-drop
 use borrow.Author.Tests.{not-false}
 use Rattle.numbers.specs.Choice.{lt-or-le, cond-by, cond-two}
 use Rattle.numbers.specs.Halves.{drop-take}
-use Rattle.turns.specs.declared.Situation.{Situation}
-use Rattle.turns.specs.declared.Next.the-variants.{Take, Total, Read}
+use Rattle.rounds.specs.declared.Situation.{Situation}
+use Rattle.rounds.specs.declared.Next.the-variants.{Take, Total, Read}
 use Rattle.lines.specs.Line.{totalLine, Put}
 use Rattle.program.specs.Program.{Result, answered, refused, resultOf, lineOf, stops, nextStart, output}
 use Rattle.program.specs.OutputLaws.{linesOf, linesAfter, lines-end, lines-first, result-before, goes-on-there}
-use Rattle.turns.specs.Situation.{starting, Ready, unread, isThere, after, afterRead, afterWrite, Took, Finished}
-use Rattle.turns.specs.SituationLaws.{next-shown, there-first, there-whole, absent-none}
-use Rattle.cinorbis.specs.Runs.{TurnTaken, writes, takes, totals, reads, Passed, nothing, withText, withRead, passing}
-use Rattle.cinorbis.specs.Runs.{Chain, start, turn, Ran, Tells, Beginning}
+use Rattle.rounds.specs.Situation.{starting, Ready, unread, isThere, after, afterRead, afterWrite, Took, Finished}
+use Rattle.rounds.specs.SituationLaws.{next-shown, there-first, there-whole, absent-none}
+use Rattle.cinorbis.specs.Runs.{RoundTaken, writes, takes, totals, reads, Passed, nothing, withText, withRead, passing}
+use Rattle.cinorbis.specs.Runs.{Chain, start, round, Ran, Tells, Beginning}
 
--- what is still to be told, if these bytes are still to come
+-- what is still to be handed over, if these bytes are still to come
 abbrev pub toTell : Situation → List ℕ → List ℕ → List ℕ
 toTell s input rest = cond (s .closed) [] (linesOf (s .read) (s .refused) (unread s input ++ cond (s .ended) [] rest))
 
--- what holds after n turns: bounds, counts and ends
+-- what holds after n rounds: bounds, counts and ends
 pub record Stands (n : ℕ) (s : Situation) (input output₁ : List ℕ) (p : Passed) : Type 0 where
   pub ready : Ready s input output₁
   pub counts : s .read + s .refused ≤ n
   pub over : p .over ≡ true → s .ended ≡ true
   pub done : s .going ≡ false → s .failed ≡ false → (s .closed ≡ true) × (s .text ≡ 0)
 
--- and that what was told, what waits and what is still to be told are the output
+-- and that what was handed over, what waits and what is still to be handed over are the output
 pub record Holds (n : ℕ) (s : Situation) (input output₁ : List ℕ) (p : Passed) : Type 0 where
   pub stands : Stands n s input output₁ p
-  pub tells : (rest : List ℕ) → (p .over ≡ true → rest ≡ []) → p .told ++ take (s .text) output₁ ++ toTell s input rest ≡ output (p .came ++ rest)
+  pub tells : (rest : List ℕ) → (p .over ≡ true → rest ≡ []) → p .handed ++ take (s .text) output₁ ++ toTell s input rest ≡ output (p .came ++ rest)
 
 clash : true ≡ false → ⊥
 clash e = let z : _≡_ {A = ℕ} 0 1 = cc in omega arith
@@ -52,11 +52,12 @@ take-min j l =
     (λ k. let e : min j (length l) ≡ length l = omega arith in rw (e, take-length l, take-all j l k))
     (lt-or-le j (length l))
 
--- ---- texts: a line that was put stands behind the text that waited
+-- ---- texts: a line that was put comes behind the text that waited
 put-text : (d : List ℕ) (at : ℕ) (t : List ℕ) («end» : ℕ) (d′ : List ℕ) → Put d at t «end» d′ → at ≤ length d → take «end» d′ ≡ take at d ++ t
 put-text d at t «end» d′ p h =
     let long : length (take at d ++ t) ≡ «end» = omega (arith, length-append (take at d) t, length-take-le at d h, p .end-is) in
-    rw (p .text-is) (take-at (take at d ++ t) (drop (at + length t) d) «end» long)
+    let same : d′ ≡ take at d ++ t ++ drop (at + length t) d = p .text-is ∙ sym (append-assoc (take at d) t (drop (at + length t) d)) in
+    rw same (take-at (take at d ++ t) (drop (at + length t) d) «end» long)
 
 put-within : (d : List ℕ) (at : ℕ) (t : List ℕ) («end» : ℕ) (d′ : List ℕ) → Put d at t «end» d′ → at ≤ length d → length d′ ≡ length d → «end» ≤ length d
 put-within d at t «end» d′ p h e =
@@ -65,8 +66,8 @@ put-within d at t «end» d′ p h e =
       arith,
       p .end-is,
       ap length (p .text-is),
-      length-append (take at d ++ t) (drop n d),
-      length-append (take at d) t,
+      length-append (take at d) (t ++ drop n d),
+      length-append t (drop n d),
       length-take-le at d h,
       length-drop n d,
     )
@@ -100,7 +101,7 @@ module _ (n : ℕ) (s : Situation) (input output₁ : List ℕ) (p : Passed) (h 
               over = h .stands .over;
               done = λ e f. (not-false (s .closed) e, refl);
             };
-        tells = λ rest z. rw (append-nil (p .told ++ take (s .text) output₁)) (h .tells rest z);
+        tells = λ rest z. rw (append-nil (p .handed ++ take (s .text) output₁)) (h .tells rest z);
       }
   holds-written false =
       record {
@@ -111,13 +112,13 @@ module _ (n : ℕ) (s : Situation) (input output₁ : List ℕ) (p : Passed) (h 
               over = h .stands .over;
               done = λ e f. absurd (clash f);
             };
-        tells = λ rest z. rw (append-nil (p .told ++ take (s .text) output₁)) (h .tells rest z);
+        tells = λ rest z. rw (append-nil (p .handed ++ take (s .text) output₁)) (h .tells rest z);
       }
 
   -- ---- a line is put behind it
-  -- if what is to be told begins with the line
+  -- if what is to be handed over begins with the line
   tells-more : (t : Situation) (line output′ rest : List ℕ) → Put output₁ (s .text) line (t .text) output′ → toTell s input rest ≡ line ++ toTell t input rest
-      → (p .over ≡ true → rest ≡ []) → p .told ++ take (t .text) output′ ++ toTell t input rest ≡ output (p .came ++ rest)
+      → (p .over ≡ true → rest ≡ []) → p .handed ++ take (t .text) output′ ++ toTell t input rest ≡ output (p .came ++ rest)
   tells-more t line output′ rest k e z =
       let old = rw e at (h .tells rest z) in
       rw (put-text output₁ (s .text) line (t .text) output′ k (r .waiting)) (simp append-assoc (simp append-assoc at old))
@@ -223,7 +224,7 @@ module _ (n : ℕ) (s : Situation) (input output₁ : List ℕ) (p : Passed) (h 
             ∙ sym (ap (λ (l : List ℕ). total ++ l) (ap (λ (t : Situation). toTell t input rest) (k .closes)) ∙ append-nil total)) z;
       }
 
-  -- ---- a read, when the unread bytes stand in front
+  -- ---- a read, when the unread bytes are in front
   module _ (closed : s .closed ≡ false) (ended : s .ended ≡ false) (input′ : List ℕ) (same : length input′ ≡ length input)
       (kept : take (s .«end» - s .at) input′ ≡ unread s input) where
     abbrev k : ℕ
@@ -278,42 +279,42 @@ module _ (n : ℕ) (s : Situation) (input output₁ : List ℕ) (p : Passed) (h 
               rw (behind (suc j), ended, append-assoc (p .came) (take (suc j) fresh) rest, append-assoc (unread s input) (take (suc j) fresh) rest) old;
         }
 
-  -- ---- any turn
-  holds-turned : (t : Situation) (input′ output′ : List ℕ) → length input′ ≡ length input → length output′ ≡ length output₁
-      → (w : TurnTaken s input output₁ t input′ output′) → Holds (suc n) t input′ output′ (passing s input output₁ t input′ output′ w p)
-  holds-turned t input′ output′ e f (writes next k i o) =
+  -- ---- any round
+  holds-round : (t : Situation) (input′ output′ : List ℕ) → length input′ ≡ length input → length output′ ≡ length output₁
+      → (w : RoundTaken s input output₁ t input′ output′) → Holds (suc n) t input′ output′ (passing s input output₁ t input′ output′ w p)
+  holds-round t input′ output′ e f (writes next k i o) =
       rw (i, o, k .is) (holds-written (k .done))
-  holds-turned t input′ output′ e f (takes next k i) =
+  holds-round t input′ output′ e f (takes next k i) =
       let w = next-shown s input (length output₁) Take next in
       rw i (holds-taken (w .0) (w .2) t output′ k f)
-  holds-turned t input′ output′ e f (totals next k i) =
+  holds-round t input′ output′ e f (totals next k i) =
       let w = next-shown s input (length output₁) Total next in
       rw i (holds-finished t output′ (w .0) (w .2) (w .3) k f)
-  holds-turned t input′ output′ e f (reads next k o) =
+  holds-round t input′ output′ e f (reads next k o) =
       let w = next-shown s input (length output₁) Read next in
       rw (o, k .is) (holds-read (w .0) (w .3) input′ e (k .kept) (k .got))
 
 pub chain-holds : (n : ℕ) (s : Situation) (input output₁ : List ℕ) (p : Passed) → Chain n s input output₁ p → Holds n s input output₁ p
 chain-holds n s input output₁ p (start i o) = holds-start i o
-chain-holds n s input output₁ p (turn m s₀ input₀ output₀ p₀ t input′ output′ c g e f w) =
-    holds-turned m s₀ input₀ output₀ p₀ (chain-holds m s₀ input₀ output₀ p₀ c) g t input′ output′ e f w
+chain-holds n s input output₁ p (round m s₀ input₀ output₀ p₀ t input′ output′ c g e f w) =
+    holds-round m s₀ input₀ output₀ p₀ (chain-holds m s₀ input₀ output₀ p₀ c) g t input′ output′ e f w
 
--- At any time, and so after an error too, what was told is a beginning of the output of all bytes.
+-- At any time, and so after an error too, what was handed over is a beginning of the output of all bytes.
 pub chain-begins : (n : ℕ) (s : Situation) (input output₁ : List ℕ) (p : Passed) → Chain n s input output₁ p → (rest : List ℕ) → (p .over ≡ true → rest ≡ [])
-    → Beginning (p .told) (output (p .came ++ rest))
+    → Beginning (p .handed) (output (p .came ++ rest))
 chain-begins n s input output₁ p c rest z =
     record {
       more = take (s .text) output₁ ++ toTell s input rest;
-      is = sym (append-assoc (p .told) (take (s .text) output₁) (toTell s input rest)) ∙ chain-holds n s input output₁ p c .tells rest z;
+      is = sym (append-assoc (p .handed) (take (s .text) output₁) (toTell s input rest)) ∙ chain-holds n s input output₁ p c .tells rest z;
     }
 
--- The theorem. A program that has ended without an error has told the output of all bytes.
+-- The theorem. A program that has ended without an error has handed over the output of all bytes.
 pub chain-tells : (n : ℕ) (s : Situation) (input output₁ : List ℕ) (p : Passed) → Chain n s input output₁ p → s .going ≡ false → s .failed ≡ false → Tells p
 chain-tells n s input output₁ p c g f =
     let h = chain-holds n s input output₁ p c in
     let d = h .stands .done g f in
-    record { tells = λ rest z. sym (append-nil (p .told)) ∙ (rw (d .0, d .1, append-nil) at (h .tells rest z)) }
+    record { tells = λ rest z. sym (append-nil (p .handed)) ∙ (rw (d .0, d .1, append-nil) at (h .tells rest z)) }
 
 -- and so has a run of the program
 pub ran-tells : (s : Situation) (input output₁ : List ℕ) (x : Ran s input output₁) → s .going ≡ false → s .failed ≡ false → Tells (x .passed)
-ran-tells s input output₁ x = chain-tells (x .turns) s input output₁ (x .passed) (x .chain)
+ran-tells s input output₁ x = chain-tells (x .rounds) s input output₁ (x .passed) (x .chain)

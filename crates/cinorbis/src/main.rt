@@ -1,25 +1,25 @@
 // The program: records in, lines out. Here alone the operating system is called. What it is handed,
-// and what is done with what it gave, is told by functions on slices.
+// and what is done with what it gave, functions on slices say.
 use libc::STDERR_FILENO;
 use libc::STDIN_FILENO;
 use libc::STDOUT_FILENO;
-use turns::Next;
-use turns::Situation;
+use rounds::Next;
+use rounds::Situation;
 ghost use Prim.Native.Nat.{_+_, _-_, _^_, _≤_, _<_};
 ghost use lib.ListN.{length};
-ghost use Rattle.turns.specs.Situation.{room, longest, Ready, Flushed, Refilled};
-ghost use Rattle.cinorbis.specs.Runs.{TurnTaken, Ran};
+ghost use Rattle.rounds.specs.Situation.{room, longest, Ready, Flushed, Refilled};
+ghost use Rattle.cinorbis.specs.Runs.{RoundTaken, Ran};
 
 // Hands the text that waits to the writer.
 fn flush(output: &[u8], s: Situation) -> Situation
     requires { ⌜ s .text ≤ length (now output) ⌝ }
     ensures { λ t. ⌜ Flushed s t ⌝ }
 {
-    if io::write_all(STDOUT_FILENO, turns::text_of(output, s)) {
-        return turns::after_write(true, s);
+    if io::write_all(STDOUT_FILENO, rounds::text_of(output, s)) {
+        return rounds::after_write(true, s);
     }
     io::write_all(STDERR_FILENO, b"cinorbis: cannot write\n");
-    turns::after_write(false, s)
+    rounds::after_write(false, s)
 }
 
 fn report(got: isize) {
@@ -35,36 +35,36 @@ fn refill(input: &mut [u8], s: Situation) -> Situation
     ensures { λ t. ⌜ Refilled s (now (input .entry)) t (now (input .exit)) ⌝ }
 {
     let k = s.end - s.at;
-    turns::move_to_front(input, s.at, s.end);
+    rounds::move_to_front(input, s.at, s.end);
     let got = libc::read(STDIN_FILENO, &mut input[k..]);
     report(got);
-    turns::after_read(got, &input[k..], s)
+    rounds::after_read(got, &input[k..], s)
 }
 
-fn turn(input: &mut [u8], output: &mut [u8], s: Situation) -> Situation
+fn round(input: &mut [u8], output: &mut [u8], s: Situation) -> Situation
     requires { ⌜ Ready s (now input) (now output)
         × (longest ≤ length (now input)) × (s .read + s .refused + 1 < 2 ^ 64) ⌝ }
-    ensures { λ t. ⌜ TurnTaken s (now (input .entry)) (now (output .entry)) t
+    ensures { λ t. ⌜ RoundTaken s (now (input .entry)) (now (output .entry)) t
         (now (input .exit)) (now (output .exit)) ⌝ }
 {
-    match turns::next_turn(input, output.len(), s) {
+    match rounds::next_round(input, output.len(), s) {
         Next::Write => flush(output, s),
-        Next::Take => turns::take_record(input, output, s),
-        Next::Total => turns::finish(output, s),
+        Next::Take => rounds::take_record(input, output, s),
+        Next::Total => rounds::finish(output, s),
         Next::Read => refill(input, s),
     }
 }
 
-// Nothing says that the input ends, so the turns are counted down, from a number that only more than
-// 2^62 bytes use up.
+// Nothing says that the input ends, so the rounds are counted down, from a number that only more
+// than 2^62 bytes use up.
 fn run(input: &mut [u8], output: &mut [u8]) -> Situation
     requires { ⌜ (longest ≤ length (now input)) × (room ≤ length (now output)) ⌝ }
     ensures { λ s. ⌜ Ran s (now (input .exit)) (now (output .exit)) ⌝ }
 {
-    let mut s = turns::start();
+    let mut s = rounds::start();
     let mut left = u64::MAX;
     while 0 < left && s.going {
-        s = turn(input, output, s);
+        s = round(input, output, s);
         left -= 1;
     }
     s

@@ -8,6 +8,7 @@ use lib.Dec.{ltb, eqb}
 use Rattle.code.specs.declared.Code.{Code}
 use Rattle.code.specs.declared.Made.{Made}
 use Rattle.code.specs.declared.Made.the-variants.{Good, Bad}
+use Rattle.code.specs.declared.Refusal.{Refusal}
 use Rattle.code.specs.declared.Refusal.the-variants.{Parameters, InputLength, OutputLength, Entry}
 use Rattle.code.specs.declared.Admitted.{Admitted}
 use Rattle.code.specs.declared.Admitted.the-variants.{Allowed, Refused}
@@ -19,7 +20,7 @@ abbrev pub ifMade : Made → (Code → Admitted) → Admitted
 ifMade (Good c) f = f c
 ifMade Bad f = Refused Parameters
 
--- tests 2 to 4 of a code, where so many information bits are due: readings l, and outputs of k and n bits
+-- tests 2 to 4 of a code, where so many information bits are expected: readings l, and outputs of k and n bits
 abbrev pub admittedBy : Code → ℕ → List ℤ → ℕ → ℕ → Admitted
 admittedBy c due l k n =
     let place = firstBadReading largestReading l in
@@ -34,3 +35,8 @@ admittedFor due r m l k n = ifMade (made r m) (λ c. admittedBy c (due c) l k n)
 -- the k information bits of RM(r,m)
 abbrev pub admitted : ℕ → ℕ → List ℤ → ℕ → ℕ → Admitted
 admitted r m l k n = admittedFor dimensionOf r m l k n
+
+-- what a call gives after its tests: refused, or as a call of a code does
+abbrev pub afterTest : {O : Type 0} → Admitted → (Refusal → O) → (Code → O) → O
+afterTest (Refused why) refuse then = refuse why
+afterTest (Allowed c) refuse then = then c

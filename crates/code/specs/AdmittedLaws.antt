@@ -22,7 +22,7 @@ use Rattle.code.specs.Entries.{firstBadReading}
 use Rattle.code.specs.EntriesLaws.{first-none, good-readings}
 use Rattle.code.specs.Admitted.{admittedBy, admittedFor, admitted}
 
--- ---- tests 2 to 4 of a code, where so many information bits are due
+-- ---- tests 2 to 4 of a code, where so many information bits are expected
 module _ (c : Code) (due : ℕ) (l : List ℤ) (k n : ℕ) where
   pub refused-input : (length l ≡ 2 ^ c .m → ⊥) → Refused InputLength ≡ admittedBy c due l k n
   refused-input f = rw (ne-eqb (length l) (2 ^ c .m) f)

@@ -10,7 +10,7 @@ use Rattle.code.specs.declared.Refusal.{Refusal}
 use Rattle.code.specs.declared.Refusal.the-variants.{Parameters, InputLength, OutputLength, Entry}
 use Rattle.code.specs.Sound.{largestM, largestReading, carried, numberOf}
 
--- what a call tells, in the rules' numbers, and the lent buffers as it leaves them
+-- what a call reports, in the rules' numbers, and the lent buffers as it leaves them
 pub record View : Type 0 where
   pub number : ℕ
   pub place : ℕ
@@ -68,7 +68,7 @@ firstChecks d size limit r m l due outputs rest =
     (check OutputLength (outputs → ⊥)
     (checkAt Entry (LowestBad d size limit l) rest)))
 
--- of readings, and the lengths of the lent outputs for the information bits, of which so many are due, and the word
+-- of readings, and the lengths of the lent outputs for the information bits, of which so many are expected, and the word
 abbrev pub readingChecksFor : ℕ → ℕ → ℕ → List ℤ → ℕ → ℕ → Checks → Checks
 readingChecksFor due r m l bits word = firstChecks (pos 0) natAbs largestReading r m l (2 ^ m) ((bits ≡ due) × (word ≡ 2 ^ m))
 

@@ -1,4 +1,4 @@
--- Laws of the lowest bad place: where it stands, and what holds of all entries where there is none.
+-- Laws of the lowest bad place: where it is, and what holds of all entries where there is none.
 use mathlib.Core.Path.{_≡_, refl, ap, sym, _∙_}
 use mathlib.Core.Bool.{Bool, true, false, true≢false, _||_, or-false}
 use mathlib.Core.List.{List, [], _∷_}

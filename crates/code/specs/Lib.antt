@@ -1,4 +1,4 @@
--- Definitions: limits, sound parameters and the refusals' table; bad entries; the tests 1 to 4; sound input
+-- The tests on a call's input (docs/RULES.md, §6 and §9): limits, sound parameters, the table of refusals, bad entries, demand 1
 pub mod Sound
 pub mod Entries
 pub mod Admitted

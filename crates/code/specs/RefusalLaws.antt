@@ -7,7 +7,9 @@ use lib.Dec.{eqb}
 use Rattle.code.specs.declared.Refusal.{Refusal}
 use Rattle.code.specs.declared.Refusal.the-variants.{Parameters, InputLength, OutputLength, Entry, NotAWord, OutOfVisits, Tied, Torn, Pad}
 use Rattle.code.specs.declared.Refusal.the-variants.{NoEntry, Map, Named}
-use Rattle.code.specs.Sound.{Carried, carrying, carried, numberOf}
+use Rattle.code.specs.declared.Completed.{Completed}
+use Rattle.code.specs.declared.Completed.the-variants.{Done, Refused}
+use Rattle.code.specs.Sound.{Carried, carrying, carried, completed, numberOf}
 
 -- the refusal of a number that carries these values
 abbrev refusalOf : Carried → Refusal
@@ -55,6 +57,13 @@ number-above Pad = omega arith
 number-above NoEntry = omega arith
 number-above Map = omega arith
 number-above Named = omega arith
+
+-- an answer is known by what it carries
+pub completed-only : (a b : Completed) → completed a ≡ completed b → a ≡ b
+completed-only Done Done e = refl
+completed-only Done (Refused why) e = absurd (omega (arith, number-above why, ap (λ (c : Carried). c .number) e))
+completed-only (Refused why) Done e = absurd (omega (arith, number-above why, ap (λ (c : Carried). c .number) e))
+completed-only (Refused why) (Refused why′) e = ap Refused (refusal-only why why′ e)
 
 -- no penalty and no visits but under 6 and 7
 pub carries-none : (why : Refusal) → (numberOf why ≡ 6 → ⊥) → (numberOf why ≡ 7 → ⊥) → carried why ≡ carrying (numberOf why) (carried why .place) 0 0

@@ -8,6 +8,8 @@ use Rattle.code.specs.declared.Made.the-variants.{Good, Bad}
 use Rattle.code.specs.declared.Refusal.{Refusal}
 use Rattle.code.specs.declared.Refusal.the-variants.{Parameters, InputLength, OutputLength, Entry, NotAWord, OutOfVisits, Tied, Torn, Pad}
 use Rattle.code.specs.declared.Refusal.the-variants.{NoEntry, Map, Named}
+use Rattle.code.specs.declared.Completed.{Completed}
+use Rattle.code.specs.declared.Completed.the-variants.{Done, Refused}
 
 -- the limits; nothing else repeats them
 abbrev pub largestM : ℕ
@@ -35,7 +37,7 @@ rm r m = record { r = r; m = m }
 unfoldable pub made : ℕ → ℕ → Made
 made r m = cond (leb m largestM && leb r m) (Good (rm r m)) Bad
 
--- what is told of a refusal: its number, and the place, penalty and visits that it carries, 0 where it carries none
+-- what a refusal reports: its number, and the place, penalty and visits that it carries, 0 where it carries none
 pub record Carried : Type 0 where
   pub number : ℕ
   pub place : ℕ
@@ -59,6 +61,11 @@ carried Pad = carrying 9 0 0 0
 carried NoEntry = carrying 10 0 0 0
 carried Map = carrying 11 0 0 0
 carried Named = carrying 12 0 0 0
+
+-- a call that is done carries nothing
+abbrev pub completed : Completed → Carried
+completed Done = carrying 0 0 0 0
+completed (Refused why) = carried why
 
 abbrev pub numberOf : Refusal → ℕ
 numberOf why = carried why .number

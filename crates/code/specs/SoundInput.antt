@@ -8,7 +8,7 @@ use Rattle.words.specs.Kinds.{dimension}
 use Rattle.code.specs.declared.Code.{Code}
 use Rattle.code.specs.Sound.{Sound, largestReading}
 
--- rows of these lengths for the information bits, of which so many are due, and for the word; and the entries that are given are good ones
+-- rows of these lengths for the information bits, of which so many are expected, and for the word; and the entries that are given are good ones
 pub record SoundFor (c : Code) (due bits word : ℕ) (good : Type 0) : Type 0 where
   pub sound : Sound c
   pub long-bits : bits ≡ due

@@ -10,7 +10,8 @@ ghost use Rattle.numbers.specs.Sums.{tabulate};
 ghost use Rattle.words.specs.Kinds.{kind, kinds, dimension};
 ghost use Rattle.code.specs.Sound.{Sound, largestM, made, carried};
 ghost use Rattle.code.specs.Sound.{largestReading, largestRecordReading};
-ghost use Rattle.code.specs.Entries.{someBadBit, firstBadBit, someBadReading, firstBadReading};
+ghost use Rattle.code.specs.Entries.{someBadBit, firstBadBit};
+ghost use Rattle.code.specs.Entries.{someBadReading, firstBadReading};
 ghost use Rattle.code.specs.Admitted.{admittedBy, admitted};
 
 // The parameters of RM(r,m).
@@ -46,6 +47,21 @@ pub enum Refusal {
     Named,
 }
 
+// What a refusal reports: the rules' number, and the place, penalty and visits that it carries, 0
+// where it carries none.
+pub struct Shown {
+    pub number: u32,
+    pub place: usize,
+    pub penalty: u32,
+    pub visits: u32,
+}
+
+// The answer of a call that reports no more than a refusal.
+pub enum Completed {
+    Done,
+    Refused(Refusal),
+}
+
 // What the tests on readings leave.
 pub enum Admitted {
     Allowed(Code),
@@ -75,6 +91,9 @@ impl Code {
     pub const LARGEST_M: u32 = 8;
 
     pub const LARGEST_READING: i16 = 32767;
+
+    // the same, as a float
+    pub const LARGEST_FLOAT_READING: f32 = 32767.0;
 
     // of a record, whose fields have 12 bits
     pub const LARGEST_RECORD_READING: i16 = 2047;
@@ -111,8 +130,8 @@ impl Code {
         row[r] as usize
     }
 
-    // 1 at an information index, 0 at a frozen one. An index fits a byte, and the compiler counts the
-    // ones of many bytes at once.
+    // 1 at an information index, 0 at a frozen one. An index fits a byte, and the compiler counts
+    // the ones of many bytes at once.
     pub fn kind(self, i: usize) -> u8
         requires { ⌜ Sound self × (i < 2 ^ (self .m)) ⌝ }
         ensures { λ k. ⌜ k ≡ kind (self .r) (self .m) i ⌝ }
@@ -233,7 +252,7 @@ pub fn admit(r: u32, m: u32, readings: &[i16], bits: usize, word: usize) -> Admi
     admit_for(code, code.dimension(), readings, bits, word)
 }
 
-// The tests 2 to 4, where so many information bits are due.
+// The tests 2 to 4, where so many information bits are expected.
 pub fn admit_for(code: Code, due: usize, readings: &[i16], bits: usize, word: usize) -> Admitted
     requires { ⌜ Sound code ⌝ }
     ensures { λ answer. ⌜ answer ≡ admittedBy code due (now (readings .entry)) bits word ⌝ }
@@ -256,89 +275,75 @@ pub fn admit_for(code: Code, due: usize, readings: &[i16], bits: usize, word: us
 }
 
 impl Refusal {
-    // The rules' number.
+    // What the refusal reports, by the rules' table.
+    pub fn shown(self) -> Shown
+        ensures { λ s. ⌜ (s .number ≡ carried self .number) × (s .place ≡ carried self .place)
+            × (s .penalty ≡ carried self .penalty) × (s .visits ≡ carried self .visits) ⌝ }
+    {
+        let none = Shown {
+            number: 0,
+            place: 0,
+            penalty: 0,
+            visits: 0,
+        };
+        match self {
+            Refusal::Parameters => Shown { number: 1, ..none },
+            Refusal::InputLength => Shown { number: 2, ..none },
+            Refusal::OutputLength => Shown { number: 3, ..none },
+            Refusal::Entry(place) => Shown {
+                number: 4,
+                place,
+                ..none
+            },
+            Refusal::NotAWord(place) => Shown {
+                number: 5,
+                place,
+                ..none
+            },
+            Refusal::OutOfVisits(visits) => Shown {
+                number: 6,
+                visits,
+                ..none
+            },
+            Refusal::Tied { penalty, visits } => Shown {
+                number: 7,
+                penalty,
+                visits,
+                ..none
+            },
+            Refusal::Torn => Shown { number: 8, ..none },
+            Refusal::Pad => Shown { number: 9, ..none },
+            Refusal::NoEntry => Shown { number: 10, ..none },
+            Refusal::Map => Shown { number: 11, ..none },
+            Refusal::Named => Shown { number: 12, ..none },
+        }
+    }
+
     pub fn number(self) -> u32
         ensures { λ r. ⌜ r ≡ carried self .number ⌝ }
     {
-        match self {
-            Refusal::Parameters => 1,
-            Refusal::InputLength => 2,
-            Refusal::OutputLength => 3,
-            Refusal::Entry(_) => 4,
-            Refusal::NotAWord(_) => 5,
-            Refusal::OutOfVisits(_) => 6,
-            Refusal::Tied {
-                penalty: _,
-                visits: _,
-            } => 7,
-            Refusal::Torn => 8,
-            Refusal::Pad => 9,
-            Refusal::NoEntry => 10,
-            Refusal::Map => 11,
-            Refusal::Named => 12,
-        }
+        let shown = self.shown();
+        shown.number
     }
 
-    // The place that 4 and 5 carry, else 0.
     pub fn place(self) -> usize
         ensures { λ r. ⌜ r ≡ carried self .place ⌝ }
     {
-        match self {
-            Refusal::Entry(place) => place,
-            Refusal::NotAWord(index) => index,
-            Refusal::Parameters => 0,
-            Refusal::InputLength => 0,
-            Refusal::OutputLength => 0,
-            Refusal::OutOfVisits(_) => 0,
-            Refusal::Tied {
-                penalty: _,
-                visits: _,
-            } => 0,
-            Refusal::Torn => 0,
-            Refusal::Pad => 0,
-            Refusal::NoEntry => 0,
-            Refusal::Map => 0,
-            Refusal::Named => 0,
-        }
+        let shown = self.shown();
+        shown.place
     }
 
-    // The least penalty under 7, else 0.
     pub fn penalty(self) -> u32
         ensures { λ r. ⌜ r ≡ carried self .penalty ⌝ }
     {
-        match self {
-            Refusal::Tied { penalty, visits: _ } => penalty,
-            Refusal::Parameters => 0,
-            Refusal::InputLength => 0,
-            Refusal::OutputLength => 0,
-            Refusal::Entry(_) => 0,
-            Refusal::NotAWord(_) => 0,
-            Refusal::OutOfVisits(_) => 0,
-            Refusal::Torn => 0,
-            Refusal::Pad => 0,
-            Refusal::NoEntry => 0,
-            Refusal::Map => 0,
-            Refusal::Named => 0,
-        }
+        let shown = self.shown();
+        shown.penalty
     }
 
-    // The allowance under 6, the walk's visits under 7, else 0.
     pub fn visits(self) -> u32
         ensures { λ r. ⌜ r ≡ carried self .visits ⌝ }
     {
-        match self {
-            Refusal::OutOfVisits(allowed) => allowed,
-            Refusal::Tied { penalty: _, visits } => visits,
-            Refusal::Parameters => 0,
-            Refusal::InputLength => 0,
-            Refusal::OutputLength => 0,
-            Refusal::Entry(_) => 0,
-            Refusal::NotAWord(_) => 0,
-            Refusal::Torn => 0,
-            Refusal::Pad => 0,
-            Refusal::NoEntry => 0,
-            Refusal::Map => 0,
-            Refusal::Named => 0,
-        }
+        let shown = self.shown();
+        shown.visits
     }
 }

@@ -1,5 +1,6 @@
 -- Readings without noise: s where the word c has 0 and -s where it has 1, s at least 1. Every word's penalty is s times its distance from c; so c is the
--- best word, with penalty 0, and the gap is s times the least distance: s × 2^(m-r) for RM(r,m). With the law of the gap (GapLaws) this is what noise a code bears.
+-- best word, with penalty 0, and the gap is s times the least distance: s × 2^(m-r) for RM(r,m). With the law of the gap (GapLaws) this is what noise
+-- a code bears.
 use mathlib.Core.Path.{_≡_, refl, ap, ap₂, sym, _∙_}
 use mathlib.Core.Bool.{cond}
 use mathlib.Core.List.{List, [], _∷_, map, List-discrete}

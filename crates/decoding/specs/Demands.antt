@@ -55,7 +55,7 @@ pub record BestTied (m : ℕ) (ks : List ℕ) (l : List ℤ) (p : ℕ) : Type 0 
   pub two : TwoWords m ks l p p
 
 -- Once the input is sound it refuses as out of visits exactly if the written walk needs more than the caller allowed, and otherwise as tied exactly if the
--- gap is zero. The visits told are those that the written walk needs.
+-- gap is zero. The visits reported are those that the written walk needs.
 abbrev pub Demand2 : ℕ → List ℕ → List ℤ → ℕ → Answer → Type 0
 Demand2 m ks l allowed (found b x p g visits) = (needed m ks l ≤ allowed) × BestFound m ks l b x p g × (visits ≡ needed m ks l)
 Demand2 m ks l allowed (tied p visits) = (needed m ks l ≤ allowed) × BestTied m ks l p × (visits ≡ needed m ks l)

@@ -1,4 +1,4 @@
--- What stands where, by subject. A file of definitions has the subject's name, its laws are below.
+-- Decoding (docs/RULES.md, §2 to §5), by subject: a file of definitions has the subject's name, and its laws follow
 -- Readings and the two combining steps: sizes, signs, rows, correlation, how large a running sum can be
 pub mod Readings
 pub mod StepLaws
@@ -24,7 +24,7 @@ pub mod AllowanceLaws
 pub mod AnswerLaws
 pub mod SearchLaws
 pub mod ZeroLaws
--- Turning: readings negated by a word, and by the all-ones word
+-- Readings turned over: negated by a word, and by the all-ones word
 pub mod TurnLaws
 pub mod TurnedWalk
 pub mod TurnedBest

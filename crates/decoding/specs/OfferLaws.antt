@@ -164,7 +164,7 @@ heldPaths none = []
 heldPaths (one a) = a .path ∷ []
 heldPaths (two a b) = a .path ∷ b .path ∷ []
 
--- no path stands twice among those held and those in r
+-- no path occurs twice among those held and those in r
 abbrev Apart : List (List ℕ) → Held → Type 0
 Apart r h = Distinct (heldPaths h ++ r)
 

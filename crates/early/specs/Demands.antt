@@ -1,4 +1,4 @@
--- What C-15 asks of the call, over its outcomes and those of the search. That it is met is proved in DemandsMet.
+-- The demands on the early answer (docs/RULES.md, §10), over its outcomes and those of the search. That it is met is proved in DemandsMet.
 use mathlib.Core.Path.{_≡_}
 use mathlib.Core.Bool.{true, false}
 use mathlib.Core.List.{List, [], _∷_}

@@ -1,4 +1,4 @@
--- What C-15 asks of the call is met, and demand 3 of it.
+-- The demands on the early answer are met.
 use mathlib.Core.Path.{_≡_, refl, ap, sym, _∙_}
 use mathlib.Core.Logic.{⊎-elim}
 use mathlib.Core.Bool.{Bool, true, false, cond}

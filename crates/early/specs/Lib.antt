@@ -1,4 +1,4 @@
--- Definitions
+-- The early answer (docs/RULES.md, §10): definitions
 pub mod Outcome
 pub mod Work
 -- Laws
@@ -6,7 +6,7 @@ pub mod OutcomeLaws
 pub mod OnlyOutcome
 pub mod TestedLaws
 pub mod WayLaws
--- What C-15 asks, and that it is met
+-- The demands, and that they are met
 pub mod Demands
 pub mod Demand1Met
 pub mod DemandsMet

@@ -24,24 +24,24 @@ use Rattle.search.specs.Outcome.{foundWith, refused, byAnswer}
 use Rattle.search.specs.Outcome as Search
 use Rattle.early.specs.declared.Answered.{Answered}
 use Rattle.early.specs.declared.Answered.the-variants.{Best, Refused}
-use Rattle.early.specs.Outcome.{asSearched, told, wordOnly, earlyBy, answering}
+use Rattle.early.specs.Outcome.{asSearched, outcomeOf, wordOnly, earlyBy, answering}
 
 -- what is given of a search's answer
-abbrev pub shortened : Searched → Answered
-shortened (search.Found penalty gap visits) = Best penalty
-shortened (search.Refused why) = Refused why
+abbrev pub penaltyOnly : Searched → Answered
+penaltyOnly (search.Found penalty gap visits) = Best penalty
+penaltyOnly (search.Refused why) = Refused why
 
-pub shortened-again : (a : Answered) → shortened (asSearched a) ≡ a
-shortened-again (Best penalty) = refl
-shortened-again (Refused why) = refl
+pub penalty-only-again : (a : Answered) → penaltyOnly (asSearched a) ≡ a
+penalty-only-again (Best penalty) = refl
+penalty-only-again (Refused why) = refl
 
--- a refusal is told whole
+-- a refusal is reported with all that it carries
 refusal-whole : (why : Refusal) (bits word : List ℕ) → refused why bits word ≡ wordOnly (refused why bits word)
 refusal-whole why bits word = rw (ne-eqb (numberOf why) 0 (λ e. omega (arith, number-above why, e)))
 
-pub shortened-told : (a : Searched) (bits word : List ℕ) → told (shortened a) bits word ≡ wordOnly (Search.told a bits word)
-shortened-told (search.Found penalty gap visits) bits word = refl
-shortened-told (search.Refused why) bits word = refusal-whole why bits word
+pub penalty-only-outcome : (a : Searched) (bits word : List ℕ) → outcomeOf (penaltyOnly a) bits word ≡ wordOnly (Search.outcomeOf a bits word)
+penalty-only-outcome (search.Found penalty gap visits) bits word = refl
+penalty-only-outcome (search.Refused why) bits word = refusal-whole why bits word
 
 module _ (r m allowed : ℕ) (l : List ℤ) (bits word : List ℕ) where
   pub answering-refused : (why : Refusal) → admission.Refused why ≡ admitted r m l (length bits) (length word)
@@ -65,6 +65,6 @@ module _ (c : Code) (allowed : ℕ) (l : List ℤ) (bits word : List ℕ) (p : �
       rw (rw word-read at e, f ∙ ap (λ (o : Quick.Outcome). o .bits) read, g ∙ word-read, ap (λ (o : Quick.Outcome). o .penalty) read)
 
   pub by-search : isSure (c .r) (c .m) l x ≡ false → (a : Searched) (bits′ word′ : List ℕ)
-      → Search.told a bits′ word′ ≡ byAnswer allowed bits word (answer (c .m) (kinds (c .r) (c .m)) l allowed)
-      → told (shortened a) bits′ word′ ≡ earlyBy c allowed l bits word
-  by-search e a bits′ word′ f = rw (rw word-read at e) (shortened-told a bits′ word′ ∙ ap wordOnly f)
+      → Search.outcomeOf a bits′ word′ ≡ byAnswer allowed bits word (answer (c .m) (kinds (c .r) (c .m)) l allowed)
+      → outcomeOf (penaltyOnly a) bits′ word′ ≡ earlyBy c allowed l bits word
+  by-search e a bits′ word′ f = rw (rw word-read at e) (penalty-only-outcome a bits′ word′ ∙ ap wordOnly f)

@@ -1,4 +1,5 @@
-// The public calls: the best word at once where the quick reading is surely right, else by search.
+// The early answer (docs/RULES.md, §10): the quick reading's word where it is surely the best, else
+// the search's.
 use code::Admitted;
 use code::Code;
 use code::Refusal;
@@ -12,8 +13,8 @@ ghost use Rattle.sure.specs.Sure.{largest, doubtAt, doubt};
 ghost use Rattle.sure.specs.Test.{isSure};
 ghost use Rattle.code.specs.Sound.{defaultAllowance};
 ghost use Rattle.code.specs.SoundInput.{SoundReadings};
-ghost use Rattle.early.specs.Outcome.{told, earlyBy, answering};
-ghost use Rattle.early.specs.OutcomeLaws.{shortened};
+ghost use Rattle.early.specs.Outcome.{outcomeOf, earlyBy, answering};
+ghost use Rattle.early.specs.OutcomeLaws.{penaltyOnly};
 ghost use Rattle.early.specs.Work.{Testable, Summable};
 
 pub enum Answered {
@@ -32,7 +33,7 @@ pub fn early_within(
     bits: &mut [u8],
     word: &mut [u8],
 ) -> Answered
-    ensures { λ answer. ⌜ told answer (now (bits .exit)) (now (word .exit))
+    ensures { λ answer. ⌜ outcomeOf answer (now (bits .exit)) (now (word .exit))
         ≡ answering r m allowed (now (readings .entry))
         (now (bits .entry)) (now (word .entry)) ⌝ }
 {
@@ -44,7 +45,7 @@ pub fn early_within(
 
 // The same, with the default allowance.
 pub fn early(r: u32, m: u32, readings: &[i16], bits: &mut [u8], word: &mut [u8]) -> Answered
-    ensures { λ answer. ⌜ told answer (now (bits .exit)) (now (word .exit))
+    ensures { λ answer. ⌜ outcomeOf answer (now (bits .exit)) (now (word .exit))
         ≡ answering r m defaultAllowance (now (readings .entry))
         (now (bits .entry)) (now (word .entry)) ⌝ }
 {
@@ -61,7 +62,7 @@ fn answer_sound(
     word: &mut [u8],
 ) -> Answered
     requires { ⌜ SoundReadings code (now readings) (length (now bits)) (length (now word)) ⌝ }
-    ensures { λ answer. ⌜ told answer (now (bits .exit)) (now (word .exit))
+    ensures { λ answer. ⌜ outcomeOf answer (now (bits .exit)) (now (word .exit))
         ≡ earlyBy code allowed (now (readings .entry))
         (now (bits .entry)) (now (word .entry)) ⌝ }
 {
@@ -87,24 +88,24 @@ fn test_first(
     requires { ⌜ SoundReadings code (now readings) (length (now bits)) (length (now word))
         × (length (now «read_bits») ≡ length (now bits))
         × (length (now «read_word») ≡ length (now word)) ⌝ }
-    ensures { λ answer. ⌜ told answer (now (bits .exit)) (now (word .exit))
+    ensures { λ answer. ⌜ outcomeOf answer (now (bits .exit)) (now (word .exit))
         ≡ earlyBy code allowed (now (readings .entry))
         (now (bits .entry)) (now (word .entry)) ⌝ }
 {
     let penalty = quick::take_reading(code, readings, read_bits, read_word);
     if surely_right(code, readings, read_word) {
-        half::copy(read_bits, bits);
-        half::copy(read_word, word);
+        bit_rows::copy(read_bits, bits);
+        bit_rows::copy(read_word, word);
         return Answered::Best { penalty };
     }
     let answer = search::search_sound(code, allowed, readings, bits, word);
     let result = answer.result;
-    shortened(result)
+    penalty_only(result)
 }
 
 // Of a search only word, bits and penalty are given.
-fn shortened(answer: Searched) -> Answered
-    ensures { λ a. ⌜ a ≡ shortened answer ⌝ }
+fn penalty_only(answer: Searched) -> Answered
+    ensures { λ a. ⌜ a ≡ penaltyOnly answer ⌝ }
 {
     match answer {
         Searched::Found {

@@ -1,4 +1,4 @@
--- What `encode` and `inverse` tell and leave, for all that they can be given, in the rules' numbers (docs/RULES.md, §6).
+-- What `encode` and `inverse` report and leave, for every input, in the rules' numbers (docs/RULES.md, §6).
 use mathlib.Core.List.{List}
 use mathlib.Core.Bool.{Bool, true, false, not, cond}
 use Prim.Native.Nat.{ℕ, _^_}
@@ -12,8 +12,8 @@ use Rattle.code.specs.declared.Refusal.{Refusal}
 use Rattle.code.specs.declared.Refusal.the-variants.{Parameters, InputLength, OutputLength, Entry, NotAWord}
 use Rattle.code.specs.Sound.{made, carried}
 use Rattle.code.specs.Entries.{firstBadBit}
-use Rattle.encode.specs.declared.Encoded.{Encoded}
-use Rattle.encode.specs.declared.Encoded.the-variants.{Done, Refused}
+use Rattle.code.specs.declared.Completed.{Completed}
+use Rattle.code.specs.declared.Completed.the-variants.{Done, Refused}
 
 pub record Outcome : Type 0 where
   -- 0 where the call is done, else the refusal's number
@@ -31,9 +31,9 @@ abbrev pub refused : Refusal → List ℕ → Outcome
 refused why buffer = record { number = carried why .number; place = carried why .place; buffer = buffer }
 
 -- the answer in the rules' numbers
-abbrev pub told : Encoded → List ℕ → Outcome
-told Done = done
-told (Refused why) = refused why
+abbrev pub outcomeOf : Completed → List ℕ → Outcome
+outcomeOf Done = done
+outcomeOf (Refused why) = refused why
 
 abbrev pub isGood : Made → Bool
 isGood (Good code) = true

@@ -27,7 +27,7 @@ is-frozen : (bits : List ℕ) (i : ℕ) (t : TakenBack) → takingBack t bits �
 is-frozen bits i (taken c) e = absurd (omega (arith, ap (λ (o : Outcome). o .number) e))
 is-frozen bits i (frozenOne j) e = ap (λ (o : Outcome). frozenOne (o .place)) e
 
--- a row of n kinds, with so many information bits due
+-- a row of n kinds, with so many information bits expected
 module _ (r m due : ℕ) (ks : List ℕ) (long : length ks ≡ 2 ^ m) (are : Bits ks) (is : sum ks ≡ due) where
   abbrev encodes : List ℕ → List ℕ → Outcome
   encodes bits word = tested r m bits due word (2 ^ m) (done (encoded m ks bits))

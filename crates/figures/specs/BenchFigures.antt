@@ -1,4 +1,4 @@
--- The rules' bench figures that are to be proved, as one statement: about the definitions, and about what the calls tell and leave. A lent buffer
+-- The rules' bench figures that are to be proved, as one statement: about the definitions, and about what the calls report and leave. A lent buffer
 -- of the right length may hold anything.
 use mathlib.Core.Path.{_≡_, refl}
 use mathlib.Core.List.{List, [], _∷_, map}

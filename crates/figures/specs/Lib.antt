@@ -1,4 +1,4 @@
--- The rules' figures, each file one statement
+-- The bench figures, one statement a file
 pub mod BenchFigures
 pub mod LargestReadings
 pub mod RunnerUpFigures

@@ -46,7 +46,7 @@ module _ (d : List ℤ) (h : ℕ) (long : length d ≡ h + h) where
   length-part : (e : ℕ) → length (part e) ≡ h
   length-part e = length-combined e (take h d) (drop h d) (equal-halves h d long) ∙ length-first-half h d long
 
-  -- after j turns
+  -- after j passes
   abbrev pub crossing : ℕ → List ℤ
   crossing j = front (take h d) (part 0) j ++ front (drop h d) (part 1) j
 
@@ -71,7 +71,7 @@ module _ (d : List ℤ) (h : ℕ) (long : length d ≡ h + h) where
     first-long : length (front (take h d) (part 0) j) ≡ h
     first-long = length-front (take h d) (part 0) j (length-first-half h d long) (length-part 0) (omega arith)
 
-    -- what a turn reads is as it was
+    -- what a pass reads is as it was
     pub read-first : getD s j (pos 0) ≡ getD d j (pos 0)
     read-first =
         ap (λ (l : List ℤ). getD l j (pos 0)) is
@@ -91,10 +91,10 @@ module _ (d : List ℤ) (h : ℕ) (long : length d ≡ h + h) where
         getD-combined e (take h d) (drop h d) j (equal-halves h d long)
         ∙ ap₂ (λ (x y : ℤ). x +ℤ turn e y) (getD-take h d j (pos 0) more) (getD-drop h d j (pos 0))
 
-    -- what a turn stores
-    pub turn-stores : (a b : ℤ) → a ≡ getD d j (pos 0) +ℤ getD d (h + j) (pos 0) → b ≡ getD d j (pos 0) -ℤ getD d (h + j) (pos 0)
+    -- what a pass stores
+    pub pass-stores : (a b : ℤ) → a ≡ getD d j (pos 0) +ℤ getD d (h + j) (pos 0) → b ≡ getD d j (pos 0) -ℤ getD d (h + j) (pos 0)
         → set (set s j a) (h + j) b ≡ crossing (j + 1)
-    turn-stores a b ea eb =
+    pass-stores a b ea eb =
         let x = front (take h d) (part 0) j in
         let y = front (drop h d) (part 1) j in
         let p : a ≡ getD (part 0) j (pos 0) = ea ∙ sym (entry-at 0) in

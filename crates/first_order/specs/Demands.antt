@@ -1,4 +1,4 @@
--- What C-24 asks of the call, over its outcomes and those of the search. That it is met is proved in DemandsMet.
+-- The demands on the call (docs/RULES.md, §13), over its outcomes and those of the search. That it is met is proved in DemandsMet.
 use mathlib.Core.Path.{_≡_}
 use mathlib.Core.Logic.{_↔_}
 use mathlib.Core.List.{List, [], _∷_}
@@ -32,7 +32,7 @@ FirstOrderDemand1 r m l bits word =
 
 -- ---- Beside the search, whatever both are given
 pub record FirstOrderAsSearch (m : ℕ) (l : List ℤ) (bits word : List ℕ) : Type 0 where
-  -- with any allowance at least as large as the whole tree the search tells and leaves the same, but for the visits
+  -- with any allowance at least as large as the whole tree the search reports and leaves the same, but for the visits
   pub as-search : (allowed : ℕ) → tree (kinds 1 m) ≤ allowed → firstOrdering 1 m l bits word ≡ withoutVisits (searching 1 m allowed l bits word)
   -- so a tie is refused where the search refuses it, and 6 is never given
   pub never-out : (r : ℕ) → firstOrdering r m l bits word .number ≡ 6 → ⊥

@@ -28,7 +28,7 @@ use Rattle.code.specs.Demand1.{passed, check}
 use Rattle.code.specs.Demand1Laws.{Decides, demand-1, decides-readings}
 use Rattle.search.specs.Outcome.{Outcome, foundWith, refused, byAnswer, searching}
 use Rattle.search.specs.OutcomeLaws.{searching-refused}
-use Rattle.search.specs.RunnerUp.{WholeOutcome}
+use Rattle.search.specs.RunnerUp.{RunnerUpOutcome}
 use Rattle.search.specs.Demands.{view, SoundSearch, PlusWord}
 use Rattle.search.specs.DemandsMet.{sound-answered, larger-allowance, outcome-demands}
 use Rattle.first_order.specs.Outcome.{withoutVisits, firstOrdering}
@@ -135,7 +135,7 @@ module _ (m : ℕ) (l : List ℤ) (bits word : List ℕ) where
   first-order-as-search = record {
     as-search = λ allowed h.
         let kept = larger-allowance 1 m l bits word (tree (kinds 1 m)) allowed h not-out in
-        sym (first-order 1 m l bits word refl) ∙ sym (ap (λ (o : WholeOutcome). withoutVisits (o .outcome)) kept);
+        sym (first-order 1 m l bits word refl) ∙ sym (ap (λ (o : RunnerUpOutcome). withoutVisits (o .outcome)) kept);
     never-out = number-of;
     no-visits = visits-of;
   }

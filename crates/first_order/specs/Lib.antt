@@ -1,4 +1,4 @@
--- What the call tells and leaves
+-- First-order words (docs/RULES.md, §13): what the call reports and leaves
 pub mod Outcome
 -- What the inner functions ask and give
 pub mod Work
@@ -7,6 +7,6 @@ pub mod CrossLaws
 pub mod TopLaws
 pub mod WordLaws
 pub mod OutcomeLaws
--- What C-24 asks of the call, and that it is met
+-- The demands on the call, and that they are met
 pub mod Demands
 pub mod DemandsMet

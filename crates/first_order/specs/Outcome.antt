@@ -1,4 +1,4 @@
--- What `first_order` tells and leaves: of RM(1,m) what the search does with an allowance as large as the whole tree, but for the visits, which are 0.
+-- What `first_order` reports and leaves: of RM(1,m) what the search does with an allowance as large as the whole tree, but for the visits, which are 0.
 use mathlib.Core.List.{List}
 use mathlib.Core.Bool.{cond}
 use Prim.Native.Nat.{ℕ}

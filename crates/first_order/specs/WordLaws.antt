@@ -66,7 +66,7 @@ doubles p m h n more most is long =
     let next : h + h ≡ 2 ^ suc p = omega (arith, two-pow-succ p) in
     record { next = next; room = omega arith; small = omega arith }
 
--- the loop of `double`, after j turns
+-- the loop of `double`, after j passes
 abbrev pub doubling : List ℕ → ℕ → ℕ → ℕ → List ℕ
 doubling d h b j = take h d ++ front (drop h d) (map (λ a. (a + b) % 2) (take h d)) j
 

@@ -1,5 +1,6 @@
-// First-order words without a walk: the entries of one transform are, but for their signs, the
-// correlations of all words of RM(1,m), so the best two of them say what the search would say.
+// First-order words (docs/RULES.md, §13), without a walk: the entries of one transform are, but for
+// their signs, the correlations of all words of RM(1,m), so that the best two of them say what the
+// search would say.
 use code::Admitted;
 use code::Refusal;
 use search::Searched;
@@ -13,7 +14,7 @@ ghost use Rattle.decoding.specs.Quick.{hard};
 ghost use Rattle.hadamard.specs.Hadamard.{hadamard, firstOrder, bitsOf};
 ghost use Rattle.code.specs.Sound.{largestM, rm};
 ghost use Rattle.code.specs.SoundInput.{SoundReadings};
-ghost use Rattle.search.specs.Outcome.{told};
+ghost use Rattle.search.specs.Outcome.{outcomeOf};
 ghost use Rattle.first_order.specs.Outcome.{asSearch, firstOrdering};
 ghost use Rattle.first_order.specs.Work.{crossed, doubled, largestEntry};
 ghost use Rattle.first_order.specs.Work.{Top, sizeAt, keyAt, Looked};
@@ -29,7 +30,7 @@ pub struct Seen {
 // Writes the information bits and the word of least penalty of RM(1,m), where no other word has
 // that penalty. There are no visits.
 pub fn first_order(r: u32, m: u32, readings: &[i16], bits: &mut [u8], word: &mut [u8]) -> Searched
-    ensures { λ answer. ⌜ told answer (now (bits .exit)) (now (word .exit))
+    ensures { λ answer. ⌜ outcomeOf answer (now (bits .exit)) (now (word .exit))
         ≡ firstOrdering r m (now (readings .entry)) (now (bits .entry)) (now (word .entry)) ⌝ }
 {
     if r != 1 {
@@ -44,7 +45,7 @@ pub fn first_order(r: u32, m: u32, readings: &[i16], bits: &mut [u8], word: &mut
 // The work, once no test refuses.
 fn decode(m: usize, readings: &[i16], bits: &mut [u8], word: &mut [u8]) -> Searched
     requires { ⌜ SoundReadings (rm 1 m) (now readings) (length (now bits)) (length (now word)) ⌝ }
-    ensures { λ r. ⌜ told r (now (bits .exit)) (now (word .exit))
+    ensures { λ r. ⌜ outcomeOf r (now (bits .exit)) (now (word .exit))
         ≡ asSearch m (now (readings .entry)) (now (bits .entry)) (now (word .entry)) ⌝ }
 {
     let mut sums = [0i32; 256];

@@ -1,2 +1,2 @@
--- What is read of the memory's arrays where the sums are floats
+-- The walk's memory in floats: what is read of its arrays
 pub mod FloatMemoryLaws

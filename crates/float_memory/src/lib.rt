@@ -1,5 +1,5 @@
 // The crate memory in float arithmetic: the value at the next index of the path. The path's bits
-// stand in path as there, and the rows of the blocks that lead to an index are floats.
+// are in path as there, and the rows of the blocks that lead to an index are floats.
 ghost use mathlib.Core.Path.{_≡_};
 ghost use Prim.Native.Nat.{_+_, _^_, _%_, _≤_, _<_};
 ghost use lib.ListN.{length, take};
@@ -132,7 +132,7 @@ fn start_of_4(rows: &mut [f32], path: &[u8], word: &mut [u8], i: usize)
     float_rows::lower_row(rows, 1);
 }
 
-// The value at index i of the path, wherever the rows stand.
+// The value at index i of the path, whichever index the rows are for.
 fn any_value(
     readings: &[f32; 256],
     rows: &mut [f32; 256],
@@ -157,7 +157,7 @@ fn any_value(
     rows[1]
 }
 
-// The value at index i of the path. The rows stand for index was, and then for i. Most often i
+// The value at index i of the path. The rows are for index was, and then for i. Most often i
 // comes next, and then at most three rows, of up to four sums, have to be made for seven indices in
 // eight; two places call any_value, so that the compiler keeps it out of that short way.
 pub fn value(

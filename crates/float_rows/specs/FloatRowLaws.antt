@@ -1,4 +1,4 @@
--- Laws of the loops that fill a row of floats: the whole numbers that a turn reads and stores. The laws of `rows` do the rest.
+-- Laws of the loops that fill a row of floats: the whole numbers that a pass reads and stores. The laws of `rows` do the rest.
 use mathlib.Core.Path.{_≡_, _∙_}
 use mathlib.Core.List.{List}
 use Prim.Native.Nat.{ℕ, _+_, _≤_, _<_}

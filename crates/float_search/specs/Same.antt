@@ -1,4 +1,4 @@
--- What the float search is to give, in the request's words (docs/RULES.md, §16).
+-- What the float search gives (docs/RULES.md, §16).
 use mathlib.Core.Path.{_≡_}
 use mathlib.Core.Logic.{_↔_}
 use mathlib.Core.List.{List, [], _∷_}
@@ -10,7 +10,7 @@ use lib.Ieee.{Float}
 use Rattle.words.specs.Kinds.{kinds, dimension, Word}
 use Rattle.code.specs.Sound.{largestReading}
 use Rattle.search.specs.Outcome.{Outcome, searching}
-use Rattle.search.specs.RunnerUp.{searchingWhole}
+use Rattle.search.specs.RunnerUp.{searchingWithRunnerUp}
 use Rattle.search.specs.Demands.{SearchDemand1, SoundSearch, PlusWord, OutcomeDemands, RunnerUpDemand, LargerAllowance}
 use Rattle.decoding.specs.Readings.{turns}
 use Rattle.decoding.specs.Walk.{start, NeverZero}
@@ -35,8 +35,8 @@ turnedFloats (suc b ∷ c) (x ∷ f) = Ieee.neg x ∷ turnedFloats c f
 
 -- floats f that are the whole numbers l
 pub record SameAnswers (r m : ℕ) (f : List Float) (l : List ℤ) (bits word : List ℕ) : Type 0 where
-  -- number by number and byte by byte what the search tells and writes for l, the runner-up too
-  pub outcome : (allowed : ℕ) → searchingWhole r m allowed (wholes f) bits word ≡ searchingWhole r m allowed l bits word
+  -- number by number and byte by byte what the search reports and writes for l, the runner-up too
+  pub outcome : (allowed : ℕ) → searchingWithRunnerUp r m allowed (wholes f) bits word ≡ searchingWithRunnerUp r m allowed l bits word
   -- negated by a word, they are l negated by it
   pub negated : (c : List ℕ) → Stand (turnedFloats c f) (turns c l)
 

@@ -11,7 +11,7 @@ use Rattle.numbers.specs.Choice.{lt-or-le}
 use Rattle.code.specs.Sound.{largestReading}
 use Rattle.words.specs.Kinds.{kinds, dimension, Word}
 use Rattle.decoding.specs.Readings.{turns, Within}
-use Rattle.search.specs.RunnerUp.{searchingWhole}
+use Rattle.search.specs.RunnerUp.{searchingWithRunnerUp}
 use Rattle.search.specs.Demands.{SoundSearch}
 use Rattle.search.specs.Demand1Met.{search-demand-1}
 use Rattle.search.specs.DemandsMet.{larger-allowance, outcome-demands}
@@ -46,7 +46,7 @@ turned-stand (suc b ∷ c) (x ∷ f) (z ∷ l) h = (neg-stands (h .0), turned-st
 pub same-answers : (r m : ℕ) (f : List Float) (l : List ℤ) (bits word : List ℕ) → Stand f l → SameAnswers r m f l bits word
 same-answers r m f l bits word h =
     record {
-      outcome = λ allowed. ap (λ (k : List ℤ). searchingWhole r m allowed k bits word) (wholes-stand f l h);
+      outcome = λ allowed. ap (λ (k : List ℤ). searchingWithRunnerUp r m allowed k bits word) (wholes-stand f l h);
       negated = λ c. turned-stand c f l h;
     }
 

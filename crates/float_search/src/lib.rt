@@ -1,4 +1,5 @@
-// The public calls on readings that are floats: the search with an allowance, and the short call.
+// The float board (docs/RULES.md, §16): the search of float readings, with an allowance and the
+// short call.
 use code::Admitted;
 use code::Code;
 use code::Refusal;
@@ -10,13 +11,14 @@ ghost use lib.ListN.{length, take};
 ghost use Rattle.words.specs.Kinds.{kinds};
 ghost use Rattle.code.specs.Sound.{defaultAllowance};
 ghost use Rattle.code.specs.SoundInput.{SoundReadings};
-ghost use Rattle.search.specs.RunnerUp.{toldWhole, wholeBy, searchingWhole};
+ghost use Rattle.search.specs.RunnerUp.{runnerUpOutcomeOf, runnerUpOutcomeBy};
+ghost use Rattle.search.specs.RunnerUp.{searchingWithRunnerUp};
 ghost use Rattle.search.specs.Work.{Searchable};
 ghost use Rattle.float_numbers.specs.Whole.{wholes};
 ghost use Rattle.float_walk.specs.Held.{count, Penalty};
 
-// What the search tells and writes for the whole numbers that the readings are. A float that is no
-// whole number is refused as a reading out of range is.
+// What the search reports and writes for the whole numbers that the readings are. A float that is
+// no whole number is refused as a reading out of range is.
 pub fn search_float_within(
     r: u32,
     m: u32,
@@ -25,8 +27,8 @@ pub fn search_float_within(
     bits: &mut [u8],
     word: &mut [u8],
 ) -> WithRunnerUp
-    ensures { λ answer. ⌜ toldWhole answer (now (bits .exit)) (now (word .exit))
-        ≡ searchingWhole r m allowed (wholes (now (readings .entry)))
+    ensures { λ answer. ⌜ runnerUpOutcomeOf answer (now (bits .exit)) (now (word .exit))
+        ≡ searchingWithRunnerUp r m allowed (wholes (now (readings .entry)))
         (now (bits .entry)) (now (word .entry)) ⌝ }
 {
     match float_code::admit(r, m, readings, bits.len(), word.len()) {
@@ -43,8 +45,8 @@ pub fn search_float(
     bits: &mut [u8],
     word: &mut [u8],
 ) -> WithRunnerUp
-    ensures { λ answer. ⌜ toldWhole answer (now (bits .exit)) (now (word .exit))
-        ≡ searchingWhole r m defaultAllowance (wholes (now (readings .entry)))
+    ensures { λ answer. ⌜ runnerUpOutcomeOf answer (now (bits .exit)) (now (word .exit))
+        ≡ searchingWithRunnerUp r m defaultAllowance (wholes (now (readings .entry)))
         (now (bits .entry)) (now (word .entry)) ⌝ }
 {
     search_float_within(r, m, Code::DEFAULT_ALLOWANCE, readings, bits, word)
@@ -59,9 +61,9 @@ fn search_sound(
 ) -> WithRunnerUp
     requires { ⌜ SoundReadings code (wholes (now readings))
         (length (now bits)) (length (now word)) ⌝ }
-    ensures { λ r. ⌜ toldWhole r (now (bits .exit)) (now (word .exit))
-        ≡ wholeBy (code .m) (kinds (code .r) (code .m)) (wholes (now (readings .entry))) allowed
-        (now (bits .entry)) (now (word .entry)) ⌝ }
+    ensures { λ r. ⌜ runnerUpOutcomeOf r (now (bits .exit)) (now (word .exit))
+        ≡ runnerUpOutcomeBy (code .m) (kinds (code .r) (code .m)) (wholes (now (readings .entry)))
+        allowed (now (bits .entry)) (now (word .entry)) ⌝ }
 {
     let mut kinds = [0u8; 256];
     let mut own = [0.0f32; 256];
@@ -94,8 +96,8 @@ fn search_kinds(
 ) -> WithRunnerUp
     requires { ⌜ Searchable m (take (2 ^ m) (wholes (now readings))) (take (2 ^ m) (now kinds))
         (now bits) (now word) ⌝ }
-    ensures { λ r. ⌜ toldWhole r (now (bits .exit)) (now (word .exit))
-        ≡ wholeBy m (take (2 ^ m) (now (kinds .entry)))
+    ensures { λ r. ⌜ runnerUpOutcomeOf r (now (bits .exit)) (now (word .exit))
+        ≡ runnerUpOutcomeBy m (take (2 ^ m) (now (kinds .entry)))
         (take (2 ^ m) (wholes (now (readings .entry))))
         allowed (now (bits .entry)) (now (word .entry)) ⌝ }
 {

@@ -1,4 +1,4 @@
--- What the float walk holds and counts, and its laws
+-- The walk in floats: what it holds and counts, and its laws
 pub mod Held
 pub mod PenaltyLaws
 pub mod HeldLaws

@@ -1,4 +1,4 @@
--- What C-24 wants shown of the transform, for every m and rows of whole numbers of any size. That it holds is proved in TheoremsMet.
+-- The theorems on the transform (docs/RULES.md, §13), for every m and rows of whole numbers of any size. That it holds is proved in TheoremsMet.
 use mathlib.Core.Path.{_≡_}
 use mathlib.Core.List.{List, _++_, map}
 use Prim.Native.Nat.{ℕ, suc, _+_, _*_, _^_, _≤_, _<_}

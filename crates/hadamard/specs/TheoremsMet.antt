@@ -1,4 +1,4 @@
--- What C-24 wants shown of the transform holds.
+-- The theorems on the transform hold.
 use mathlib.Core.Path.{_≡_, refl, ap, sym, _∙_}
 use mathlib.Core.List.{List}
 use Prim.Native.Nat.{ℕ, _*_, _^_, _%_, _≤_, _<_}

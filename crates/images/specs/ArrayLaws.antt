@@ -1,4 +1,4 @@
--- Laws of the loops over the arrays of images, places and columns: what holds before each turn, and what a turn does.
+-- Laws of the loops over the arrays of images, places and columns: what holds before each pass, and what a pass does.
 use mathlib.Core.Path.{_≡_, refl, ap, ap₂, sym, _∙_}
 use mathlib.Core.Logic.{⊎-elim}
 use mathlib.Core.Bool.{true, false}
@@ -100,7 +100,7 @@ placed-more j images places h s =
       ];
     })
 
--- ---- no two images are equal exactly if each stands at its own place
+-- ---- no two images are equal exactly if each is at its own place
 -- where some position has the value, the highest has it
 where-hit : (f : ℕ → ℕ) (v n i : ℕ) → i < n → f i ≡ v → (whereIs f v n < n) × (f (whereIs f v n) ≡ v)
 unfolding whereIs

@@ -46,7 +46,7 @@ pub record Taken (m : ℕ) (A b : List ℕ) (good : Bool) (images places : List 
   pub images-are : good ≡ true → Shows (image m A []) (2 ^ m) images
   pub places-are : good ≡ true → Shows (λ v. whereIs (image m A []) v (2 ^ m)) 256 places
 
-pub record MapTold (m : ℕ) (A b : List ℕ) (good : Bool) (images : List ℕ) : Type 0 where
+pub record MapTested (m : ℕ) (A b : List ℕ) (good : Bool) (images : List ℕ) : Type 0 where
   pub tells : good ≡ isMap m A b
   pub images-are : good ≡ true → Shows (image m A []) (2 ^ m) images
 

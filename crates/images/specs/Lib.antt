@@ -1,4 +1,4 @@
--- Definitions: the test whether there is an undo map, and what the arrays of images, places and columns hold
+-- Maps of positions at work (docs/RULES.md, §12): what the arrays of images, places and columns hold
 pub mod Images
 -- Laws of images as numbers, of the loops, and of what is moved and put
 pub mod ImagesLaws

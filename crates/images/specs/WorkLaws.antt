@@ -24,7 +24,7 @@ use Rattle.maps.specs.ImageLaws.{image-bit, image-below, digit-image, image-sam
 use Rattle.maps.specs.CountLaws.{where-met}
 use Rattle.maps.specs.UndoLaws.{image-added, undoable-apart, undo-after}
 use Rattle.maps.specs.TestLaws.{tested, can-undo}
-use Rattle.images.specs.Images.{isMap, Shows, Placed, Taken, MapTold, Moves, moved, UndoPut, ProductPut}
+use Rattle.images.specs.Images.{isMap, Shows, Placed, Taken, MapTested, Moves, moved, UndoPut, ProductPut}
 use Rattle.images.specs.ImagesLaws.{number-small, image-row}
 use Rattle.images.specs.ArrayLaws.{some-side}
 
@@ -98,8 +98,8 @@ module _ (m : ℕ) (A b images places : List ℕ) where
         places-are = λ g v h. p .is-place v h ∙ ap (whereIs f v) e ∙ where-same f (image m A []) v (2 ^ m) s;
       }
 
-pub map-told : (m : ℕ) (A b : List ℕ) (good : Bool) (images places : List ℕ) → Taken m A b good images places → MapTold m A b good images
-map-told m A b good images places t = record { tells = t .tells; images-are = t .images-are }
+pub map-tested : (m : ℕ) (A b : List ℕ) (good : Bool) (images places : List ℕ) → Taken m A b good images places → MapTested m A b good images
+map-tested m A b good images places t = record { tells = t .tells; images-are = t .images-are }
 
 -- ---- a row as a table of one column
 pub row-number : (m : ℕ) (b : List ℕ) → number m (λ p. getD b (p * 1 + 0) 0) ≡ number m (λ p. getD b p 0)

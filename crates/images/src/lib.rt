@@ -1,4 +1,5 @@
-// Work on the images of all positions, which stand in one array of 256, and on columns of tables.
+// Maps of positions at work (docs/RULES.md, §12): the images of all positions, in one array of 256,
+// and columns of tables.
 ghost use mathlib.Core.Path.{_≡_};
 ghost use mathlib.Core.List.{[]};
 ghost use Prim.Native.Nat.{_+_, _*_, _^_, _%_, _/_, _≤_, _<_};
@@ -7,12 +8,13 @@ ghost use lib.IntN.{pos};
 ghost use Rattle.words.specs.Bits.{Bits};
 ghost use Rattle.code.specs.Sound.{largestM};
 ghost use Rattle.maps.specs.Maps.{number, image, allApart};
-ghost use Rattle.images.specs.Images.{Shows, Doubled, Placed, Mapped, Taken, MapTold};
+ghost use Rattle.images.specs.Images.{Shows, Doubled, Placed, Mapped, Taken, MapTested};
 ghost use Rattle.images.specs.Images.{Moves, moved, spreadOf, UndoPut, ProductPut};
 
 // The number whose bit p is the entry at row p and column q of a table of m rows.
 pub fn column(table: &[u8], width: usize, q: usize, m: usize) -> u8
-    requires { ⌜ (m ≤ largestM) × (q < width) × (length (now table) ≡ m * width) × Bits (now table) ⌝ }
+    requires { ⌜ (m ≤ largestM) × (q < width)
+        × (length (now table) ≡ m * width) × Bits (now table) ⌝ }
     ensures { λ x. ⌜ x ≡ number m (λ p. getD (now (table .entry)) (p * width + q) 0) ⌝ }
 {
     let mut x = 0;
@@ -103,7 +105,7 @@ pub fn take_map(m: usize, table: &[u8], row: &[u8], images: &mut [u8], places: &
 // The same where the places are of no use.
 pub fn is_map(m: usize, table: &[u8], row: &[u8], images: &mut [u8]) -> bool
     requires { ⌜ Mapped m (now table) (now row) × (length (now images) ≡ 256) ⌝ }
-    ensures { λ good. ⌜ MapTold m (now (table .entry)) (now (row .entry)) good
+    ensures { λ good. ⌜ MapTested m (now (table .entry)) (now (row .entry)) good
         (now (images .exit)) ⌝ }
 {
     let mut places = [0u8; 256];

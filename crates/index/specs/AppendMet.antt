@@ -22,7 +22,7 @@ use Rattle.index.specs.declared.Index.{Index}
 use Rattle.index.specs.declared.Indexed.the-variants.{Done}
 use Rattle.index.specs.declared.Place.the-variants.{At}
 use Rattle.index.specs.Steps.{bytesAt, stepped, Starts, these, andThese, startsAt, startsOf}
-use Rattle.index.specs.Making.{every, entriesOf, indexOf, told, madeBy, making, Room, withEntry, listOf}
+use Rattle.index.specs.Making.{every, entriesOf, indexOf, outcomeOf, madeBy, making, Room, withEntry, listOf}
 use Rattle.index.specs.Appending.{AppendOutcome, full, appended, appending, Fitting}
 use Rattle.index.specs.Own.{Belongs, MadeAfresh}
 use Rattle.index.specs.StepsLaws.{Goes, step-next, starts-end, starts-next, starts-begin, starts-none}
@@ -62,7 +62,7 @@ every-miss (suc k) [] u h e = refl
 every-miss zero (x ∷ l) u h e = ap (λ (y : List ℕ). x ∷ y) (every-miss 15 l u (omega arith) (λ z. e (omega arith)))
 every-miss (suc k) (x ∷ l) u h e = every-miss k l u (omega arith) (λ z. e (omega arith))
 
--- an entry behind those that stand at the front of the table
+-- an entry behind those at the front of the table
 set-behind : (e t : List ℕ) (u : ℕ) → take (length e) t ≡ e → length e < length t → (e ++ (u ∷ [])) ++ drop (length e + 1) t ≡ set t (length e) u
 set-behind [] [] u f h = absurd (omega arith)
 set-behind [] (y ∷ t) u f h = refl
@@ -188,7 +188,7 @@ module _ (index : Index) (r m : ℕ) (l : List ℤ) (d t : List ℕ) where
         ∙ ap (λ (u : ℕ). these (all ++ (u ∷ []))) length-old
 
     made-afresh : full index (length t) ≡ false
-        → making new t ≡ told (Done (indexOf (suc (index .records)) (wrote .next))) (withEntry (index .records) (index .used) t)
+        → making new t ≡ outcomeOf (Done (indexOf (suc (index .records)) (wrote .next))) (withEntry (index .records) (index .used) t)
     unfolding making
     made-afresh free =
         let longer = all ++ (index .used ∷ []) in
@@ -198,9 +198,9 @@ module _ (index : Index) (r m : ℕ) (l : List ℤ) (d t : List ℕ) where
         let count : length longer ≡ suc (index .records) = omega (arith, length-append all (index .used ∷ []), b .count) in
         ap (λ (x : Starts). madeBy x new t) starts-new
         ∙ sym (made-whole new t (these longer) refl (e .enough))
-        ∙ ap (λ (n : ℕ). told (Done (indexOf n (length new))) (made ++ drop (length made) t)) count
-        ∙ ap (λ (n : ℕ). told (Done (indexOf (suc (index .records)) n)) (made ++ drop (length made) t)) length-new
-        ∙ ap (told (Done (indexOf (suc (index .records)) (wrote .next)))) (e .same ∙ ap (λ (n : ℕ). withEntry n (index .used) t) (sym (b .count)))
+        ∙ ap (λ (n : ℕ). outcomeOf (Done (indexOf n (length new))) (made ++ drop (length made) t)) count
+        ∙ ap (λ (n : ℕ). outcomeOf (Done (indexOf (suc (index .records)) n)) (made ++ drop (length made) t)) length-new
+        ∙ ap (outcomeOf (Done (indexOf (suc (index .records)) (wrote .next)))) (e .same ∙ ap (λ (n : ℕ). withEntry n (index .used) t) (sym (b .count)))
 
 pub append-afresh : (index : Index) (r m : ℕ) (l : List ℤ) (d t : List ℕ) → Belongs index d t → appending index r m l d t .carry .number ≡ 0
     → MadeAfresh (appending index r m l d t) t

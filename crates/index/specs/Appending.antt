@@ -1,4 +1,4 @@
--- What an append tells and leaves, for all that it can be given: 1, 2, 4, then 3 for either buffer (docs/RULES.md, §14).
+-- What an append reports and leaves, for every input: 1, 2, 4, then 3 for either buffer (docs/RULES.md, §14).
 use mathlib.Core.Path.{_≡_}
 use mathlib.Core.List.{List}
 use mathlib.Core.Bool.{Bool, true, false, cond}
@@ -27,9 +27,9 @@ pub record AppendOutcome : Type 0 where
   pub table : List ℕ
 
 -- the answer in the rules' numbers
-abbrev pub toldAppend : Indexed → List ℕ → List ℕ → AppendOutcome
-toldAppend (Done index) capture table = record { carry = carrying 0 0 0 0; index = index; capture = capture; table = table }
-toldAppend (Refused why) capture table = record { carry = carried why; index = indexOf 0 0; capture = capture; table = table }
+abbrev pub appendOutcomeOf : Indexed → List ℕ → List ℕ → AppendOutcome
+appendOutcomeOf (Done index) capture table = record { carry = carrying 0 0 0 0; index = index; capture = capture; table = table }
+appendOutcomeOf (Refused why) capture table = record { carry = carried why; index = indexOf 0 0; capture = capture; table = table }
 
 -- the largest number that a count of records can be; no capture has so many
 abbrev pub largestCount : ℕ
@@ -40,16 +40,16 @@ abbrev pub full : Index → ℕ → Bool
 full index entries =
     cond (eqb (index .records) largestCount) true (cond (eqb (index .records % block) 0) (leb entries (index .records / block)) false)
 
--- C-11's writer at the end of the used part, and the new record's entry if it has one
+-- the writer of records at the end of the used part, and the new record's entry if it has one
 abbrev pub appended : Index → ℕ → ℕ → List ℤ → List ℕ → List ℕ → AppendOutcome
 appended index r m l capture table =
     let wrote = writing r m l capture (index .used) in
-    toldAppend (Done (indexOf (suc (index .records)) (wrote .next))) (wrote .buffer) (withEntry (index .records) (index .used) table)
+    appendOutcomeOf (Done (indexOf (suc (index .records)) (wrote .next))) (wrote .buffer) (withEntry (index .records) (index .used) table)
 
 abbrev pub appendedBy : Admitted → Index → ℕ → ℕ → List ℤ → List ℕ → List ℕ → AppendOutcome
-appendedBy (admission.Refused why) index r m l capture table = toldAppend (Refused why) capture table
+appendedBy (admission.Refused why) index r m l capture table = appendOutcomeOf (Refused why) capture table
 appendedBy (admission.Allowed c) index r m l capture table =
-    cond (full index (length table)) (toldAppend (Refused OutputLength) capture table) (appended index r m l capture table)
+    cond (full index (length table)) (appendOutcomeOf (Refused OutputLength) capture table) (appended index r m l capture table)
 
 -- of the index, r, m, the readings, the capture's buffer and the table
 unfoldable pub appending : Index → ℕ → ℕ → List ℤ → List ℕ → List ℕ → AppendOutcome

@@ -20,7 +20,7 @@ use Rattle.record.specs.Writing.{WrittenOutcome, writable, writtenBy, writing}
 use Rattle.index.specs.declared.Index.{Index}
 use Rattle.index.specs.declared.Indexed.the-variants.{Done, Refused}
 use Rattle.index.specs.Making.{Room, indexOf, withEntry}
-use Rattle.index.specs.Appending.{toldAppend, largestCount, full, appended, appendedBy, appending, Fitting}
+use Rattle.index.specs.Appending.{appendOutcomeOf, largestCount, full, appended, appendedBy, appending, Fitting}
 
 -- ---- room for the entry and for the count
 module _ (index : Index) (entries : ℕ) (free : full index entries ≡ false) where
@@ -35,12 +35,12 @@ module _ (index : Index) (entries : ℕ) (free : full index entries ≡ false) w
 
 module _ (index : Index) (r m : ℕ) (l : List ℤ) (d t : List ℕ) where
   pub append-refused : (why : Refusal) → admission.Refused why ≡ writable r m l (length d) (index .used)
-      → toldAppend (Refused why) d t ≡ appending index r m l d t
+      → appendOutcomeOf (Refused why) d t ≡ appending index r m l d t
   unfolding appending
   append-refused why e = ap (λ (a : Admitted). appendedBy a index r m l d t) e
 
   module _ (c : Code) (e : admission.Allowed c ≡ writable r m l (length d) (index .used)) where
-    pub append-full : full index (length t) ≡ true → toldAppend (Refused OutputLength) d t ≡ appending index r m l d t
+    pub append-full : full index (length t) ≡ true → appendOutcomeOf (Refused OutputLength) d t ≡ appending index r m l d t
     unfolding appending
     append-full f = rw (← e, f)
 
@@ -53,15 +53,15 @@ module _ (index : Index) (r m : ℕ) (l : List ℤ) (d t : List ℕ) where
     append-done f = rw (← e, f)
 
   -- what is written, and its entry
-  pub append-wrote : (next : ℕ) (d′ t′ : List ℕ) → Writing.told (writer.Next next) d′ ≡ writing r m l d (index .used)
+  pub append-wrote : (next : ℕ) (d′ t′ : List ℕ) → Writing.outcomeOf (writer.Next next) d′ ≡ writing r m l d (index .used)
       → t′ ≡ withEntry (index .records) (index .used) t
-      → toldAppend (Done (indexOf (index .records + 1) next)) d′ t′ ≡ appended index r m l d t
+      → appendOutcomeOf (Done (indexOf (index .records + 1) next)) d′ t′ ≡ appended index r m l d t
   append-wrote next d′ t′ e f =
       let one : index .records + 1 ≡ suc (index .records) = omega arith in
-      rw (one, f) (ap (λ (o : WrittenOutcome). toldAppend (Done (indexOf (suc (index .records)) (o .next)))
+      rw (one, f) (ap (λ (o : WrittenOutcome). appendOutcomeOf (Done (indexOf (suc (index .records)) (o .next)))
       (o .buffer) (withEntry (index .records) (index .used) t)) e)
 
   -- the writer does not refuse where none of the tests applies
   pub append-writes : {A : Type 0} (why : Refusal) (d′ : List ℕ) (entries : ℕ) → Fitting index r m l d entries
-      → Writing.told (writer.Refused why) d′ ≡ writing r m l d (index .used) → A
+      → Writing.outcomeOf (writer.Refused why) d′ ≡ writing r m l d (index .used) → A
   append-writes why d′ entries f e = absurd (omega (arith, number-above why, ap (λ (o : WrittenOutcome). o .carry .number) e, f .writes))

@@ -9,7 +9,7 @@ use lib.ListN.{length, getD, drop}
 use Rattle.code.specs.declared.Refusal.{Refusal}
 use Rattle.code.specs.declared.Refusal.the-variants.{Parameters, OutputLength, Torn, NoEntry}
 use Rattle.code.specs.Demand1.{View, Checks, passed, check, Demand1}
-use Rattle.record.specs.Reader.{told}
+use Rattle.record.specs.Reader.{outcomeOf}
 use Rattle.record.specs.Demands.{headerChecks, headerView, writeChecks}
 use Rattle.index.specs.declared.Index.{Index}
 use Rattle.index.specs.declared.Place.{Place}
@@ -39,10 +39,10 @@ findChecks s table w =
     (check Torn (length s ≤ entry) (steppingChecks s (Steps.passed s (w % block) entry)))
 
 pub record FindDemand1 (s table : List ℕ) (w : ℕ) : Type 0 where
-  pub checked : Demand1 (findChecks s table w) [] (headerView (told (headerIn s table w)))
+  pub checked : Demand1 (findChecks s table w) [] (headerView (outcomeOf (headerIn s table w)))
   -- under every refusal r and m are 0, the part is empty, and its start is 0
-  pub unsaid : let o = told (headerIn s table w) in 0 < o .carry .number → (o .r ≡ 0) × (o .m ≡ 0)
-  pub no-part : 0 < told (headerIn s table w) .carry .number → (partIn s table w ≡ []) × (partStart s table w ≡ 0)
+  pub unsaid : let o = outcomeOf (headerIn s table w) in 0 < o .carry .number → (o .r ≡ 0) × (o .m ≡ 0)
+  pub no-part : 0 < outcomeOf (headerIn s table w) .carry .number → (partIn s table w ≡ []) × (partStart s table w ≡ 0)
 
 -- ---- making: 1 or 8, whichever is met first in the whole capture, then 3
 abbrev pub madeView : IndexOutcome → View

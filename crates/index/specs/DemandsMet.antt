@@ -13,7 +13,7 @@ use Rattle.code.specs.declared.Refusal.the-variants.{Parameters, Torn}
 use Rattle.code.specs.Demand1Laws.{Decides, demand-1}
 use Rattle.record.specs.declared.Header.{Header}
 use Rattle.record.specs.declared.Header.the-variants as header
-use Rattle.record.specs.Reader.{headerOf, told, partBy}
+use Rattle.record.specs.Reader.{headerOf, outcomeOf, partBy}
 use Rattle.record.specs.Demands.{headerView}
 use Rattle.record.specs.DemandsMet.{header-decides, header-none}
 use Rattle.index.specs.declared.Place.{Place}
@@ -55,13 +55,13 @@ passed-why s (suc count) at why e = by (λ next f. passed-why s count next why f
 
 -- ---- the checks
 stepping-decides : (s : List ℕ) (led : Place) → ((why : Refusal) → led ≡ Refused why → OneOrEight why)
-    → Decides [] (headerView (told (headerAt s (asStart s led)))) (steppingChecks s led)
+    → Decides [] (headerView (outcomeOf (headerAt s (asStart s led)))) (steppingChecks s led)
 stepping-decides s (Refused why) of =
     ⊎-elim
-    (λ e. inl (ap Refused e, ap (λ (w : Refusal). headerView (told (header.Refused w))) e))
+    (λ e. inl (ap Refused e, ap (λ (w : Refusal). headerView (outcomeOf (header.Refused w))) e))
     (λ e. inr (
       λ x. let z : _≡_ {A = ℕ} 0 1 = cc in omega arith,
-      inl (ap Refused e, ap (λ (w : Refusal). headerView (told (header.Refused w))) e),
+      inl (ap Refused e, ap (λ (w : Refusal). headerView (outcomeOf (header.Refused w))) e),
     ))
     (of why refl)
 stepping-decides s (At p) of =
@@ -77,7 +77,7 @@ stepping-decides s (At p) of =
     )
 
 module _ (s table : List ℕ) (w : ℕ) where
-  find-decides : Decides [] (headerView (told (headerIn s table w))) (findChecks s table w)
+  find-decides : Decides [] (headerView (outcomeOf (headerIn s table w))) (findChecks s table w)
   find-decides =
       let entry = getD table (w / block) 0 in
       let led = passed s (w % block) entry in
@@ -87,28 +87,28 @@ module _ (s table : List ℕ) (w : ℕ) where
         ⊎-elim
             (λ inside. inr (
               λ x. omega arith,
-              subst (λ (p : Place). Decides [] (headerView (told (headerAt s p))) (steppingChecks s led)) (sym (start-by s table w there inside))
+              subst (λ (p : Place). Decides [] (headerView (outcomeOf (headerAt s p))) (steppingChecks s led)) (sym (start-by s table w there inside))
                   (stepping-decides s led (passed-why s (w % block) entry)),
             ))
-            (λ past. inl (past, ap (λ (p : Place). headerView (told (headerAt s p))) (sym (start-past s table w there past))))
+            (λ past. inl (past, ap (λ (p : Place). headerView (outcomeOf (headerAt s p))) (sym (start-past s table w there past))))
             (lt-or-le entry (length s)),
       ))
-      (λ none. inl (none, ap (λ (p : Place). headerView (told (headerAt s p))) (sym (start-none s table w none))))
+      (λ none. inl (none, ap (λ (p : Place). headerView (outcomeOf (headerAt s p))) (sym (start-none s table w none))))
       (lt-or-le (w / block) (length table))
 
 -- ---- no part under a refusal
-header-no-part : (h : Header) (s : List ℕ) (start : ℕ) → 0 < told h .carry .number → (partBy h s ≡ []) × (partAfter h start ≡ 0)
+header-no-part : (h : Header) (s : List ℕ) (start : ℕ) → 0 < outcomeOf h .carry .number → (partBy h s ≡ []) × (partAfter h start ≡ 0)
 header-no-part (header.Refused why) s start k = (refl, refl)
 header-no-part (header.Record c) s start k = absurd (omega arith)
 
-place-no-part : (s : List ℕ) (p : Place) → 0 < told (headerAt s p) .carry .number → (partAt s p ≡ []) × (partStartAt s p ≡ 0)
+place-no-part : (s : List ℕ) (p : Place) → 0 < outcomeOf (headerAt s p) .carry .number → (partAt s p ≡ []) × (partStartAt s p ≡ 0)
 place-no-part s (Refused why) k = (refl, refl)
 place-no-part s (At start) k = header-no-part (headerOf (drop start s)) (drop start s) start k
 
 pub find-demand-1 : (s table : List ℕ) (w : ℕ) → FindDemand1 s table w
 find-demand-1 s table w =
     record {
-      checked = demand-1 [] (headerView (told (headerIn s table w))) (findChecks s table w) (find-decides s table w);
+      checked = demand-1 [] (headerView (outcomeOf (headerIn s table w))) (findChecks s table w) (find-decides s table w);
       unsaid = header-none (headerIn s table w);
       no-part = place-no-part s (startIn s table w);
     }

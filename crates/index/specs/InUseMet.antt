@@ -1,4 +1,4 @@
--- A table that belongs to a capture finds its records, whatever stands in the entries past its own; and the part that is found stands where it is told.
+-- A table that belongs to a capture finds its records, whatever the entries past its own hold; and the part that is found is where the answer says.
 use mathlib.Core.Path.{_≡_, refl, ap, sym, _∙_}
 use mathlib.Core.List.{List}
 use Prim.Native.Nat.{ℕ, _+_, _/_, _≤_, _<_}
@@ -39,7 +39,7 @@ found-in-use index capture table b w h =
     let is = same-start s own table w (b .entries) there ∙ own-start s own (record { whole = b .whole; own = refl }) w there in
     record { header = ap (headerAt s) is; part = ap (partAt s) is }
 
--- ---- the part stands where it is told
+-- ---- the part is where the answer says
 header-stands : (s : List ℕ) (start : ℕ) (h : Header)
     → partBy h (drop start s) ≡ take (length (partBy h (drop start s))) (drop (partAfter h start) s)
 header-stands s start (header.Refused why) = refl

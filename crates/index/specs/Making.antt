@@ -1,4 +1,4 @@
--- What making an index tells and leaves, for all that it can be given: 1 or 8, whichever is met first, then 3 (docs/RULES.md, §14).
+-- What making an index reports and leaves, for every input: 1 or 8, whichever is met first, then 3 (docs/RULES.md, §14).
 use mathlib.Core.Path.{_≡_}
 use mathlib.Core.List.{List, [], _∷_, _++_}
 use mathlib.Core.Bool.{cond}
@@ -36,16 +36,16 @@ pub record IndexOutcome : Type 0 where
   pub table : List ℕ
 
 -- the answer in the rules' numbers
-abbrev pub told : Indexed → List ℕ → IndexOutcome
-told (Done index) table = record { carry = carrying 0 0 0 0; index = index; table = table }
-told (Refused why) table = record { carry = carried why; index = indexOf 0 0; table = table }
+abbrev pub outcomeOf : Indexed → List ℕ → IndexOutcome
+outcomeOf (Done index) table = record { carry = carrying 0 0 0 0; index = index; table = table }
+outcomeOf (Refused why) table = record { carry = carried why; index = indexOf 0 0; table = table }
 
 abbrev pub madeBy : Starts → List ℕ → List ℕ → IndexOutcome
-madeBy (refused why) s table = told (Refused why) table
+madeBy (refused why) s table = outcomeOf (Refused why) table
 madeBy (these l) s table =
     let made = entriesOf l in
-    cond (ltb (length table) (length made)) (told (Refused OutputLength) table)
-    (told (Done (indexOf (length l) (length s))) (made ++ drop (length made) table))
+    cond (ltb (length table) (length made)) (outcomeOf (Refused OutputLength) table)
+    (outcomeOf (Done (indexOf (length l) (length s))) (made ++ drop (length made) table))
 
 -- of the capture and the table
 unfoldable pub making : List ℕ → List ℕ → IndexOutcome

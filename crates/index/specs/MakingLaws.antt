@@ -16,7 +16,7 @@ use Rattle.index.specs.declared.Indexed.the-variants.{Done, Refused}
 use Rattle.index.specs.declared.Counted.the-variants as count
 use Rattle.index.specs.declared.Place.the-variants as place
 use Rattle.index.specs.Steps.{bytesAt, stepped, Starts, these, refused, andThese, startsAt, startsOf}
-use Rattle.index.specs.Making.{every, entriesOf, indexOf, told, madeBy, making, counted, entriesFor, Room, withEntry, listOf, Enterable, entered}
+use Rattle.index.specs.Making.{every, entriesOf, indexOf, outcomeOf, madeBy, making, counted, entriesFor, Room, withEntry, listOf, Enterable, entered}
 use Rattle.index.specs.StepsLaws.{Goes, Begins, starts-end, starts-next, starts-refused, starts-begin, starts-none}
 
 -- ---- counting
@@ -169,25 +169,25 @@ module _ (s table : List ℕ) where
   pub counted-whole : (n : ℕ) → count.Records n ≡ counted 0 (startsOf s) → Whole n
   counted-whole n e = let r = counted-by n (startsOf s) e in record { whole = r .0; count = r .1 }
 
-  made-refused : (why : Refusal) (t : Starts) → count.Refused why ≡ counted 0 t → told (Refused why) table ≡ madeBy t s table
-  made-refused why (refused why′) e = let same : why ≡ why′ = cc in ap (λ (w : Refusal). told (Refused w) table) same
+  made-refused : (why : Refusal) (t : Starts) → count.Refused why ≡ counted 0 t → outcomeOf (Refused why) table ≡ madeBy t s table
+  made-refused why (refused why′) e = let same : why ≡ why′ = cc in ap (λ (w : Refusal). outcomeOf (Refused w) table) same
   made-refused why (these l) e = let z : _≡_ {A = ℕ} 0 1 = cc in absurd (omega arith)
 
-  made-short : (t : Starts) → t ≡ these (listOf t) → length table < length (entriesOf (listOf t)) → told (Refused OutputLength) table ≡ madeBy t s table
+  made-short : (t : Starts) → t ≡ these (listOf t) → length table < length (entriesOf (listOf t)) → outcomeOf (Refused OutputLength) table ≡ madeBy t s table
   made-short (refused why) e h = let z : _≡_ {A = ℕ} 0 1 = cc in absurd (omega arith)
   made-short (these l) e h = rw (lt-ltb (length table) (length (entriesOf l)) h)
 
   pub made-whole : (t : Starts) → t ≡ these (listOf t) → length (entriesOf (listOf t)) ≤ length table
-      → told (Done (indexOf (length (listOf t)) (length s))) (entriesOf (listOf t) ++ drop (length (entriesOf (listOf t))) table) ≡ madeBy t s table
+      → outcomeOf (Done (indexOf (length (listOf t)) (length s))) (entriesOf (listOf t) ++ drop (length (entriesOf (listOf t))) table) ≡ madeBy t s table
   made-whole (refused why) e h = let z : _≡_ {A = ℕ} 0 1 = cc in absurd (omega arith)
   made-whole (these l) e h = rw (le-ltb (length table) (length (entriesOf l)) h)
 
-  pub make-refused : (why : Refusal) → count.Refused why ≡ counted 0 (startsOf s) → told (Refused why) table ≡ making s table
+  pub make-refused : (why : Refusal) → count.Refused why ≡ counted 0 (startsOf s) → outcomeOf (Refused why) table ≡ making s table
   unfolding making
   make-refused why e = made-refused why (startsOf s) e
 
   module _ (n : ℕ) (w : Whole n) where
-    pub make-short : length table < entriesFor n → told (Refused OutputLength) table ≡ making s table
+    pub make-short : length table < entriesFor n → outcomeOf (Refused OutputLength) table ≡ making s table
     unfolding making
     make-short h =
         let same = w .count in
@@ -198,8 +198,8 @@ module _ (s table : List ℕ) where
         let same = w .count in
         record { whole = w .whole; enough = omega (arith, length-entries (listOf (startsOf s)), rw same at h) }
 
-    pub make-done : entriesFor n ≤ length table → told (Done (indexOf n (length s))) (entered s table) ≡ making s table
+    pub make-done : entriesFor n ≤ length table → outcomeOf (Done (indexOf n (length s))) (entered s table) ≡ making s table
     unfolding making
     make-done h =
-        ap (λ (n : ℕ). told (Done (indexOf n (length s))) (entered s table)) (w .count)
+        ap (λ (n : ℕ). outcomeOf (Done (indexOf n (length s))) (entered s table)) (w .count)
         ∙ made-whole (startsOf s) (w .whole) (make-room h .enough)

@@ -1,4 +1,4 @@
--- What is promised of a capture's own table, and of any table (C-16). Met in OwnMet, AppendMet, BelongsMet and InUseMet.
+-- What is promised of a capture's own table, and of any table (docs/RULES.md, §14). Met in OwnMet, AppendMet, BelongsMet and InUseMet.
 use mathlib.Core.Path.{_≡_}
 use mathlib.Core.List.{List, _++_}
 use Prim.Native.Nat.{ℕ, _/_, _≤_, _<_}
@@ -9,7 +9,7 @@ use Rattle.index.specs.declared.Indexed.the-variants.{Done}
 use Rattle.index.specs.declared.Place.the-variants.{Refused}
 use Rattle.index.specs.Steps.{these, startsOf}
 use Rattle.index.specs.Finding.{block, startIn, fromBeginning, headerAt, partAt, headerIn, partIn}
-use Rattle.index.specs.Making.{entriesOf, told, making, listOf}
+use Rattle.index.specs.Making.{entriesOf, outcomeOf, making, listOf}
 use Rattle.index.specs.Appending.{AppendOutcome}
 
 -- a capture of whole records, and the entries that are made of it
@@ -48,4 +48,4 @@ pub record FoundInUse (index : Index) (capture table : List ℕ) (w : ℕ) : Typ
 
 -- what an append leaves is what is made afresh of the longer capture
 abbrev pub MadeAfresh : AppendOutcome → List ℕ → Type 0
-MadeAfresh o table = making (take (o .index .used) (o .capture)) table ≡ told (Done (o .index)) (o .table)
+MadeAfresh o table = making (take (o .index .used) (o .capture)) table ≡ outcomeOf (Done (o .index)) (o .table)

@@ -5,8 +5,9 @@ use mathlib.Core.Bool.{cond}
 use Prim.Native.Nat.{ℕ, zero, suc, _+_, _/_, _%_}
 use Prim.Native.Char.{code}
 use Prim.Native.String as Text
-use lib.ListN.{length, take, drop}
+use lib.ListN.{length}
 use lib.Dec.{ltb}
+use Rattle.numbers.specs.Laid.{laidAt}
 
 -- the bytes of a text
 unfoldable pub bytesOf : Text.String → List ℕ
@@ -44,11 +45,7 @@ refusedLine w why = decimal w ++ bytesOf " refused " ++ decimal why ++ bytesOf "
 unfoldable pub totalLine : ℕ → ℕ → List ℕ
 totalLine read refused = decimal read ++ bytesOf " read, " ++ decimal refused ++ bytesOf " refused\n"
 
--- d with the text t from place at on
-abbrev pub written : List ℕ → ℕ → List ℕ → List ℕ
-written d at t = take at d ++ t ++ drop (at + length t) d
-
 -- what a function that writes a text leaves: its end, and the buffer
 pub record Put (d : List ℕ) (at : ℕ) (t : List ℕ) (end : ℕ) (d′ : List ℕ) : Type 0 where
   pub end-is : end ≡ at + length t
-  pub text-is : d′ ≡ written d at t
+  pub text-is : d′ ≡ laidAt at t d

@@ -10,7 +10,8 @@ use lib.Seq.{paste, take-length, take-paste, drop-paste, drop-drop}
 use borrow.Author.Tests.{lt-ltb, le-ltb}
 use Rattle.io.specs.Digits.{digits, Fewest}
 use Rattle.numbers.specs.Choice.{lt-or-le}
-use Rattle.lines.specs.Line.{bytesOf, digitByte, decimalWithin, decimal, infoText, figuresText, answerLine, refusedLine, totalLine, written, Put}
+use Rattle.numbers.specs.Laid.{laidAt}
+use Rattle.lines.specs.Line.{bytesOf, digitByte, decimalWithin, decimal, infoText, figuresText, answerLine, refusedLine, totalLine, Put}
 
 -- the rules' two lines, and a refused one
 pub record Lines : Type 0 where
@@ -24,12 +25,14 @@ pub lines : Lines
 unfolding bytesOf decimalWithin infoText figuresText answerLine refusedLine totalLine
 lines = record { answered = refl; refused = refl; total = refl; empty = refl; large = refl }
 
-written-paste : (d : List ℕ) (at : ℕ) (t : List ℕ) → written d at t ≡ paste d at t (length t)
-written-paste d at t = rw (take-length t)
+laid-paste : (d : List ℕ) (at : ℕ) (t : List ℕ) → laidAt at t d ≡ paste d at t (length t)
+laid-paste d at t =
+    let pasted : take at d ++ t ++ drop (at + length t) d ≡ paste d at t (length t) = rw (take-length t) in
+    sym (append-assoc (take at d) t (drop (at + length t) d)) ∙ pasted
 
 -- a loop has pasted all of a text
 pub pasted : (d : List ℕ) (at : ℕ) (t : List ℕ) (i : ℕ) (d′ : List ℕ) → i ≡ length t → d′ ≡ paste d at t i → Put d at t (at + i) d′
-pasted d at t i d′ e p = record { end-is = ap (λ (k : ℕ). at + k) e; text-is = p ∙ ap (paste d at t) e ∙ sym (written-paste d at t) }
+pasted d at t i d′ e p = record { end-is = ap (λ (k : ℕ). at + k) e; text-is = p ∙ ap (paste d at t) e ∙ sym (laid-paste d at t) }
 
 -- one text after another is both as one text
 pub put-then : (d : List ℕ) (at : ℕ) (t : List ℕ) (end : ℕ) (d′ u : List ℕ) (end′ : ℕ) (d″ : List ℕ)
@@ -40,11 +43,12 @@ put-then d at t end d′ u end′ d″ h p q =
     let back : drop (at + n + length u) (paste d at t n) ≡ drop (at + n + length u) d =
     sym (drop-drop (length u) (at + n) (paste d at t n)) ∙ rw (drop-paste d at t n h (omega arith)) (drop-drop (length u) (at + n) d) in
     let k : at + n + length u ≡ at + length (t ++ u) = omega (arith, length-append t u) in
+    let rest = drop (at + length (t ++ u)) d in
     record {
       end-is = q .end-is ∙ rw (p .end-is) k;
       text-is =
           q .text-is
-          ∙ rw (p .text-is, p .end-is, written-paste d at t, front, back, k, append-assoc (take at d) t u);
+          ∙ rw (p .text-is, p .end-is, laid-paste d at t, front, back, k, append-assoc (take at d) t (u ++ rest), append-assoc t u rest);
     }
 
 -- the digits that the kit's function writes are the decimal text

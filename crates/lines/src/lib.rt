@@ -1,5 +1,5 @@
-// The program's lines, written into a lent buffer from a place on. Each function gives the place
-// after what it wrote.
+// The program's lines (docs/RULES.md, §8), written into a lent buffer from a place on. Each
+// function gives the place after what it wrote.
 ghost use mathlib.Core.Path.{_≡_};
 ghost use mathlib.Core.List.{map, _++_};
 ghost use Prim.Native.Nat.{_+_, _≤_, _<_};
@@ -96,8 +96,8 @@ pub fn put_answer(
     at: usize,
 ) -> usize
     requires { ⌜ Bits (now bits) × (at + (length (now bits) + 112) ≤ length (now out)) ⌝ }
-    ensures { λ end. ⌜ Put (now (out .entry)) at (answerLine w (now (bits .entry)) penalty gap visits) end
-        (now (out .exit)) ⌝ }
+    ensures { λ end. ⌜ Put (now (out .entry)) at
+        (answerLine w (now (bits .entry)) penalty gap visits) end (now (out .exit)) ⌝ }
     ensures { λ end. ⌜ end ≤ length (now (out .entry)) ⌝ }
 {
     let end = put_info(w, bits, out, at);

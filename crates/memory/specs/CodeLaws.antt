@@ -115,10 +115,10 @@ pub first-ready : {m j i t : ℕ} {y : List ℕ} {l s : List ℤ} → ValueReady
 first-ready v o =
     record { room = v .room; inside = v .inside; some = o .within; long = v .long; small = v .small; rows = still-made o (v .before) }
 
--- a turn of the loop: the row of half as many sums is next
-pub turn-ready : {m i high t : ℕ} {y : List ℕ} {l s₀ s : List ℤ} → RowsReady m l y i high s₀ → t ≤ high → 0 < t → Made m l y i t s
+-- a pass of the loop: the row of half as many sums is next
+pub pass-ready : {m i high t : ℕ} {y : List ℕ} {l s₀ s : List ℤ} → RowsReady m l y i high s₀ → t ≤ high → 0 < t → Made m l y i t s
     → RowsReady m l y i (t - 1) s
-turn-ready {m} {i} {t = t} {y = y} {l = l} {s = s} r h k f =
+pass-ready {m} {i} {t = t} {y = y} {l = l} {s = s} r h k f =
     let e : t ≡ suc (t - 1) = omega arith in
     record {
       room = r .room;
@@ -139,7 +139,7 @@ same-arrays a e = record { long-rows = e ∙ a .long-rows; long-path = a .long-p
 -- where i starts a block of 2^t indices, below which all rows are lower rows
 module _ {m i t u : ℕ} {y : List ℕ} {l s₀ s : List ℤ} (r : RowsReady m l y i t s₀) (a : Arrays s y) (h : u ≤ t) (some : 0 < u) (f : Made m l y i u s) where
   next : RowsReady m l y i (u - 1) s
-  next = turn-ready r h some f
+  next = pass-ready r h some f
 
   more : suc (u - 1) < m
   more = omega (arith, r .some)

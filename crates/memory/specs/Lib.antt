@@ -1,4 +1,4 @@
--- Where the walk's rows stand and for which index, and laws of remaking them
+-- The walk's memory: which rows are stored where, for which index, and laws of making them again
 pub mod Memory
 pub mod RowLaws
 pub mod MadeLaws

@@ -1,4 +1,4 @@
-// The walk's memory: the value at the next index of the path. The path's bits stand in path, and
+// The walk's memory: the value at the next index of the path. The path's bits are in path, and
 // one scratch array holds the rows of the blocks that lead to an index. The word of the block
 // before a row is made where the row needs it.
 ghost use mathlib.Core.Path.{_≡_};
@@ -42,7 +42,7 @@ fn greater(a: usize, b: usize) -> usize
     if a < b { b } else { a }
 }
 
-// Of the rows that stand for index was, the highest that has to be made again for index i: of a
+// Of the rows for index was, the highest that has to be made again for index i: of a
 // block that does not hold both, or that starts at i, where a bit may have changed before it.
 pub fn top(m: usize, was: usize, i: usize) -> usize
     requires { ⌜ (0 < m) × (2 ^ m ≤ 256) × (was < 2 ^ m) × (i < 2 ^ m) ⌝ }
@@ -58,7 +58,7 @@ pub fn left_word(path: &[u8], word: &mut [u8], e: usize, h: usize, t: usize)
     ensures { λ _. ⌜ take h (now (word .exit))
         ≡ transform t (take h (drop (e - h) (now (path .entry)))) ⌝ }
 {
-    half::put_row(&path[e - h..e], &mut word[0..h], t);
+    bit_rows::put_row(&path[e - h..e], &mut word[0..h], t);
 }
 
 // The same of two bits, by straight code.
@@ -295,9 +295,9 @@ fn start_of_more(
     rows::lower_row(rows, 1);
 }
 
-// The value at index i of the path, wherever the rows stand. Rows of up to four sums are made by
-// straight code, save where m is below 4: there the highest of all, made from the readings, is one
-// of them.
+// The value at index i of the path, whichever index the rows are for. Rows of up to four sums are
+// made by straight code, save where m is below 4: there the highest of all, made from the readings,
+// is one of them.
 fn any_value(
     readings: &[i16; 256],
     rows: &mut [i32; 256],
@@ -330,7 +330,7 @@ fn any_value(
     rows[1]
 }
 
-// The value at index i of the path. The rows stand for index was, and then for i. Most often i
+// The value at index i of the path. The rows are for index was, and then for i. Most often i
 // comes next, and then only the rows of the blocks that start at i change: at most three, of up to
 // four sums, for seven indices in eight. Two places call any_value, so that the compiler keeps it
 // out of that short way.

@@ -1,4 +1,4 @@
--- Definitions: a row that names information indices, the kinds that it leaves, and the tests 1 and 12
+-- A row that names information indices (docs/RULES.md, §15): the kinds that it leaves, and the tests 1 and 12
 pub mod Named
 -- Their laws
 pub mod NamedLaws

@@ -47,7 +47,7 @@ namesFrozen [] ks = false
 namesFrozen (a ∷ named) [] = false
 namesFrozen (a ∷ named) (k ∷ ks) = namedFrozen a k || namesFrozen named ks
 
--- the test; that it tells `GoodRow` is proved in NamedLaws
+-- the test; that it decides `GoodRow` is proved in NamedLaws
 unfoldable pub goodRow : List ℕ → List ℕ → Bool
 goodRow named ks =
     eqb (length named) (length ks) && (not (ltb (firstBadBit named) (length named)) && (not (namesFrozen named ks) && ltb 0 (sum (left named ks))))
@@ -55,8 +55,3 @@ goodRow named ks =
 -- 1, and then 12 exactly if the row is no good one
 unfoldable pub rowAdmitted : ℕ → ℕ → List ℕ → Admitted
 rowAdmitted r m named = ifMade (made r m) (λ c. cond (goodRow named (kinds (c .r) (c .m))) (Allowed c) (Refused Named))
-
--- what a call gives after these tests: refused, or as a call of a code does
-abbrev pub afterTest : {O : Type 0} → Admitted → (Refusal → O) → (Code → O) → O
-afterTest (Refused why) refuse then = refuse why
-afterTest (Allowed c) refuse then = then c

@@ -74,7 +74,7 @@ left-all zero ks = refl
 left-all (suc n) [] = refl
 left-all (suc n) (k ∷ ks) = ap (λ (l : List ℕ). k ∷ l) (left-all n ks)
 
--- ---- the test tells a good row
+-- ---- the test decides whether a row is good
 or-left : (a b : Bool) → (a || b) ≡ false → a ≡ false
 or-left true b e = e
 or-left false b e = refl

@@ -1,5 +1,5 @@
-// A row of n bytes that names information indices, 1 where named: its test, and the kinds that it
-// leaves.
+// A row of n bytes that names information indices (docs/RULES.md, §15), 1 where named: its test,
+// and the kinds that it leaves.
 use code::Admitted;
 use code::Code;
 use code::Made;

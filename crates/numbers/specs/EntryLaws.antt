@@ -14,7 +14,7 @@ use Rattle.numbers.specs.Sums.{sum}
 use Rattle.numbers.specs.Least.{least, firstWith}
 use Rattle.numbers.specs.LeastLaws.{upto, at-most}
 
--- ---- no entry stands twice
+-- ---- no entry occurs twice
 abbrev pub Distinct : {A : Type 0} → List A → Type 0
 Distinct [] = Unit {0}
 Distinct (x ∷ l) = (List·Memᴰ x l → ⊥) × Distinct l

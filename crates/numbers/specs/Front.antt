@@ -1,4 +1,4 @@
--- A loop that replaces a list's entries one by one from the front: after j turns the list is `front d x j`, where d is what it was and x what it is to be.
+-- A loop that replaces a list's entries one by one from the front: after j passes the list is `front d x j`, where d is what it was and x what it is to be.
 use mathlib.Core.Path.{_≡_, refl, ap, sym, _∙_}
 use mathlib.Core.List.{List, [], _∷_, _++_}
 use Prim.Native.Nat.{ℕ, zero, suc, _≤_, _<_}
@@ -11,7 +11,7 @@ module _ {A : Type 0} where
   abbrev pub front : List A → List A → ℕ → List A
   front d x j = take j x ++ drop j d
 
-  -- a turn's store
+  -- a pass's store
   pub front-suc : (d x : List A) (j : ℕ) (z : A) → j < length d → j < length x → set (front d x j) j (getD x j z) ≡ front d x (suc j)
   front-suc [] x j z h k = absurd (not-suc-le-zero h)
   front-suc (a ∷ d) [] j z h k = absurd (not-suc-le-zero k)
@@ -26,7 +26,7 @@ module _ {A : Type 0} where
   front-after (a ∷ d) (b ∷ x) (suc j) zero z h k l = absurd (not-suc-le-zero l)
   front-after (a ∷ d) (b ∷ x) (suc j) (suc i) z h k l = front-after d x j i z (le-of-suc-le-suc h) (le-of-suc-le-suc k) (le-of-suc-le-suc l)
 
-  -- a turn's store, where what is left to store begins with a
+  -- a pass's store, where what is left to store begins with a
   pub drop-next : (x : List A) (j : ℕ) (a : A) (y : List A) → drop j x ≡ a ∷ y → drop (suc j) x ≡ y
   drop-next [] zero a y e = cc
   drop-next [] (suc j) a y e = cc

@@ -1,4 +1,4 @@
--- Laws of the least number of a list and the next one, with repeats: told by how many numbers are at most t, so the list's order is nothing to them.
+-- Laws of the least number of a list and the next one, with repeats, by how many numbers are at most t, so that the order of the list does not matter.
 use mathlib.Core.Path.{_≡_, refl, ap, sym, _∙_}
 use mathlib.Core.Logic.{_↔_, ⊎-elim}
 use mathlib.Core.Bool.{cond}

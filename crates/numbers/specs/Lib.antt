@@ -1,8 +1,9 @@
--- Definitions: a signed number by its two parts, sums and rows over indices, least and next of a list, the lowest one of a number
+-- Signed numbers by their two parts, sums and rows over indices, least and next of a list, the lowest one of a number
 pub mod Parts
 pub mod Sums
 pub mod Least
 pub mod Lowest
+pub mod Laid
 -- Their laws
 pub mod PartsLaws
 pub mod SumsLaws

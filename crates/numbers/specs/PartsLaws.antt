@@ -13,7 +13,7 @@ use mir.Val.{SFits, hbits}
 use Rattle.numbers.specs.Parts.{up, down}
 use Rattle.numbers.specs.Choice.{cond-by}
 
--- what is told of one number
+-- what is known of one number
 pub record Parts (z : ℤ) : Type 0 where
   pub apart : min (up z) (down z) ≡ 0
   pub size : natAbs z ≡ up z + down z

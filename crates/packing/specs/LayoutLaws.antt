@@ -178,7 +178,7 @@ pub length-readings : (m : ℕ) (p : List ℕ) → length p ≡ partLength m →
 unfolding partLength
 length-readings m p e = omega (arith, length-unpacked p)
 
--- two readings stand in three bytes: reading 2k, and reading 2k + 1
+-- two readings are in three bytes: reading 2k, and reading 2k + 1
 pub reading-even : (k : ℕ) (p : List ℕ) → 3 * k + 2 ≤ length p
     → getD (unpacked p) (2 * k) (pos 0) ≡ reading (16 * getD p (3 * k) 0 + getD p (3 * k + 1) 0 / 16)
 unfolding unpacked

@@ -1,4 +1,4 @@
--- The layout of packed records, what unpacking tells and leaves, and demand 1 of it
+-- Packed records (docs/RULES.md, §7): the layout, what unpacking reports and leaves, and demand 1
 pub mod Layout
 pub mod Unpacking
 pub mod UnpackDemand

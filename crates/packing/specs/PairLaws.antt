@@ -1,4 +1,4 @@
--- Two readings in three bytes, as code stores them: a turn's stores at the front of a list.
+-- Two readings in three bytes, as code stores them: a pass's stores at the front of a list.
 use mathlib.Core.Path.{_≡_, ap, _∙_}
 use mathlib.Core.List.{List, [], _∷_}
 use Prim.Native.Nat.{ℕ, _+_, _-_, _*_, _/_, _%_, _<_}

@@ -20,7 +20,7 @@ unpackChecks part readings =
     check InputLength ((m : ℕ) → PartFor part m → ⊥)
     (check OutputLength ((m : ℕ) → PartFor part m → length readings ≡ 2 ^ m → ⊥) passed)
 
--- what is told; the readings stand beside it
+-- what is reported; the readings come beside it
 abbrev pub unpackView : UnpackedOutcome → View
 unpackView o =
     let c = o .carry in

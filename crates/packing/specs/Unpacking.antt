@@ -1,14 +1,14 @@
--- What unpacking tells and leaves, for all that it can be given: 2 for a part whose length no record has, 3 for the buffer.
+-- What unpacking reports and leaves, for every input: 2 for a part whose length no record has, 3 for the buffer.
 use mathlib.Core.List.{List}
 use mathlib.Core.Bool.{cond, not}
 use Prim.Native.Nat.{ℕ, suc}
 use lib.IntN.{ℤ}
 use lib.ListN.{length}
 use lib.Dec.{eqb}
-use Rattle.code.specs.Sound.{Carried, carrying, carried, largestM}
+use Rattle.code.specs.Sound.{Carried, completed, largestM}
 use Rattle.code.specs.declared.Refusal.the-variants.{InputLength, OutputLength}
-use Rattle.packing.specs.declared.Unpacked.{Unpacked}
-use Rattle.packing.specs.declared.Unpacked.the-variants.{Done, Refused}
+use Rattle.code.specs.declared.Completed.{Completed}
+use Rattle.code.specs.declared.Completed.the-variants.{Done, Refused}
 use Rattle.packing.specs.Layout.{unpacked, readingsIn}
 
 pub record UnpackedOutcome : Type 0 where
@@ -18,16 +18,12 @@ pub record UnpackedOutcome : Type 0 where
   pub readings : List ℤ
 
 -- the answer in the rules' numbers
-abbrev pub carriedIn : Unpacked → Carried
-carriedIn Done = carrying 0 0 0 0
-carriedIn (Refused why) = carried why
-
-abbrev pub told : Unpacked → List ℤ → UnpackedOutcome
-told answer readings = record { carry = carriedIn answer; readings = readings }
+abbrev pub outcomeOf : Completed → List ℤ → UnpackedOutcome
+outcomeOf answer readings = record { carry = completed answer; readings = readings }
 
 -- of a packed part, and the buffer for its readings
 unfoldable pub unpacking : List ℕ → List ℤ → UnpackedOutcome
 unpacking part readings =
     let n = readingsIn (suc largestM) (length part) in
-    cond (eqb n 0) (told (Refused InputLength) readings)
-    (cond (not (eqb (length readings) n)) (told (Refused OutputLength) readings) (told Done (unpacked part)))
+    cond (eqb n 0) (outcomeOf (Refused InputLength) readings)
+    (cond (not (eqb (length readings) n)) (outcomeOf (Refused OutputLength) readings) (outcomeOf Done (unpacked part)))

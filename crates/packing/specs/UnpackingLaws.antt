@@ -8,43 +8,37 @@ use lib.IntN.{ℤ}
 use lib.ListN.{length}
 use lib.Pow.{pow-pos}
 use borrow.Author.Tests.{eq-eqb, ne-eqb}
-use Rattle.code.specs.Sound.{Carried, largestM}
-use Rattle.code.specs.RefusalLaws.{refusal-only, number-above}
+use Rattle.code.specs.Sound.{largestM}
+use Rattle.code.specs.RefusalLaws.{completed-only}
 use Rattle.code.specs.declared.Refusal.the-variants.{InputLength, OutputLength}
-use Rattle.packing.specs.declared.Unpacked.{Unpacked}
-use Rattle.packing.specs.declared.Unpacked.the-variants.{Done, Refused}
+use Rattle.code.specs.declared.Completed.{Completed}
+use Rattle.code.specs.declared.Completed.the-variants.{Done, Refused}
 use Rattle.packing.specs.Layout.{unpacked, partLength, readingsIn}
-use Rattle.packing.specs.Unpacking.{UnpackedOutcome, carriedIn, told, unpacking}
+use Rattle.packing.specs.Unpacking.{UnpackedOutcome, outcomeOf, unpacking}
 
 -- the three answers, by the tests
 module _ (p : List ℕ) (d : List ℤ) where
   abbrev n : ℕ
   n = readingsIn (suc largestM) (length p)
 
-  pub no-part : n ≡ 0 → unpacking p d ≡ told (Refused InputLength) d
+  pub no-part : n ≡ 0 → unpacking p d ≡ outcomeOf (Refused InputLength) d
   unfolding unpacking
   no-part e = rw (eq-eqb n 0 e)
 
   module _ (some : n ≡ 0 → ⊥) where
-    pub other-room : (length d ≡ n → ⊥) → unpacking p d ≡ told (Refused OutputLength) d
+    pub other-room : (length d ≡ n → ⊥) → unpacking p d ≡ outcomeOf (Refused OutputLength) d
     unfolding unpacking
     other-room f = rw (ne-eqb n 0 some, ne-eqb (length d) n f)
 
-    pub all-unpacked : length d ≡ n → unpacking p d ≡ told Done (unpacked p)
+    pub all-unpacked : length d ≡ n → unpacking p d ≡ outcomeOf Done (unpacked p)
     unfolding unpacking
     all-unpacked e = rw (ne-eqb n 0 some, eq-eqb (length d) n e)
 
-answer-only : (a b : Unpacked) → carriedIn a ≡ carriedIn b → a ≡ b
-answer-only Done Done e = refl
-answer-only Done (Refused why) e = absurd (omega (arith, number-above why, ap (λ (c : Carried). c .number) e))
-answer-only (Refused why) Done e = absurd (omega (arith, number-above why, ap (λ (c : Carried). c .number) e))
-answer-only (Refused why) (Refused why′) e = ap Refused (refusal-only why why′ e)
-
 -- no second answer and no second buffer meet the promise
-pub unpack-only : (o : UnpackedOutcome) (a b : Unpacked) (x y : List ℤ) → told a x ≡ o → told b y ≡ o → (a ≡ b) × (x ≡ y)
+pub unpack-only : (o : UnpackedOutcome) (a b : Completed) (x y : List ℤ) → outcomeOf a x ≡ o → outcomeOf b y ≡ o → (a ≡ b) × (x ≡ y)
 unpack-only o a b x y e f =
-    let same : told a x ≡ told b y = e ∙ sym f in
-    (answer-only a b (ap (λ (p : UnpackedOutcome). p .carry) same), ap (λ (p : UnpackedOutcome). p .readings) same)
+    let same : outcomeOf a x ≡ outcomeOf b y = e ∙ sym f in
+    (completed-only a b (ap (λ (p : UnpackedOutcome). p .carry) same), ap (λ (p : UnpackedOutcome). p .readings) same)
 
 -- 2 is given exactly where no record has a part of that length
 pub part-of-none : (b k : ℕ) → ((m : ℕ) → m < b → k ≡ partLength m → ⊥) → readingsIn b k ≡ 0

@@ -1,5 +1,7 @@
-// Readings in packed bytes and back: a field of 12 bits for each, two fields in three bytes.
+// Readings in packed bytes (docs/RULES.md, §7) and back: a field of 12 bits for each, two fields in
+// three bytes.
 use code::Code;
+use code::Completed;
 use code::Refusal;
 ghost use mathlib.Core.Path.{_≡_};
 ghost use Prim.Native.Nat.{suc, _*_, _/_, _≤_, _<_};
@@ -10,14 +12,9 @@ ghost use Rattle.decoding.specs.Readings.{Within};
 ghost use Rattle.code.specs.Sound.{Sound, largestM, largestRecordReading};
 ghost use Rattle.packing.specs.Layout.{field, reading, packed, unpacked};
 ghost use Rattle.packing.specs.Layout.{partLength, readingsIn};
-ghost use Rattle.packing.specs.Unpacking.{told, unpacking};
+ghost use Rattle.packing.specs.Unpacking.{outcomeOf, unpacking};
 
 // What unpacking answers: the readings are there, or why not.
-pub enum Unpacked {
-    Done,
-    Refused(Refusal),
-}
-
 // How many bytes follow a record's first.
 pub fn part_length(code: Code) -> usize
     requires { ⌜ Sound code ⌝ }
@@ -51,7 +48,7 @@ fn reading_of(field: u16) -> i16
     field as i16 - 4096
 }
 
-// Two readings from three bytes a turn; a last single one stays as it is.
+// Two readings from three bytes a pass; a last single one stays as it is.
 fn put_reading_pairs(part: &[u8], readings: &mut [i16])
     requires { ⌜ length (now readings) ≡ length (unpacked (now part)) ⌝ }
     ensures { λ _. ⌜ now (readings .exit) ≡ front (now (readings .entry))
@@ -90,7 +87,7 @@ fn field_of(reading: i16) -> u16
     (reading + 4096) as u16 % 4096
 }
 
-// Three bytes of two readings a turn; a last single reading is left.
+// Three bytes of two readings a pass; a last single reading is left.
 fn put_packed_pairs(readings: &[i16], part: &mut [u8])
     requires { ⌜ Within largestRecordReading (now readings)
         × (length (now part) ≡ length (packed (now readings))) ⌝ }
@@ -141,17 +138,17 @@ fn readings_in(bytes: usize) -> usize
 }
 
 // Writes the readings of a packed part into the lent buffer.
-pub fn unpack(part: &[u8], readings: &mut [i16]) -> Unpacked
-    ensures { λ answer. ⌜ told answer (now (readings .exit))
+pub fn unpack(part: &[u8], readings: &mut [i16]) -> Completed
+    ensures { λ answer. ⌜ outcomeOf answer (now (readings .exit))
         ≡ unpacking (now (part .entry)) (now (readings .entry)) ⌝ }
 {
     let n = readings_in(part.len());
     if n == 0 {
-        return Unpacked::Refused(Refusal::InputLength);
+        return Completed::Refused(Refusal::InputLength);
     }
     if readings.len() != n {
-        return Unpacked::Refused(Refusal::OutputLength);
+        return Completed::Refused(Refusal::OutputLength);
     }
     put_readings(part, readings);
-    Unpacked::Done
+    Completed::Done
 }

@@ -1,4 +1,4 @@
--- What the program writes, one record at a time; the rules' example
+-- What the program writes (docs/RULES.md, §8), one record at a time; the rules' example
 pub mod Program
 pub mod OutputLaws
 pub mod Example

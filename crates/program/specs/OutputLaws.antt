@@ -72,7 +72,7 @@ abbrev pub linesAfter : ℕ → ℕ → Result → List ℕ → List ℕ
 linesAfter a f result s =
     cond (stops result) (totalLine (answersAfter result a) (refusalsAfter result f)) (linesOf (answersAfter result a) (refusalsAfter result f) s)
 
--- the first record's line and then those of the others, whatever stands behind the bytes s if that does not change the record
+-- the first record's line and then those of the others, whatever follows the bytes s if that does not change the record
 pub lines-first : (a f : ℕ) (s rest : List ℕ) → 0 < length s → resultOf (s ++ rest) ≡ resultOf s
     → linesOf a f (s ++ rest) ≡ lineOf (a + f) (resultOf s) ++ linesAfter a f (resultOf s) (drop (nextStart s) s ++ rest)
 unfolding outputFrom

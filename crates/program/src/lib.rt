@@ -1,4 +1,5 @@
-// The work on one record, on slices: it is searched, and its line is written.
+// The program's work on one record (docs/RULES.md, §8), on slices: it is searched, and its line is
+// written.
 use code::Code;
 use code::Refusal;
 use record::Header;
@@ -85,8 +86,10 @@ fn search_into(
     at: usize,
 ) -> Step
     requires { ⌜ (headerOf (now s) ≡ Header.Record code)
-        × (length (now bits) ≡ dimension (code .r) (code .m)) × (length (now word) ≡ 2 ^ (code .m)) ⌝ }
-    requires { ⌜ (0 < length (now s)) × (length (now bits) ≤ 256) × (at + 512 ≤ length (now out)) ⌝ }
+        × (length (now bits) ≡ dimension (code .r) (code .m))
+        × (length (now word) ≡ 2 ^ (code .m)) ⌝ }
+    requires { ⌜ (0 < length (now s)) × (length (now bits) ≤ 256)
+        × (at + 512 ≤ length (now out)) ⌝ }
     ensures { λ t. ⌜ Stepped w (now (s .entry)) (resultOf (now (s .entry)))
         (now (out .entry)) at t (now (out .exit)) ⌝ }
 {

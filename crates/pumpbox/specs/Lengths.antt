@@ -21,6 +21,6 @@ abbrev pub dimensionIn : Made → ℕ
 dimensionIn Bad = 0
 dimensionIn (Good c) = dimension (c .r) (c .m)
 
--- a record's bytes, told by its first; a number above 255 is no byte
+-- a record's bytes, by its first; a number above 255 is no byte
 abbrev pub recordLength : ℕ → ℕ
 recordLength first = cond (ltb 255 first) 0 (lengthBy (codeOf first))

@@ -1,9 +1,9 @@
-// The C export of first-order words.
+// The C export of first-order words (docs/RULES.md, §13).
 use answers::put_searched;
 ghost use mathlib.Core.Path.{_≡_};
 ghost use mathlib.Core.List.{[], _∷_};
 ghost use Rattle.first_order.specs.Outcome.{firstOrdering};
-ghost use Rattle.answers.specs.Told.{told, shownSearch};
+ghost use Rattle.answers.specs.Reported.{reported, shownSearch};
 
 #[no_mangle]
 pub extern "C" fn cinorbis_first_order(
@@ -14,7 +14,8 @@ pub extern "C" fn cinorbis_first_order(
     word: &mut [u8],
     out: &mut [u64; 4],
 ) -> u32
-    ensures { λ number. ⌜ told number (now (out .exit)) (now (bits .exit) ∷ now (word .exit) ∷ [])
+    ensures { λ number. ⌜ reported number (now (out .exit))
+        (now (bits .exit) ∷ now (word .exit) ∷ [])
         ≡ shownSearch (firstOrdering r m (now (readings .entry))
         (now (bits .entry)) (now (word .entry))) ⌝ }
 {

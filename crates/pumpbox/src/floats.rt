@@ -1,11 +1,11 @@
-// The C exports of the float board.
-use answers::put_whole;
+// The C exports of the float board (docs/RULES.md, §16).
+use answers::put_with_runner_up;
 ghost use mathlib.Core.Path.{_≡_};
 ghost use mathlib.Core.List.{[], _∷_};
 ghost use Rattle.code.specs.Sound.{defaultAllowance};
-ghost use Rattle.search.specs.RunnerUp.{searchingWhole};
+ghost use Rattle.search.specs.RunnerUp.{searchingWithRunnerUp};
 ghost use Rattle.float_numbers.specs.Whole.{wholes};
-ghost use Rattle.answers.specs.Told.{told, shownWhole};
+ghost use Rattle.answers.specs.Reported.{reported, shownWithRunnerUp};
 
 #[no_mangle]
 pub extern "C" fn cinorbis_search_float_within(
@@ -18,13 +18,13 @@ pub extern "C" fn cinorbis_search_float_within(
     runner_up: &mut [u8; 256],
     out: &mut [u64; 4],
 ) -> u32
-    ensures { λ number. ⌜ told number (now (out .exit))
+    ensures { λ number. ⌜ reported number (now (out .exit))
         (now (bits .exit) ∷ now (word .exit) ∷ now («runner_up» .exit) ∷ [])
-        ≡ shownWhole (searchingWhole r m allowed (wholes (now (readings .entry)))
-        (now (bits .entry)) (now (word .entry))) ⌝ }
+        ≡ shownWithRunnerUp (searchingWithRunnerUp r m allowed
+        (wholes (now (readings .entry))) (now (bits .entry)) (now (word .entry))) ⌝ }
 {
     let answer = float_search::search_float_within(r, m, allowed, readings, bits, word);
-    put_whole(answer, runner_up, out)
+    put_with_runner_up(answer, runner_up, out)
 }
 
 #[no_mangle]
@@ -37,11 +37,11 @@ pub extern "C" fn cinorbis_search_float(
     runner_up: &mut [u8; 256],
     out: &mut [u64; 4],
 ) -> u32
-    ensures { λ number. ⌜ told number (now (out .exit))
+    ensures { λ number. ⌜ reported number (now (out .exit))
         (now (bits .exit) ∷ now (word .exit) ∷ now («runner_up» .exit) ∷ [])
-        ≡ shownWhole (searchingWhole r m defaultAllowance (wholes (now (readings .entry)))
-        (now (bits .entry)) (now (word .entry))) ⌝ }
+        ≡ shownWithRunnerUp (searchingWithRunnerUp r m defaultAllowance
+        (wholes (now (readings .entry))) (now (bits .entry)) (now (word .entry))) ⌝ }
 {
     let answer = float_search::search_float(r, m, readings, bits, word);
-    put_whole(answer, runner_up, out)
+    put_with_runner_up(answer, runner_up, out)
 }

@@ -1,5 +1,5 @@
-// An index of a capture: making it, of the whole capture or of its front; asking it for a record;
-// appending a record.
+// The C exports of an index (docs/RULES.md, §14): making it, of the whole capture or of its front;
+// asking it for a record; appending a record.
 use answers::put_appended;
 use answers::put_entry;
 use answers::put_front;
@@ -11,7 +11,7 @@ ghost use Rattle.index.specs.Finding.{headerIn, partIn, partStart};
 ghost use Rattle.index.specs.Making.{making};
 ghost use Rattle.index.specs.Fronting.{fronting};
 ghost use Rattle.index.specs.Appending.{appending};
-ghost use Rattle.answers.specs.Told.{told};
+ghost use Rattle.answers.specs.Reported.{reported};
 ghost use Rattle.answers.specs.Indexed.{indexIn, shownMade, shownFront, shownEntry, shownAppended};
 
 #[no_mangle]
@@ -20,7 +20,7 @@ pub extern "C" fn cinorbis_index_make(
     table: &mut [usize],
     out: &mut [u64; 2],
 ) -> u32
-    ensures { λ returned. ⌜ told returned (now (out .exit)) (now (table .exit) ∷ [])
+    ensures { λ returned. ⌜ reported returned (now (out .exit)) (now (table .exit) ∷ [])
         ≡ shownMade (making (now (capture .entry)) (now (table .entry))) ⌝ }
 {
     let answer = index::make(capture, table);
@@ -33,7 +33,7 @@ pub extern "C" fn cinorbis_index_front(
     table: &mut [usize],
     out: &mut [u64; 3],
 ) -> u32
-    ensures { λ number. ⌜ told number (now (out .exit)) (now (table .exit) ∷ [])
+    ensures { λ number. ⌜ reported number (now (out .exit)) (now (table .exit) ∷ [])
         ≡ shownFront (fronting (now (capture .entry)) (now (table .entry))) ⌝ }
 {
     let answer = index::front(capture, table);
@@ -47,7 +47,7 @@ pub extern "C" fn cinorbis_index_find(
     table: &[usize],
     out: &mut [u64; 5],
 ) -> u32
-    ensures { λ returned. ⌜ told returned (now (out .exit)) []
+    ensures { λ returned. ⌜ reported returned (now (out .exit)) []
         ≡ shownEntry (headerIn (now (capture .entry)) (now (table .entry)) w)
         (partStart (now (capture .entry)) (now (table .entry)) w)
         (partIn (now (capture .entry)) (now (table .entry)) w) ⌝ }
@@ -78,7 +78,7 @@ pub extern "C" fn cinorbis_index_append(
     index: &mut [u64; 2],
     out: &mut [u64; 2],
 ) -> u32
-    ensures { λ returned. ⌜ told returned (now (out .exit)) (now (index .exit)
+    ensures { λ returned. ⌜ reported returned (now (out .exit)) (now (index .exit)
         ∷ now (capture .exit) ∷ now (table .exit) ∷ [])
         ≡ shownAppended (now (index .entry)) (appending (indexIn (now (index .entry))) r m
         (now (readings .entry)) (now (capture .entry)) (now (table .entry))) ⌝ }

@@ -1,8 +1,9 @@
-// Turned position orders: reordering by a map of positions, undo maps and products.
-use answers::put_reordered;
+// The C exports of position orders (docs/RULES.md, §12): reordering, undo maps and products.
+use answers::put_completed;
 ghost use mathlib.Core.Path.{_≡_};
 ghost use Rattle.reorder.specs.Outcome.{reordering, reorderingWord, undoing, multiplying};
-ghost use Rattle.answers.specs.Reordered.{reorderTold, shownReordered};
+ghost use Rattle.answers.specs.Reported.{reported};
+ghost use Rattle.answers.specs.Reordered.{shownReordered};
 
 #[no_mangle]
 pub extern "C" fn cinorbis_reorder(
@@ -13,12 +14,12 @@ pub extern "C" fn cinorbis_reorder(
     out: &mut [i16],
     numbers: &mut [u64; 4],
 ) -> u32
-    ensures { λ number. ⌜ reorderTold number (now (numbers .exit)) (now (out .exit))
+    ensures { λ number. ⌜ reported number (now (numbers .exit)) (now (out .exit))
         ≡ shownReordered (reordering m (now (table .entry)) (now (row .entry))
         (now (readings .entry)) (now (out .entry))) ⌝ }
 {
     let answer = reorder::reorder(m, table, row, readings, out);
-    put_reordered(answer, numbers)
+    put_completed(answer, numbers)
 }
 
 #[no_mangle]
@@ -30,12 +31,12 @@ pub extern "C" fn cinorbis_reorder_word(
     out: &mut [u8],
     numbers: &mut [u64; 4],
 ) -> u32
-    ensures { λ number. ⌜ reorderTold number (now (numbers .exit)) (now (out .exit))
+    ensures { λ number. ⌜ reported number (now (numbers .exit)) (now (out .exit))
         ≡ shownReordered (reorderingWord m (now (table .entry)) (now (row .entry))
         (now (word .entry)) (now (out .entry))) ⌝ }
 {
     let answer = reorder::reorder_word(m, table, row, word, out);
-    put_reordered(answer, numbers)
+    put_completed(answer, numbers)
 }
 
 #[no_mangle]
@@ -47,13 +48,13 @@ pub extern "C" fn cinorbis_undo_map(
     outrow: &mut [u8],
     numbers: &mut [u64; 4],
 ) -> u32
-    ensures { λ number. ⌜ reorderTold number (now (numbers .exit))
+    ensures { λ number. ⌜ reported number (now (numbers .exit))
         (now (out .exit), now (outrow .exit))
         ≡ shownReordered (undoing m (now (table .entry)) (now (row .entry))
         (now (out .entry)) (now (outrow .entry))) ⌝ }
 {
     let answer = reorder::undo_map(m, table, row, out, outrow);
-    put_reordered(answer, numbers)
+    put_completed(answer, numbers)
 }
 
 #[no_mangle]
@@ -67,11 +68,11 @@ pub extern "C" fn cinorbis_product_map(
     outrow: &mut [u8],
     numbers: &mut [u64; 4],
 ) -> u32
-    ensures { λ number. ⌜ reorderTold number (now (numbers .exit))
+    ensures { λ number. ⌜ reported number (now (numbers .exit))
         (now (out .exit), now (outrow .exit))
         ≡ shownReordered (multiplying m (now (table1 .entry)) (now (row1 .entry))
         (now (table2 .entry)) (now (row2 .entry)) (now (out .entry)) (now (outrow .entry))) ⌝ }
 {
     let answer = reorder::product_map(m, table1, row1, table2, row2, out, outrow);
-    put_reordered(answer, numbers)
+    put_completed(answer, numbers)
 }

@@ -1,13 +1,13 @@
-// The C exports of the calls on a shortened set.
-use answers::put_encoded;
+// The C exports of the calls on a shortened set (docs/RULES.md, §15).
+use answers::put_completed;
 use answers::put_read;
-use answers::put_whole;
+use answers::put_with_runner_up;
 ghost use mathlib.Core.Path.{_≡_};
 ghost use mathlib.Core.List.{[], _∷_};
 ghost use Rattle.code.specs.Sound.{defaultAllowance};
 ghost use Rattle.shortened.specs.Outcome.{encodingShortened, invertingShortened, quickShortened};
 ghost use Rattle.shortened_search.specs.Outcome.{searchingShortened};
-ghost use Rattle.answers.specs.Told.{told, shown, shownQuick, shownWhole};
+ghost use Rattle.answers.specs.Reported.{reported, shown, shownQuick, shownWithRunnerUp};
 
 #[no_mangle]
 pub extern "C" fn cinorbis_encode_shortened(
@@ -18,12 +18,12 @@ pub extern "C" fn cinorbis_encode_shortened(
     word: &mut [u8],
     out: &mut [u64; 4],
 ) -> u32
-    ensures { λ number. ⌜ told number (now (out .exit)) (now (word .exit) ∷ [])
+    ensures { λ number. ⌜ reported number (now (out .exit)) (now (word .exit) ∷ [])
         ≡ shown (encodingShortened r m (now (named .entry)) (now (bits .entry))
         (now (word .entry))) ⌝ }
 {
     let answer = shortened::encode_shortened(r, m, named, bits, word);
-    put_encoded(answer, out)
+    put_completed(answer, out)
 }
 
 #[no_mangle]
@@ -35,12 +35,12 @@ pub extern "C" fn cinorbis_inverse_shortened(
     bits: &mut [u8],
     out: &mut [u64; 4],
 ) -> u32
-    ensures { λ number. ⌜ told number (now (out .exit)) (now (bits .exit) ∷ [])
+    ensures { λ number. ⌜ reported number (now (out .exit)) (now (bits .exit) ∷ [])
         ≡ shown (invertingShortened r m (now (named .entry)) (now (word .entry))
         (now (bits .entry))) ⌝ }
 {
     let answer = shortened::inverse_shortened(r, m, named, word, bits);
-    put_encoded(answer, out)
+    put_completed(answer, out)
 }
 
 #[no_mangle]
@@ -53,7 +53,8 @@ pub extern "C" fn cinorbis_quick_shortened(
     word: &mut [u8],
     out: &mut [u64; 4],
 ) -> u32
-    ensures { λ number. ⌜ told number (now (out .exit)) (now (bits .exit) ∷ now (word .exit) ∷ [])
+    ensures { λ number. ⌜ reported number (now (out .exit))
+        (now (bits .exit) ∷ now (word .exit) ∷ [])
         ≡ shownQuick (quickShortened r m (now (named .entry)) (now (readings .entry))
         (now (bits .entry)) (now (word .entry))) ⌝ }
 {
@@ -72,13 +73,13 @@ pub extern "C" fn cinorbis_search_shortened(
     runner_up: &mut [u8; 256],
     out: &mut [u64; 4],
 ) -> u32
-    ensures { λ number. ⌜ told number (now (out .exit))
+    ensures { λ number. ⌜ reported number (now (out .exit))
         (now (bits .exit) ∷ now (word .exit) ∷ now («runner_up» .exit) ∷ [])
-        ≡ shownWhole (searchingShortened r m defaultAllowance (now (named .entry))
+        ≡ shownWithRunnerUp (searchingShortened r m defaultAllowance (now (named .entry))
         (now (readings .entry)) (now (bits .entry)) (now (word .entry))) ⌝ }
 {
     let answer = shortened_search::search_shortened(r, m, named, readings, bits, word);
-    put_whole(answer, runner_up, out)
+    put_with_runner_up(answer, runner_up, out)
 }
 
 #[no_mangle]
@@ -93,9 +94,9 @@ pub extern "C" fn cinorbis_search_within_shortened(
     runner_up: &mut [u8; 256],
     out: &mut [u64; 4],
 ) -> u32
-    ensures { λ number. ⌜ told number (now (out .exit))
+    ensures { λ number. ⌜ reported number (now (out .exit))
         (now (bits .exit) ∷ now (word .exit) ∷ now («runner_up» .exit) ∷ [])
-        ≡ shownWhole (searchingShortened r m allowed (now (named .entry))
+        ≡ shownWithRunnerUp (searchingShortened r m allowed (now (named .entry))
         (now (readings .entry)) (now (bits .entry)) (now (word .entry))) ⌝ }
 {
     let answer = shortened_search::search_within_shortened(
@@ -107,5 +108,5 @@ pub extern "C" fn cinorbis_search_within_shortened(
         bits,
         word,
     );
-    put_whole(answer, runner_up, out)
+    put_with_runner_up(answer, runner_up, out)
 }

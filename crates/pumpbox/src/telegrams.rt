@@ -1,11 +1,11 @@
-// The C exports of the tilt telegram.
+// The C exports of the tilt telegram (docs/RULES.md, §11).
 use answers::put_heard;
 use answers::put_written;
 ghost use mathlib.Core.Path.{_≡_};
 ghost use mathlib.Core.List.{[], _∷_};
 ghost use Rattle.code.specs.Sound.{defaultAllowance};
 ghost use Rattle.telegram.specs.Outcome as Tilt;
-ghost use Rattle.answers.specs.Told.{told};
+ghost use Rattle.answers.specs.Reported.{reported};
 ghost use Rattle.answers.specs.Telegrams.{shownWritten, shownRead};
 
 #[no_mangle]
@@ -16,7 +16,7 @@ pub extern "C" fn cinorbis_telegram_write(
     word: &mut [u8],
     out: &mut [u64; 4],
 ) -> u32
-    ensures { λ number. ⌜ told number (now (out .exit)) (now (word .exit) ∷ [])
+    ensures { λ number. ⌜ reported number (now (out .exit)) (now (word .exit) ∷ [])
         ≡ shownWritten (Tilt.writingTelegram cylinder direction tilt (now (word .entry))) ⌝ }
 {
     let answer = telegram::write(cylinder, direction, tilt, word);
@@ -30,7 +30,7 @@ pub extern "C" fn cinorbis_telegram_read_within(
     telegram: &mut [u64; 3],
     out: &mut [u64; 4],
 ) -> u32
-    ensures { λ number. ⌜ told number (now (out .exit)) (now (telegram .exit) ∷ [])
+    ensures { λ number. ⌜ reported number (now (out .exit)) (now (telegram .exit) ∷ [])
         ≡ shownRead (Tilt.readingTelegram allowed (now (readings .entry))) ⌝ }
 {
     let answer = telegram::read_within(allowed, readings);
@@ -43,7 +43,7 @@ pub extern "C" fn cinorbis_telegram_read(
     telegram: &mut [u64; 3],
     out: &mut [u64; 4],
 ) -> u32
-    ensures { λ number. ⌜ told number (now (out .exit)) (now (telegram .exit) ∷ [])
+    ensures { λ number. ⌜ reported number (now (out .exit)) (now (telegram .exit) ∷ [])
         ≡ shownRead (Tilt.readingTelegram defaultAllowance (now (readings .entry))) ⌝ }
 {
     let answer = telegram::read(readings);
@@ -56,7 +56,7 @@ pub extern "C" fn cinorbis_telegram_of_bits(
     telegram: &mut [u64; 3],
     out: &mut [u64; 4],
 ) -> u32
-    ensures { λ returned. ⌜ told returned (now (out .exit)) (now (telegram .exit) ∷ [])
+    ensures { λ returned. ⌜ reported returned (now (out .exit)) (now (telegram .exit) ∷ [])
         ≡ shownRead (Tilt.readingBits (now (bits .entry))) ⌝ }
 {
     let answer = telegram::of_bits(bits);

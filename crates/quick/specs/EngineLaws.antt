@@ -20,7 +20,7 @@ use Rattle.decoding.specs.Readings.{sizes, sumLimit}
 use Rattle.decoding.specs.Quick.{lowerRow, upperRow, decide, quickWord}
 use Rattle.decoding.specs.StepLaws.{entry-sizes, length-lowerRow, length-upperRow, sizes-lowerRow, sizes-upperRow}
 use Rattle.decoding.specs.QuickLaws.{length-quick, bits-quick}
-use Rattle.half.specs.Fold.{folded}
+use Rattle.bit_rows.specs.Fold.{folded}
 use Rattle.rows.specs.Rows.{rowOf, withRow}
 use Rattle.rows.specs.RowLaws.{length-rowOf}
 use Rattle.rows.specs.PlaceLaws.{length-withRow, behind-withRow, rowOf-withRow, rowOf-front}
@@ -40,7 +40,7 @@ one-word zero kinds (w ∷ v ∷ word) l b z e f = absurd (omega arith)
 one-word (suc m) kinds word l b z e f = absurd (suc-ne-zero m z)
 
 -- ---- the parts that are lent for a half
--- its row stands in the part as it stands in the whole
+-- its row is in the part as it is in the row
 row-of-part : (h n : ℕ) (rows : List ℤ) → n ≡ h + h → rowOf h (take n rows) ≡ rowOf h rows
 row-of-part h n rows e =
     rowOf-front h (take n rows) ∙ ap (drop h) (take-take (h + h) n rows (omega arith)) ∙ sym (rowOf-front h rows)
@@ -96,7 +96,8 @@ module _ (m : ℕ) (rows : List ℤ) (kinds word : List ℕ) (r : HalfReady m ro
       ∙ ap (λ (x : List ℕ). x ++ drop (mid word) word) (e ∙ ap₂ (quickWord (m - 1)) (lent-to (mid word) kinds) same-row)
       ∙ ap (λ (k : ℕ). quickWord (m - 1) (take k kinds) (rowOf (2 ^ (m - 1)) rows) ++ drop k word) (lengths .half)
 
-  pub second-back : (w : List ℕ) → w ≡ quickWord (m - 1) (midOf (mid word) (length kinds - mid word) kinds) (rowOf (2 ^ (m - 1)) (midOf 0 (length word - 0) rows))
+  pub second-back : (w : List ℕ)
+      → w ≡ quickWord (m - 1) (midOf (mid word) (length kinds - mid word) kinds) (rowOf (2 ^ (m - 1)) (midOf 0 (length word - 0) rows))
       → putMid (mid word) (length word - mid word) word w ≡ take (2 ^ (m - 1)) word ++ quickWord (m - 1) (drop (2 ^ (m - 1)) kinds) (rowOf (2 ^ (m - 1)) rows)
   second-back w e =
       back-from (mid word) word w
@@ -129,7 +130,7 @@ module _ (m : ℕ) (kinds word : List ℕ) (l : List ℤ) (s : Sized m kinds wor
   pub row-halves : length l ≡ mid word + mid word
   row-halves = omega (arith, s .long-row, s .long-word, halves .whole)
 
-  -- a half's row x stands in its place
+  -- a half's row x is in its place
   placed-ready : (d x : List ℤ) (w : List ℕ) → length word ≤ length d → length x ≡ mid word → sizes x ≤ sizes l → length w ≡ length word
       → HalfReady m (withRow (mid word) d x) kinds w
   placed-ready d x w room e b f =
@@ -161,7 +162,7 @@ module _ (m : ℕ) (kinds word : List ℕ) (l : List ℤ) (s : Sized m kinds wor
         let long = length-quick (m - 1) (take (2 ^ (m - 1)) kinds) (lowerRow (2 ^ (m - 1)) l) in
         rw (e, lower-row, halves .half) (take-at (lowerWord m kinds l) (drop (2 ^ (m - 1)) word) (2 ^ (m - 1)) long)
 
-  -- the lower half's word a stands in front
+  -- the lower half's word a is in front
   module _ (w : List ℕ) (long : length w ≡ length word) (a : take (mid word) w ≡ lowerWord m kinds l) where
     pub upper-asked : mid word ≤ length w
     upper-asked = omega (arith, halves .whole)
@@ -185,7 +186,8 @@ module _ (m : ℕ) (kinds word : List ℕ) (l : List ℤ) (s : Sized m kinds wor
         both : v ≡ lowerWord m kinds l ++ upperWord m kinds l (lowerWord m kinds l)
         both =
             e
-            ∙ ap₂ (λ (x : List ℕ) (r : List ℤ). x ++ quickWord (m - 1) (drop (2 ^ (m - 1)) kinds) r) (ap (λ (k : ℕ). take k w) (sym (halves .half)) ∙ a) upper-row
+            ∙ ap₂ (λ (x : List ℕ) (r : List ℤ). x ++ quickWord (m - 1) (drop (2 ^ (m - 1)) kinds) r)
+            (ap (λ (k : ℕ). take k w) (sym (halves .half)) ∙ a) upper-row
 
         long-lower : length (lowerWord m kinds l) ≡ mid word
         long-lower = length-quick (m - 1) (take (2 ^ (m - 1)) kinds) (lowerRow (2 ^ (m - 1)) l) ∙ sym (halves .half)
@@ -252,7 +254,8 @@ module _ (m : ℕ) (rows : List ℤ) (kinds word : List ℕ) (r : Ready m rows k
             long-rows = long ∙ ap length is ∙ length-withRow h rows x fits long-x;
             row =
                 ap (λ (k : ℕ). rowOf k q) whole
-                ∙ ap (take (2 ^ m)) (behind ∙ ap (drop (2 ^ m)) is ∙ ap (λ (k : ℕ). drop k (withRow h rows x)) (sym whole) ∙ behind-withRow h rows x fits long-x)
+                ∙ ap (take (2 ^ m))
+                (behind ∙ ap (drop (2 ^ m)) is ∙ ap (λ (k : ℕ). drop k (withRow h rows x)) (sym whole) ∙ behind-withRow h rows x fits long-x)
                 ∙ ap (λ (k : ℕ). take (2 ^ m) (drop k rows)) whole;
             long = f;
             lower = lower-back m kinds word (rowOf (2 ^ m) rows) (r .sized) more rows room s lower-is w e;

@@ -10,11 +10,12 @@ use Rattle.code.specs.AdmittedLaws.{allows, refuses, decided}
 use Rattle.code.specs.RefusalLaws.{refusal-only, carries-none, number-above}
 use Rattle.quick.specs.declared.Read.{Read}
 use Rattle.quick.specs.declared.Read.the-variants.{Done, Refused}
-use Rattle.quick.specs.Outcome.{Outcome, told, readingBy, quickReading}
+use Rattle.quick.specs.Outcome.{Outcome, outcomeOf, readingBy, quickReading}
 use Rattle.quick.specs.OutcomeLaws.{reading-refused, reading-done}
 
--- two answers that tell the same, with a number that carries nothing but a place
-same-answer : (a b : Read) (x y v w : List ℕ) → told a x y ≡ told b v w → (told a x y .number ≡ 6 → ⊥) → (told a x y .number ≡ 7 → ⊥) → a ≡ b
+-- two answers that report the same, with a number that carries nothing but a place
+same-answer : (a b : Read) (x y v w : List ℕ) → outcomeOf a x y ≡ outcomeOf b v w → (outcomeOf a x y .number ≡ 6 → ⊥)
+    → (outcomeOf a x y .number ≡ 7 → ⊥) → a ≡ b
 same-answer (Done p) (Done q) x y v w e f g = ap (λ (o : Outcome). Done (o .penalty)) e
 same-answer (Done p) (Refused why) x y v w e f g = absurd (omega (arith, number-above why, ap (λ (o : Outcome). o .number) e))
 same-answer (Refused why) (Done q) x y v w e f g = absurd (omega (arith, number-above why, ap (λ (o : Outcome). o .number) e))
@@ -23,17 +24,17 @@ same-answer (Refused why) (Refused why′) x y v w e f g =
     let carry = ap (λ (o : Outcome). carrying (o .number) (o .place) 0 0) e in
     ap Refused (refusal-only why why′ (carries-none why f g ∙ carry ∙ sym (carries-none why′ (λ k. f (number ∙ k)) (λ k. g (number ∙ k)))))
 
-bits-told : (a : Read) (x y : List ℕ) → told a x y .bits ≡ x
+bits-told : (a : Read) (x y : List ℕ) → outcomeOf a x y .bits ≡ x
 bits-told (Done penalty) x y = refl
 bits-told (Refused why) x y = refl
 
-word-told : (a : Read) (x y : List ℕ) → told a x y .word ≡ y
+word-told : (a : Read) (x y : List ℕ) → outcomeOf a x y .word ≡ y
 word-told (Done penalty) x y = refl
 word-told (Refused why) x y = refl
 
 -- of any outcome that is none of the search's
 pub outcome-only : (o : Outcome) → (o .number ≡ 6 → ⊥) → (o .number ≡ 7 → ⊥)
-    → (a b : Read) (x y v w : List ℕ) → told a x y ≡ o → told b v w ≡ o → (a ≡ b) × (x ≡ v) × (y ≡ w)
+    → (a b : Read) (x y v w : List ℕ) → outcomeOf a x y ≡ o → outcomeOf b v w ≡ o → (a ≡ b) × (x ≡ v) × (y ≡ w)
 outcome-only o six seven a b x y v w e f =
     let same = e ∙ sym f in
     let is = ap (λ (p : Outcome). p .number) (sym e) in (
@@ -50,6 +51,6 @@ module _ (r m : ℕ) (l : List ℤ) (bits word : List ℕ) where
         | refuses why e h ↦ rw (← reading-refused r m l bits word why e) h
       ]
 
-  pub quick-only : (a b : Read) (x y v w : List ℕ) → told a x y ≡ quickReading r m l bits word → told b v w ≡ quickReading r m l bits word
+  pub quick-only : (a b : Read) (x y v w : List ℕ) → outcomeOf a x y ≡ quickReading r m l bits word → outcomeOf b v w ≡ quickReading r m l bits word
       → (a ≡ b) × (x ≡ v) × (y ≡ w)
   quick-only = outcome-only (quickReading r m l bits word) (λ k. omega (arith, number-small)) (λ k. omega (arith, number-small))

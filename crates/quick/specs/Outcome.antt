@@ -1,4 +1,4 @@
--- What `quick` tells and leaves, for all that it can be given, in the rules' numbers (docs/RULES.md, §6).
+-- What `quick` reports and leaves, for every input, in the rules' numbers (docs/RULES.md, §6).
 use mathlib.Core.List.{List}
 use Prim.Native.Nat.{ℕ}
 use lib.IntN.{ℤ}
@@ -7,10 +7,8 @@ use Rattle.words.specs.Kinds.{kinds}
 use Rattle.decoding.specs.Quick.{quickWord, quickBits, quickPenalty}
 use Rattle.code.specs.declared.Code.{Code}
 use Rattle.code.specs.declared.Refusal.{Refusal}
-use Rattle.code.specs.declared.Admitted.{Admitted}
-use Rattle.code.specs.declared.Admitted.the-variants as admission
 use Rattle.code.specs.Sound.{carried}
-use Rattle.code.specs.Admitted.{admitted}
+use Rattle.code.specs.Admitted.{admitted, afterTest}
 use Rattle.quick.specs.declared.Read.{Read}
 use Rattle.quick.specs.declared.Read.the-variants.{Done, Refused}
 
@@ -33,18 +31,14 @@ abbrev pub refused : Refusal → List ℕ → List ℕ → Outcome
 refused why bits word = let c = carried why in record { number = c .number; place = c .place; penalty = c .penalty; bits = bits; word = word }
 
 -- the answer in the rules' numbers
-abbrev pub told : Read → List ℕ → List ℕ → Outcome
-told (Done penalty) = done penalty
-told (Refused why) = refused why
+abbrev pub outcomeOf : Read → List ℕ → List ℕ → Outcome
+outcomeOf (Done penalty) = done penalty
+outcomeOf (Refused why) = refused why
 
 -- the written steps, where no test refuses
 abbrev pub readingBy : Code → List ℤ → Outcome
 readingBy c l = let ks = kinds (c .r) (c .m) in done (quickPenalty (c .m) ks l) (quickBits (c .m) ks l) (quickWord (c .m) ks l)
 
-abbrev pub afterTests : Admitted → List ℤ → List ℕ → List ℕ → Outcome
-afterTests (admission.Allowed c) l bits word = readingBy c l
-afterTests (admission.Refused why) l bits word = refused why bits word
-
 -- of r, m, the readings, and the buffers for the information bits and the word
 unfoldable pub quickReading : ℕ → ℕ → List ℤ → List ℕ → List ℕ → Outcome
-quickReading r m l bits word = afterTests (admitted r m l (length bits) (length word)) l bits word
+quickReading r m l bits word = afterTest (admitted r m l (length bits) (length word)) (λ why. refused why bits word) (λ c. readingBy c l)

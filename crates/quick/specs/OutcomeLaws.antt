@@ -19,7 +19,7 @@ use Rattle.code.specs.declared.Admitted.the-variants.{Allowed, Refused}
 use Rattle.code.specs.SoundLaws.{length-most}
 use Rattle.code.specs.Admitted.{admitted}
 use Rattle.code.specs.SoundInput.{GoodReadings, SoundFor, SoundReadings}
-use Rattle.half.specs.Takeable.{Takeable}
+use Rattle.bit_rows.specs.Takeable.{Takeable}
 use Rattle.quick.specs.RunningSums.{sums-most}
 use Rattle.quick.specs.Outcome.{Outcome, done, refused, readingBy, quickReading}
 

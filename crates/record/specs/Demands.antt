@@ -12,11 +12,11 @@ use Rattle.code.specs.Sound.{largestM, largestRecordReading, rm}
 use Rattle.code.specs.Demand1.{View, Checks, passed, check, checkAt, LowestBad, Demand1}
 use Rattle.search.specs.Demands.{view, walkChecks}
 use Rattle.packing.specs.Layout.{recordOf, partLength, padOf}
-use Rattle.record.specs.Reader.{partOf, readingsOf, HeaderOutcome, headerOf, told}
-use Rattle.record.specs.Searching.{searchingRecord, searchingRecordWhole}
+use Rattle.record.specs.Reader.{partOf, readingsOf, HeaderOutcome, headerOf, outcomeOf}
+use Rattle.record.specs.Searching.{searchingRecord, searchingRecordWithRunnerUp}
 use Rattle.record.specs.Writing.{WrittenOutcome, writing}
 
--- r and m stand in the first byte; with no byte at all both read as 0, so that it is 8
+-- r and m are in the first byte; with no byte at all both read as 0, so that it is 8
 abbrev pub saidR : List ℕ → ℕ
 saidR s = getD s 0 0 % 16
 
@@ -45,7 +45,7 @@ pub record HeaderMeets (s : List ℕ) (o : HeaderOutcome) : Type 0 where
   pub refused : 0 < o .carry .number → (o .r ≡ 0) × (o .m ≡ 0)
 
 abbrev pub HeaderDemand1 : List ℕ → Type 0
-HeaderDemand1 s = HeaderMeets s (told (headerOf s))
+HeaderDemand1 s = HeaderMeets s (outcomeOf (headerOf s))
 
 -- ---- the search
 abbrev pub recordChecks : ℕ → List ℕ → List ℕ → List ℕ → Checks
@@ -61,11 +61,11 @@ RecordDemand1 allowed s bits word = Demand1 (recordChecks allowed s bits word) (
 -- a larger allowance changes nothing that was answered or refused, but for 6, as with the search of plain readings: numbers, buffers and runner-up stay
 abbrev pub RecordLargerAllowance : List ℕ → List ℕ → List ℕ → Type 0
 RecordLargerAllowance s bits word = (allowed more : ℕ) → allowed ≤ more
-    → (searchingRecord allowed s bits word .number ≡ 6 → ⊥) → searchingRecordWhole more s bits word ≡ searchingRecordWhole allowed s bits word
+    → (searchingRecord allowed s bits word .number ≡ 6 → ⊥) → searchingRecordWithRunnerUp more s bits word ≡ searchingRecordWithRunnerUp allowed s bits word
 
 -- 4 is given neither by the header nor by the search, whatever the bytes are
 pub record Never4 (allowed : ℕ) (s bits word : List ℕ) : Type 0 where
-  pub header : told (headerOf s) .carry .number ≡ 4 → ⊥
+  pub header : outcomeOf (headerOf s) .carry .number ≡ 4 → ⊥
   pub search : searchingRecord allowed s bits word .number ≡ 4 → ⊥
 
 -- ---- the writer

@@ -24,9 +24,9 @@ use Rattle.search.specs.DemandsMet.{larger-allowance}
 use Rattle.packing.specs.Layout.{partLength, padOf}
 use Rattle.record.specs.declared.Header.{Header}
 use Rattle.record.specs.declared.Header.the-variants.{Record, Refused}
-use Rattle.record.specs.Reader.{partOf, readingsOf, headedBy, headerOf, told}
+use Rattle.record.specs.Reader.{partOf, readingsOf, headedBy, headerOf, outcomeOf}
 use Rattle.record.specs.ReaderLaws.{frame-torn, frame-pad, frame-whole, framed-record, length-readings-of}
-use Rattle.record.specs.Searching.{searchingBy, searchingRecord, searchingWholeBy}
+use Rattle.record.specs.Searching.{searchingBy, searchingRecord, searchingWithRunnerUpBy}
 use Rattle.record.specs.Accepted.{readings-allowed}
 use Rattle.record.specs.Demands.{saidR, saidM, headerChecks, headerView, HeaderDemand1, recordChecks, RecordDemand1, RecordLargerAllowance, Never4}
 
@@ -66,26 +66,26 @@ module _ (before : List (List ℕ)) (o : View) (rest : Checks) where
       (lt-or-le largestM m)
 
 -- ---- the header
-pub header-decides : (s : List ℕ) → Decides [] (headerView (told (headerOf s))) (headerChecks s passed)
+pub header-decides : (s : List ℕ) → Decides [] (headerView (outcomeOf (headerOf s))) (headerChecks s passed)
 header-decides s =
-    decides-header [] (headerView (told (headerOf s))) passed s
-    (λ why e. ap (λ (h : Header). headerView (told h)) e)
+    decides-header [] (headerView (outcomeOf (headerOf s))) passed s
+    (λ why e. ap (λ (h : Header). headerView (outcomeOf h)) e)
     (λ sound whole e. rw e (refl, refl))
 
-header-said : (s : List ℕ) (h : Header) → headerOf s ≡ h → told h .carry .number ≡ 0 → (told h .r ≡ saidR s) × (told h .m ≡ saidM s)
+header-said : (s : List ℕ) (h : Header) → headerOf s ≡ h → outcomeOf h .carry .number ≡ 0 → (outcomeOf h .r ≡ saidR s) × (outcomeOf h .m ≡ saidM s)
 header-said s (Refused why) is e = absurd (omega (arith, number-above why))
 header-said s (Record c) is e =
     let same = made-of (saidR s) (saidM s) c (framed-record s c is .said) .same in
     (ap (λ (d : Code). d .r) same, ap (λ (d : Code). d .m) same)
 
-pub header-none : (h : Header) → 0 < told h .carry .number → (told h .r ≡ 0) × (told h .m ≡ 0)
+pub header-none : (h : Header) → 0 < outcomeOf h .carry .number → (outcomeOf h .r ≡ 0) × (outcomeOf h .m ≡ 0)
 header-none (Refused why) h = (refl, refl)
 header-none (Record c) h = absurd (omega arith)
 
 pub header-demand-1 : (s : List ℕ) → HeaderDemand1 s
 header-demand-1 s =
     record {
-      checked = demand-1 [] (headerView (told (headerOf s))) (headerChecks s passed) (header-decides s);
+      checked = demand-1 [] (headerView (outcomeOf (headerOf s))) (headerChecks s passed) (header-decides s);
       said = header-said s (headerOf s) refl;
       refused = header-none (headerOf s);
     }
@@ -133,7 +133,7 @@ module _ (allowed : ℕ) (bits word : List ℕ) where
 
 -- ---- a larger allowance
 headed-kept : (h : Header) (s bits word : List ℕ) (allowed more : ℕ) → allowed ≤ more → (searchingBy h allowed s bits word .number ≡ 6 → ⊥)
-    → searchingWholeBy h more s bits word ≡ searchingWholeBy h allowed s bits word
+    → searchingWithRunnerUpBy h more s bits word ≡ searchingWithRunnerUpBy h allowed s bits word
 headed-kept (Refused why) s bits word allowed more h n = refl
 headed-kept (Record c) s bits word allowed more h n = larger-allowance (c .r) (c .m) (readingsOf c s) bits word allowed more h n
 

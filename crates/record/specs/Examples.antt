@@ -12,7 +12,7 @@ use Rattle.record.specs.declared.Written.the-variants as writer
 use Rattle.record.specs.declared.Written.the-variants.{Next}
 use Rattle.packing.specs.Layout.{recordOf, packed, unpacked, partLength, padOf}
 use Rattle.record.specs.Reader.{readingsOf, headerOf}
-use Rattle.record.specs.Writing.{told, writable, writing}
+use Rattle.record.specs.Writing.{outcomeOf, writable, writing}
 
 pub record Examples : Type 0 where
   -- RM(1,2), readings 5, -2, 3, 1: 21 005 FFE 003 001
@@ -29,11 +29,11 @@ pub record Examples : Type 0 where
   pub pad-and-rail : headerOf (0x00 ∷ 0x80 ∷ 0x01 ∷ []) ≡ Refused Pad
   -- a record between two bytes that stay; one byte less is no room, and neither is a place beyond the end
   pub written : writing 1 2 sample (replicate 9 0xAA) 1
-      ≡ told (Next 8) (0xAA ∷ 0x21 ∷ 0x00 ∷ 0x5F ∷ 0xFE ∷ 0x00 ∷ 0x30 ∷ 0x01 ∷ 0xAA ∷ [])
-  pub no-room : writing 1 2 sample (replicate 7 0xAA) 1 ≡ told (writer.Refused OutputLength) (replicate 7 0xAA)
-  pub beyond : writing 0 0 (pos 1 ∷ []) (0xAA ∷ []) 9 ≡ told (writer.Refused OutputLength) (0xAA ∷ [])
+      ≡ outcomeOf (Next 8) (0xAA ∷ 0x21 ∷ 0x00 ∷ 0x5F ∷ 0xFE ∷ 0x00 ∷ 0x30 ∷ 0x01 ∷ 0xAA ∷ [])
+  pub no-room : writing 1 2 sample (replicate 7 0xAA) 1 ≡ outcomeOf (writer.Refused OutputLength) (replicate 7 0xAA)
+  pub beyond : writing 0 0 (pos 1 ∷ []) (0xAA ∷ []) 9 ≡ outcomeOf (writer.Refused OutputLength) (0xAA ∷ [])
   -- 4 comes before 3
-  pub bad-reading : writing 1 1 (pos 1 ∷ pos 2048 ∷ []) [] 0 ≡ told (writer.Refused (Entry 1)) []
+  pub bad-reading : writing 1 1 (pos 1 ∷ pos 2048 ∷ []) [] 0 ≡ outcomeOf (writer.Refused (Entry 1)) []
   -- RM(1,1), 11 001 800: the bottom rail is accepted, and read as -2,047
   pub rail : headerOf (0x11 ∷ 0x00 ∷ 0x18 ∷ 0x00 ∷ []) ≡ Record (rm 1 1)
   pub rail-read : readingsOf (rm 1 1) (0x11 ∷ 0x00 ∷ 0x18 ∷ 0x00 ∷ []) ≡ pos 1 ∷ negsuc 2046 ∷ []

@@ -1,4 +1,4 @@
--- What the calls tell and leave, and demand 1 over it
+-- Records (docs/RULES.md, §7): what the reader, the writer and the search of a record report and leave, and demand 1
 pub mod Reader
 pub mod Writing
 pub mod Searching

@@ -49,9 +49,9 @@ pub record HeaderOutcome : Type 0 where
   pub r : ℕ
   pub m : ℕ
 
-abbrev pub told : Header → HeaderOutcome
-told (Record c) = record { carry = carrying 0 0 0 0; r = c .r; m = c .m }
-told (Refused why) = record { carry = carried why; r = 0; m = 0 }
+abbrev pub outcomeOf : Header → HeaderOutcome
+outcomeOf (Record c) = record { carry = carrying 0 0 0 0; r = c .r; m = c .m }
+outcomeOf (Refused why) = record { carry = carried why; r = 0; m = 0 }
 
 -- the part handed back: empty on refusal
 abbrev pub partBy : Header → List ℕ → List ℕ

@@ -50,7 +50,7 @@ pub part-of-one : (m : ℕ) → m ≡ 0 → partLength m ≡ 2
 unfolding partLength
 part-of-one m e = rw e
 
--- what is told of bytes whose frame is accepted
+-- what is reported of bytes whose frame is accepted
 pub record Framed (s : List ℕ) (c : Code) : Type 0 where
   pub said : codeOf (getD s 0 0) ≡ Good c
   pub sound : Sound c

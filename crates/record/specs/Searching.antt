@@ -1,17 +1,17 @@
--- What the search of a record tells and leaves, for all that it can be given: a record checks 1, 8, 9, then 3, 6 and 7.
+-- What the search of a record reports and leaves, for every input: a record checks 1, 8, 9, then 3, 6 and 7.
 use mathlib.Core.List.{List, []}
 use Prim.Native.Nat.{ℕ}
 use Rattle.words.specs.Kinds.{kinds}
 use Rattle.search.specs.declared.Searched.the-variants as searched
-use Rattle.search.specs.Outcome.{Outcome, told, searching}
-use Rattle.search.specs.RunnerUp.{WholeOutcome, runnerUp, shownWith}
+use Rattle.search.specs.Outcome.{Outcome, outcomeOf, searching}
+use Rattle.search.specs.RunnerUp.{RunnerUpOutcome, runnerUp, shownWith}
 use Rattle.record.specs.declared.Header.{Header}
 use Rattle.record.specs.declared.Header.the-variants.{Record, Refused}
 use Rattle.record.specs.Reader.{headerOf, readingsOf}
 
 -- 1, 8 and 9 leave the lent buffers as they were; the rest is the search of the record's readings, whose length is never wrong
 abbrev pub searchingBy : Header → ℕ → List ℕ → List ℕ → List ℕ → Outcome
-searchingBy (Refused why) allowed s bits word = told (searched.Refused why) bits word
+searchingBy (Refused why) allowed s bits word = outcomeOf (searched.Refused why) bits word
 searchingBy (Record c) allowed s bits word = searching (c .r) (c .m) allowed (readingsOf c s) bits word
 
 unfoldable pub searchingRecord : ℕ → List ℕ → List ℕ → List ℕ → Outcome
@@ -22,8 +22,8 @@ abbrev pub runnerUpBy : Header → List ℕ → List ℕ
 runnerUpBy (Refused why) s = []
 runnerUpBy (Record c) s = runnerUp (c .m) (kinds (c .r) (c .m)) (readingsOf c s)
 
-abbrev pub searchingWholeBy : Header → ℕ → List ℕ → List ℕ → List ℕ → WholeOutcome
-searchingWholeBy h allowed s bits word = shownWith (runnerUpBy h s) (searchingBy h allowed s bits word)
+abbrev pub searchingWithRunnerUpBy : Header → ℕ → List ℕ → List ℕ → List ℕ → RunnerUpOutcome
+searchingWithRunnerUpBy h allowed s bits word = shownWith (runnerUpBy h s) (searchingBy h allowed s bits word)
 
-abbrev pub searchingRecordWhole : ℕ → List ℕ → List ℕ → List ℕ → WholeOutcome
-searchingRecordWhole allowed s bits word = shownWith (runnerUpBy (headerOf s) s) (searchingRecord allowed s bits word)
+abbrev pub searchingRecordWithRunnerUp : ℕ → List ℕ → List ℕ → List ℕ → RunnerUpOutcome
+searchingRecordWithRunnerUp allowed s bits word = shownWith (runnerUpBy (headerOf s) s) (searchingRecord allowed s bits word)

@@ -1,10 +1,11 @@
--- What writing a record tells and leaves, for all that it can be given: 1, 2, 4, then 3.
-use mathlib.Core.List.{List, _++_}
+-- What writing a record reports and leaves, for every input: 1, 2, 4, then 3.
+use mathlib.Core.List.{List}
 use mathlib.Core.Bool.{cond, not}
 use Prim.Native.Nat.{ℕ, suc, _+_, _-_, _^_}
 use lib.IntN.{ℤ}
-use lib.ListN.{length, take, drop}
+use lib.ListN.{length}
 use lib.Dec.{ltb, eqb}
+use Rattle.numbers.specs.Laid.{laidAt}
 use Rattle.code.specs.Sound.{Carried, carrying, carried, largestRecordReading, made}
 use Rattle.code.specs.Entries.{firstBadReading}
 use Rattle.code.specs.Admitted.{ifMade}
@@ -25,9 +26,9 @@ pub record WrittenOutcome : Type 0 where
   pub buffer : List ℕ
 
 -- the answer in the rules' numbers
-abbrev pub told : Written → List ℕ → WrittenOutcome
-told (Next next) buffer = record { carry = carrying 0 0 0 0; next = next; buffer = buffer }
-told (Refused why) buffer = record { carry = carried why; next = 0; buffer = buffer }
+abbrev pub outcomeOf : Written → List ℕ → WrittenOutcome
+outcomeOf (Next next) buffer = record { carry = carrying 0 0 0 0; next = next; buffer = buffer }
+outcomeOf (Refused why) buffer = record { carry = carried why; next = 0; buffer = buffer }
 
 -- of a code: the readings l, and a record in a buffer of so many bytes from the place on
 abbrev pub writableBy : Code → List ℤ → ℕ → ℕ → Admitted
@@ -40,14 +41,10 @@ writableBy c l bytes place =
 unfoldable pub writable : ℕ → ℕ → List ℤ → ℕ → ℕ → Admitted
 writable r m l bytes place = ifMade (made r m) (λ c. writableBy c l bytes place)
 
--- the bytes x in d from the place on, in the place of as many
-abbrev pub laidAt : ℕ → List ℕ → List ℕ → List ℕ
-laidAt place x d = take place d ++ (x ++ drop (place + length x) d)
-
 abbrev pub writtenBy : Admitted → List ℤ → List ℕ → ℕ → WrittenOutcome
-writtenBy (admission.Refused why) l buffer place = told (Refused why) buffer
+writtenBy (admission.Refused why) l buffer place = outcomeOf (Refused why) buffer
 writtenBy (admission.Allowed c) l buffer place =
-    let new = recordOf (c .r) (c .m) l in told (Next (place + length new)) (laidAt place new buffer)
+    let new = recordOf (c .r) (c .m) l in outcomeOf (Next (place + length new)) (laidAt place new buffer)
 
 -- of r, m, the readings, the buffer and the place
 unfoldable pub writing : ℕ → ℕ → List ℤ → List ℕ → ℕ → WrittenOutcome

@@ -12,6 +12,7 @@ use borrow.Rule.Slice.PartMut.{putMid}
 use borrow.Author.Tests.{eq-eqb, ne-eqb, lt-ltb, le-ltb}
 use Rattle.numbers.specs.Choice.{lt-or-le}
 use Rattle.decoding.specs.Readings.{Within}
+use Rattle.numbers.specs.Laid.{laidAt}
 use Rattle.code.specs.Sound.{Sound, largestRecordReading, made, rm}
 use Rattle.code.specs.SoundLaws.{made-of, made-good}
 use Rattle.code.specs.Entries.{firstBadReading}
@@ -26,7 +27,7 @@ use Rattle.code.specs.declared.Admitted.the-variants as admission
 use Rattle.record.specs.declared.Written.{Written}
 use Rattle.record.specs.declared.Written.the-variants.{Next, Refused}
 use Rattle.packing.specs.Layout.{recordOf, partLength}
-use Rattle.record.specs.Writing.{WrittenOutcome, told, writable, laidAt, writtenBy}
+use Rattle.record.specs.Writing.{WrittenOutcome, outcomeOf, writable, writtenBy}
 
 -- the answers of the tests
 module _ (r m : ℕ) (l : List ℤ) (bytes place : ℕ) where
@@ -111,25 +112,25 @@ module _ (r m : ℕ) (l : List ℤ) (bytes place : ℕ) where
 
 -- what a part of the buffer leaves that was lent for the record and came back as it
 pub wrote : (c : Code) (l : List ℤ) (d q : List ℕ) (place k : ℕ) → q ≡ recordOf (c .r) (c .m) l → length q ≡ k
-    → told (Next (place + k)) (putMid place ((place + k) - place) d q) ≡ writtenBy (admission.Allowed c) l d place
+    → outcomeOf (Next (place + k)) (putMid place ((place + k) - place) d q) ≡ writtenBy (admission.Allowed c) l d place
 wrote c l d q place k e h =
     let room : (place + k) - place ≡ length q = omega arith in
     let end : place + k ≡ place + length q = omega arith in
     let behind : drop (length q) (drop place d) ≡ drop (place + length q) d = drop-drop (length q) place d in
-    rw (room, behind, end) (ap (λ (x : List ℕ). told (Next (place + length x)) (laidAt place x d)) e)
+    rw (room, behind, end) (ap (λ (x : List ℕ). outcomeOf (Next (place + length x)) (laidAt place x d)) e)
 
 -- ---- no second answer and no second buffer
-answer-only : (a b : Written) (x y : List ℕ) → told a x ≡ told b y → a ≡ b
+answer-only : (a b : Written) (x y : List ℕ) → outcomeOf a x ≡ outcomeOf b y → a ≡ b
 answer-only (Next n) (Next n′) x y e = ap (λ (o : WrittenOutcome). Next (o .next)) e
 answer-only (Next n) (Refused why) x y e = absurd (omega (arith, number-above why, ap (λ (o : WrittenOutcome). o .carry .number) e))
 answer-only (Refused why) (Next n) x y e = absurd (omega (arith, number-above why, ap (λ (o : WrittenOutcome). o .carry .number) e))
 answer-only (Refused why) (Refused why′) x y e = ap Refused (refusal-only why why′ (ap (λ (o : WrittenOutcome). o .carry) e))
 
-buffer-told : (a : Written) (x : List ℕ) → told a x .buffer ≡ x
+buffer-told : (a : Written) (x : List ℕ) → outcomeOf a x .buffer ≡ x
 buffer-told (Next n) x = refl
 buffer-told (Refused why) x = refl
 
-pub write-only : (o : WrittenOutcome) (a b : Written) (x y : List ℕ) → told a x ≡ o → told b y ≡ o → (a ≡ b) × (x ≡ y)
+pub write-only : (o : WrittenOutcome) (a b : Written) (x y : List ℕ) → outcomeOf a x ≡ o → outcomeOf b y ≡ o → (a ≡ b) × (x ≡ y)
 write-only o a b x y e f =
-    let same : told a x ≡ told b y = e ∙ sym f in
+    let same : outcomeOf a x ≡ outcomeOf b y = e ∙ sym f in
     (answer-only a b x y same, sym (buffer-told a x) ∙ ap (λ (o : WrittenOutcome). o .buffer) same ∙ buffer-told b y)

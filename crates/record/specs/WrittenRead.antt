@@ -8,6 +8,7 @@ use lib.IntN.{ℤ}
 use lib.ListN.{length, getD, take, drop, length-append, length-drop, take-append-drop}
 use lib.Seq.{take-at, drop-at, drop-drop, length-take-le, getD-drop}
 use Rattle.decoding.specs.Readings.{Within}
+use Rattle.numbers.specs.Laid.{laidAt}
 use Rattle.code.specs.Sound.{Sound, largestRecordReading, rm}
 use Rattle.code.specs.RefusalLaws.{number-above}
 use Rattle.code.specs.declared.Code.{Code}
@@ -21,7 +22,7 @@ use Rattle.packing.specs.LayoutLaws.{Below, length-record}
 use Rattle.record.specs.Reader.{codeOf, lengthBy, partOf, readingsOf, headerOf, partBy}
 use Rattle.record.specs.Accepted.{Begins, begins-accepted, begins-readings, begins-handed-back, begins-said, accepted-begins, readings-within}
 use Rattle.record.specs.ReaderLaws.{framed-record, length-readings-of}
-use Rattle.record.specs.Writing.{WrittenOutcome, told, laidAt, writable, writtenBy, writing}
+use Rattle.record.specs.Writing.{WrittenOutcome, outcomeOf, writable, writtenBy, writing}
 use Rattle.record.specs.WritingLaws.{Writable, allowed-writable, writable-allowed}
 
 -- ---- bytes laid over others
@@ -56,9 +57,9 @@ module _ (r m : ℕ) (l : List ℤ) (d : List ℕ) (place : ℕ) where
   abbrev new : List ℕ
   new = recordOf r m l
 
-  -- what it tells and leaves
+  -- what it reports and leaves
   abbrev done : WrittenOutcome
-  done = told (Next (place + length new)) (laidAt place new d)
+  done = outcomeOf (Next (place + length new)) (laidAt place new d)
 
   -- every code, readings within the largest of a record, and room
   pub record Asked : Type 0 where
@@ -160,19 +161,19 @@ module _ (s : List ℕ) (c : Code) (e : headerOf s ≡ Record c) where
 
     -- so the writer puts those bytes at any place with room
     pub written-again : (d : List ℕ) (place : ℕ) → place + k ≤ length d
-        → writing (c .r) (c .m) l d place ≡ told (Next (place + k)) (laidAt place (take k s) d)
+        → writing (c .r) (c .m) l d place ≡ outcomeOf (Next (place + k)) (laidAt place (take k s) d)
     written-again d place h =
         let same : length (take k s) ≡ k = ap length (sym same-bytes) ∙ length-record (c .r) (c .m) l (b .count) in
         asked-writes (c .r) (c .m) l d place (asks d place h)
-        ∙ ap (λ (x : List ℕ). told (Next (place + length x)) (laidAt place x d)) same-bytes
-        ∙ ap (λ (n : ℕ). told (Next (place + n)) (laidAt place (take k s) d)) same
+        ∙ ap (λ (x : List ℕ). outcomeOf (Next (place + length x)) (laidAt place x d)) same-bytes
+        ∙ ap (λ (n : ℕ). outcomeOf (Next (place + n)) (laidAt place (take k s) d)) same
 
 -- and at its own place it changes nothing
 pub written-in-place : (d : List ℕ) (place : ℕ) (c : Code) → Below 256 d → headerOf (drop place d) ≡ Record c → NoRail (nibbles (partOf c (drop place d)))
-    → writing (c .r) (c .m) (readingsOf c (drop place d)) d place ≡ told (Next (place + lengthBy (Good c))) d
+    → writing (c .r) (c .m) (readingsOf c (drop place d)) d place ≡ outcomeOf (Next (place + lengthBy (Good c))) d
 written-in-place d place c bytes e none =
     let s = drop place d in
     let k = lengthBy (Good c) in
     let below : Below 256 s = λ i. rw (getD-drop place d i 0) (bytes (place + i)) in
     let room : place + k ≤ length d = omega (arith, accepted-long s c e, length-drop place d) in
-    written-again s c e below none d place room ∙ ap (told (Next (place + k))) (laid-same place k d room)
+    written-again s c e below none d place room ∙ ap (outcomeOf (Next (place + k))) (laid-same place k d room)

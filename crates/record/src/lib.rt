@@ -1,15 +1,17 @@
-// Packed records: the reader, the writer, and the search of a record.
+// Packed records (docs/RULES.md, §7): the reader, the writer, and the search of a record.
 ghost use mathlib.Core.Path.{_≡_};
 ghost use Prim.Native.Nat.{suc, _<_, _≤_};
 ghost use lib.ListN.{length};
 ghost use Rattle.decoding.specs.Readings.{Within};
 ghost use Rattle.code.specs.Sound.{Sound, largestRecordReading};
 ghost use Rattle.packing.specs.Layout.{recordOf, partLength};
-ghost use Rattle.record.specs.Reader.{codeOf, lengthBy, headedBy, headerOf, told, partBy};
+ghost use Rattle.record.specs.Reader.{codeOf, lengthBy, headedBy, headerOf};
+ghost use Rattle.record.specs.Reader.{outcomeOf, partBy};
 ghost use Rattle.record.specs.Writing as Writing;
 ghost use Rattle.record.specs.Writing.{writable, writing};
-ghost use Rattle.search.specs.RunnerUp.{toldWhole};
-ghost use Rattle.record.specs.Searching.{searchingWholeBy, searchingRecordWhole};
+ghost use Rattle.search.specs.RunnerUp.{runnerUpOutcomeOf};
+ghost use Rattle.record.specs.Searching.{searchingWithRunnerUpBy};
+ghost use Rattle.record.specs.Searching.{searchingRecordWithRunnerUp};
 use code::Admitted;
 use code::Code;
 use code::Made;
@@ -35,7 +37,7 @@ fn code_of(first: u8) -> Made
     Code::new(first % 16, first / 16)
 }
 
-// How many bytes a record has, told by its first byte; 0 where that byte is refused.
+// How many bytes a record has, by its first byte; 0 where that byte is refused.
 pub fn record_length(first: u8) -> usize
     ensures { λ k. ⌜ k ≡ lengthBy (codeOf first) ⌝ }
 {
@@ -76,7 +78,7 @@ fn frame(s: &[u8]) -> Header
 
 // The code of the record that the bytes begin with, or the refusal.
 pub fn header_of(s: &[u8]) -> Header
-    ensures { λ answer. ⌜ told answer ≡ told (headerOf (now (s .entry))) ⌝ }
+    ensures { λ answer. ⌜ outcomeOf answer ≡ outcomeOf (headerOf (now (s .entry))) ⌝ }
 {
     frame(s)
 }
@@ -97,8 +99,9 @@ pub fn packed(s: &[u8]) -> &[u8]
 
 // Searches the record that the bytes begin with. The refusals are 1, 8, 9, 3, 6, 7, in this order.
 pub fn search_record(s: &[u8], allowed: u32, bits: &mut [u8], word: &mut [u8]) -> WithRunnerUp
-    ensures { λ answer. ⌜ toldWhole answer (now (bits .exit)) (now (word .exit))
-        ≡ searchingRecordWhole allowed (now (s .entry)) (now (bits .entry)) (now (word .entry)) ⌝ }
+    ensures { λ answer. ⌜ runnerUpOutcomeOf answer (now (bits .exit)) (now (word .exit))
+        ≡ searchingRecordWithRunnerUp allowed (now (s .entry))
+        (now (bits .entry)) (now (word .entry)) ⌝ }
 {
     match frame(s) {
         Header::Record(code) => search_framed(s, code, allowed, bits, word),
@@ -115,8 +118,8 @@ pub fn search_framed(
     word: &mut [u8],
 ) -> WithRunnerUp
     requires { ⌜ Sound code × (suc (partLength (code .m)) ≤ length (now s)) ⌝ }
-    ensures { λ answer. ⌜ toldWhole answer (now (bits .exit)) (now (word .exit))
-        ≡ searchingWholeBy (Header.Record code) allowed (now (s .entry))
+    ensures { λ answer. ⌜ runnerUpOutcomeOf answer (now (bits .exit)) (now (word .exit))
+        ≡ searchingWithRunnerUpBy (Header.Record code) allowed (now (s .entry))
         (now (bits .entry)) (now (word .entry)) ⌝ }
 {
     let mut readings = [0i16; 256];
@@ -163,7 +166,7 @@ fn put_record(code: Code, readings: &[i16], bytes: &mut [u8])
 
 // Writes the record of the readings into the lent buffer, from the place on. All other bytes stay.
 pub fn write(r: u32, m: u32, readings: &[i16], buffer: &mut [u8], place: usize) -> Written
-    ensures { λ answer. ⌜ Writing.told answer (now (buffer .exit))
+    ensures { λ answer. ⌜ Writing.outcomeOf answer (now (buffer .exit))
         ≡ writing r m (now (readings .entry)) (now (buffer .entry)) place ⌝ }
 {
     match writable(r, m, readings, buffer.len(), place) {

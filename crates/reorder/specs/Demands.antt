@@ -1,5 +1,5 @@
--- C-20 of the calls: demand 1, with 11 exactly; the undo map that is handed back; and two searches, of readings and of reordered readings. Proved in Demand1Met
--- and DemandsMet.
+-- The demands on the calls (docs/RULES.md, §12): demand 1, with 11 exactly; the undo map that is handed back; and two searches, of readings and of
+-- reordered readings. Proved in Demand1Met and DemandsMet.
 use mathlib.Core.Path.{_≡_}
 use mathlib.Core.List.{List, []}
 use Prim.Native.Nat.{ℕ, _*_, _^_, _<_}
@@ -45,7 +45,7 @@ undoChecks m A b C c = mapChecks m (LongMap m A b) (LongMap m C c) (Good m A b) 
 abbrev pub productChecks : ℕ → List ℕ → List ℕ → List ℕ → List ℕ → List ℕ → List ℕ → Checks
 productChecks m A b C c D d = mapChecks m (LongMap m A b × LongMap m C c) (LongMap m D d) (Good m A b × Good m C c) passed
 
--- what a call tells; what is lent stands beside it, since it is of another kind for each call
+-- what a call reports; what is lent comes beside it, since it is of another kind for each call
 abbrev pub reorderView : {B : Type 0} → Outcome B → View
 reorderView o =
     let c = o .carry in

@@ -1,4 +1,4 @@
--- Definitions: what each call tells and leaves; what C-20 says of the calls; inside, what the tests on lengths give
+-- The calls on maps of positions (docs/RULES.md, §12): what each reports and leaves, the demands, and what the tests on lengths give
 pub mod Outcome
 pub mod Demands
 pub mod Work

@@ -1,20 +1,11 @@
 -- No second answer and no second contents of what is lent meet the promise of a call: the rules' numbers tell every answer apart.
-use mathlib.Core.Path.{_≡_, refl, ap, sym, _∙_}
-use native.Mathlib.Omega.{arith}
-use Rattle.code.specs.Sound.{Carried}
-use Rattle.code.specs.RefusalLaws.{refusal-only, number-above}
-use Rattle.reorder.specs.declared.Answer.{Answer}
-use Rattle.reorder.specs.declared.Answer.the-variants.{Done, Refused}
-use Rattle.reorder.specs.Outcome.{Outcome, answerCarries, told}
-
-carried-only : (a b : Answer) → answerCarries a ≡ answerCarries b → a ≡ b
-carried-only Done Done e = refl
-carried-only Done (Refused why) e = absurd (omega (arith, number-above why, ap (λ (c : Carried). c .number) e))
-carried-only (Refused why) Done e = absurd (omega (arith, number-above why, ap (λ (c : Carried). c .number) e))
-carried-only (Refused why) (Refused why′) e = ap Refused (refusal-only why why′ e)
+use mathlib.Core.Path.{_≡_, ap, sym, _∙_}
+use Rattle.code.specs.RefusalLaws.{completed-only}
+use Rattle.code.specs.declared.Completed.{Completed}
+use Rattle.reorder.specs.Outcome.{Outcome, outcomeOf}
 
 -- whatever outcome is promised
-pub reorder-only : {B : Type 0} (o : Outcome B) (a b : Answer) (x y : B) → told a x ≡ o → told b y ≡ o → (a ≡ b) × (x ≡ y)
+pub reorder-only : {B : Type 0} (o : Outcome B) (a b : Completed) (x y : B) → outcomeOf a x ≡ o → outcomeOf b y ≡ o → (a ≡ b) × (x ≡ y)
 reorder-only {B} o a b x y e f =
-    let same : told a x ≡ told b y = e ∙ sym f in
-    (carried-only a b (ap (λ (p : Outcome B). p .carry) same), ap (λ (p : Outcome B). p .lent) same)
+    let same : outcomeOf a x ≡ outcomeOf b y = e ∙ sym f in
+    (completed-only a b (ap (λ (p : Outcome B). p .carry) same), ap (λ (p : Outcome B). p .lent) same)

@@ -1,4 +1,4 @@
--- What `reorder`, `reorder_word`, `undo_map` and `product_map` tell and leave, for all that they can be given (C-20).
+-- What `reorder`, `reorder_word`, `undo_map` and `product_map` report and leave, for every input (docs/RULES.md, §12).
 use mathlib.Core.List.{List}
 use mathlib.Core.Bool.{Bool, not, cond, _&&_}
 use Prim.Native.Nat.{ℕ, _*_, _^_}
@@ -7,12 +7,12 @@ use lib.ListN.{length}
 use lib.Dec.{ltb, eqb}
 use Rattle.code.specs.declared.Refusal.{Refusal}
 use Rattle.code.specs.declared.Refusal.the-variants.{Parameters, InputLength, OutputLength, Entry, Map}
-use Rattle.code.specs.Sound.{largestM, largestReading, Carried, carrying, carried}
+use Rattle.code.specs.Sound.{largestM, largestReading, Carried, completed}
 use Rattle.code.specs.Entries.{firstBadBit, firstBadReading}
 use Rattle.maps.specs.Maps.{reordered, productTable, productRow, undoTable, undoRow}
 use Rattle.images.specs.Images.{isMap}
-use Rattle.reorder.specs.declared.Answer.{Answer}
-use Rattle.reorder.specs.declared.Answer.the-variants.{Done, Refused}
+use Rattle.code.specs.declared.Completed.{Completed}
+use Rattle.code.specs.declared.Completed.the-variants.{Done, Refused}
 
 -- B is what is lent to be written: one buffer, or two
 pub record Outcome (B : Type 0) : Type 0 where
@@ -22,19 +22,15 @@ pub record Outcome (B : Type 0) : Type 0 where
   pub lent : B
 
 -- the answer in the rules' numbers
-abbrev pub answerCarries : Answer → Carried
-answerCarries Done = carrying 0 0 0 0
-answerCarries (Refused why) = carried why
-
-abbrev pub told : {B : Type 0} → Answer → B → Outcome B
-told answer lent = record { carry = answerCarries answer; lent = lent }
+abbrev pub outcomeOf : {B : Type 0} → Completed → B → Outcome B
+outcomeOf answer lent = record { carry = completed answer; lent = lent }
 
 abbrev pub done : {B : Type 0} → B → Outcome B
-done lent = told Done lent
+done lent = outcomeOf Done lent
 
 -- what is lent keeps its contents
 abbrev pub refused : {B : Type 0} → B → Refusal → Outcome B
-refused lent why = told (Refused why) lent
+refused lent why = outcomeOf (Refused why) lent
 
 -- ---- the tests
 -- a table of this many bytes is m by m, and a row of this many m long

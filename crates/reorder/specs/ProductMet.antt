@@ -13,7 +13,7 @@ use Rattle.code.specs.Sound.{largestM, largestReading}
 use Rattle.code.specs.Entries.{firstBadReading}
 use Rattle.code.specs.EntriesLaws.{first-none}
 use Rattle.maps.specs.Maps.{reordered, productTable, productRow}
-use Rattle.maps.specs.TurnedOrdersMet.{turned-orders}
+use Rattle.maps.specs.PositionOrdersMet.{position-orders}
 use Rattle.images.specs.Images.{isMap, Mapped}
 use Rattle.reorder.specs.Outcome.{Outcome, done, reordering, multiplying}
 use Rattle.reorder.specs.Demands.{Good, LongMap, OneThenAnother}
@@ -59,7 +59,7 @@ module _ (m : ℕ) (A b C c : List ℕ) (l out out′ out″ : List ℤ) (D d : 
       → OneThenAnother m A b C c l out out′ out″ D d
   one-then-another x y room″ room =
       let l′ = reordering m A b l out .lent in
-      let again = turned-orders m A b .maps-again in
+      let again = position-orders m A b .maps-again in
       let P = productTable m A C in
       let p = productRow m A b c in
       let is-map = again .product-map C c in
@@ -75,7 +75,7 @@ module _ (m : ℕ) (A b C c : List ℕ) (l out out′ out″ : List ℤ) (D d : 
         same =
             ap (λ (o : Outcome (List ℕ × List ℕ)). reordering m (o .lent .0) (o .lent .1) l out″) made
             ∙ once
-            ∙ ap done (sym (turned-orders m A b .readings l .one-then-another C c))
+            ∙ ap done (sym (position-orders m A b .readings l .one-then-another C c))
             ∙ sym twice;
       }
 

@@ -1,4 +1,4 @@
--- Laws of a row put in its place: it stands there, what lies behind it is as it was, and what is written before a row leaves the row.
+-- Laws of a row put in its place: it is there, what lies behind it is as it was, and what is written before a row leaves the row.
 use mathlib.Core.Path.{_≡_, ap, sym, _∙_}
 use mathlib.Core.List.{List}
 use Prim.Native.Nat.{ℕ, _+_, _-_, _≤_}

@@ -1,4 +1,4 @@
--- Laws of the steps on a pair, and of the loops that fill a row: what a turn reads and what it stores, whichever list l of 2h entries it reads.
+-- Laws of the steps on a pair, and of the loops that fill a row: what a pass reads and what it stores, whichever list l of 2h entries it reads.
 use mathlib.Core.Path.{_≡_, refl, ap, ap₂, sym, _∙_}
 use mathlib.Core.Bool.{true, false}
 use mathlib.Core.List.{List}

@@ -1,4 +1,4 @@
--- Where rows of running sums stand in a scratch array: the row of n sums at [n .. 2n], so that the rows of 1, 2, 4, .. sums lie one behind the other.
+-- Where rows of running sums are stored in a scratch array: the row of n sums at [n .. 2n], so that the rows of 1, 2, 4, .. sums lie one behind the other.
 use mathlib.Core.List.{List}
 use Prim.Native.Nat.{ℕ}
 use lib.IntN.{ℤ}

@@ -1,5 +1,5 @@
 // The two combining steps, on one pair and over rows; what a bit loses at a value.
-// Rows of running sums stand in one scratch array, the row of n sums at [n .. 2n].
+// Rows of running sums are stored in one scratch array, the row of n sums at [n .. 2n].
 ghost use mathlib.Core.Path.{_≡_};
 ghost use Prim.Native.Nat.{_+_, _≤_, _<_};
 ghost use lib.IntN.{natAbs};

@@ -1,4 +1,5 @@
--- The search's whole answer (C-22): its outcome, and beside it the runner-up, the second full path that is held when the written walk ends.
+-- The search's answer with the runner-up (docs/RULES.md, §5): its outcome, and beside it the second full path that is held when the written walk
+-- ends.
 use mathlib.Core.Bool.{cond}
 use mathlib.Core.List.{List, [], _++_}
 use Prim.Native.Nat.{ℕ, _-_}
@@ -10,7 +11,7 @@ use Rattle.decoding.specs.Walk.{Held, none, one, two, walked}
 use Rattle.decoding.specs.Answer.{answer}
 use Rattle.search.specs.declared.Searched.{Searched}
 use Rattle.search.specs.declared.WithRunnerUp.{WithRunnerUp}
-use Rattle.search.specs.Outcome.{Outcome, told, byAnswer, searching}
+use Rattle.search.specs.Outcome.{Outcome, outcomeOf, byAnswer, searching}
 
 -- the second full path held: none where fewer than two are
 abbrev pub secondHeld : Held → List ℕ
@@ -26,28 +27,28 @@ roomy b = b ++ replicate (256 - length b) 0
 unfoldable pub runnerUp : ℕ → List ℕ → List ℤ → List ℕ
 runnerUp m ks l = roomy (pick ks (secondHeld (walked m ks l .held)))
 
-pub record WholeOutcome : Type 0 where
+pub record RunnerUpOutcome : Type 0 where
   -- numbers and lent buffers
   pub outcome : Outcome
   -- the 256 bytes of the answer
   pub runnerUp : List ℕ
 
 -- the runner-up x is shown on success only: zeros under every refusal
-abbrev pub shownWith : List ℕ → Outcome → WholeOutcome
+abbrev pub shownWith : List ℕ → Outcome → RunnerUpOutcome
 shownWith x o = record { outcome = o; runnerUp = cond (eqb (o .number) 0) x (replicate 256 0) }
 
 -- the answer in the rules' numbers
-abbrev pub toldWhole : WithRunnerUp → List ℕ → List ℕ → WholeOutcome
-toldWhole a bits word = record { outcome = told (a .result) bits word; runnerUp = a .«runner_up» }
+abbrev pub runnerUpOutcomeOf : WithRunnerUp → List ℕ → List ℕ → RunnerUpOutcome
+runnerUpOutcomeOf a bits word = record { outcome = outcomeOf (a .result) bits word; runnerUp = a .«runner_up» }
 
 -- a result with no runner-up
 abbrev pub withNone : Searched → WithRunnerUp
 withNone a = record { result = a; «runner_up» = replicate 256 0 }
 
 -- where tests 1 to 4 refuse nothing, over the words of any row of kinds: by the answer
-abbrev pub wholeBy : ℕ → List ℕ → List ℤ → ℕ → List ℕ → List ℕ → WholeOutcome
-wholeBy m ks l allowed bits word = shownWith (runnerUp m ks l) (byAnswer allowed bits word (answer m ks l allowed))
+abbrev pub runnerUpOutcomeBy : ℕ → List ℕ → List ℤ → ℕ → List ℕ → List ℕ → RunnerUpOutcome
+runnerUpOutcomeBy m ks l allowed bits word = shownWith (runnerUp m ks l) (byAnswer allowed bits word (answer m ks l allowed))
 
 -- of r, m, the allowance, the readings, and the buffers for the information bits and the word
-abbrev pub searchingWhole : ℕ → ℕ → ℕ → List ℤ → List ℕ → List ℕ → WholeOutcome
-searchingWhole r m allowed l bits word = shownWith (runnerUp m (kinds r m) l) (searching r m allowed l bits word)
+abbrev pub searchingWithRunnerUp : ℕ → ℕ → ℕ → List ℤ → List ℕ → List ℕ → RunnerUpOutcome
+searchingWithRunnerUp r m allowed l bits word = shownWith (runnerUp m (kinds r m) l) (searching r m allowed l bits word)

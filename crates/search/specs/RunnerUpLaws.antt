@@ -1,4 +1,4 @@
--- The whole answer at each place where the search returns, and its runner-up in an array of zeros.
+-- The answer with the runner-up at each place where the search returns, and its runner-up in an array of zeros.
 use mathlib.Core.Path.{_≡_, ap, sym, _∙_}
 use mathlib.Core.List.{List, _++_}
 use Prim.Native.Nat.{ℕ, _+_, _-_, _≤_}
@@ -23,24 +23,26 @@ use Rattle.code.specs.AdmittedLaws.{allowed-sound-for}
 use Rattle.search.specs.declared.Searched.the-variants.{Refused}
 use Rattle.search.specs.Outcome.{foundWith, refused, byAnswer}
 use Rattle.search.specs.OutcomeLaws.{searching-refused, searching-answered}
-use Rattle.search.specs.RunnerUp.{roomy, runnerUp, shownWith, toldWhole, withNone, wholeBy, searchingWhole}
+use Rattle.search.specs.RunnerUp.{roomy, runnerUp, shownWith, runnerUpOutcomeOf, withNone, runnerUpOutcomeBy, searchingWithRunnerUp}
 use Rattle.search.specs.Work.{Pickable}
 
 -- a refusal shows no runner-up
-pub none-shown : (x : List ℕ) (why : Refusal) (bits word : List ℕ) → shownWith x (refused why bits word) ≡ toldWhole (withNone (Refused why)) bits word
+pub none-shown : (x : List ℕ) (why : Refusal) (bits word : List ℕ) → shownWith x (refused why bits word) ≡ runnerUpOutcomeOf (withNone (Refused why)) bits word
 none-shown x why bits word = rw (ne-eqb (numberOf why) 0 (λ e. omega (arith, number-above why)))
 
 -- where tests 1 to 4 refuse nothing: by the answer, over the words of any row of kinds
 module _ (m : ℕ) (ks : List ℕ) (l : List ℤ) (allowed : ℕ) (bits word : List ℕ) where
-  pub whole-out : answer m ks l allowed ≡ outOfVisits → toldWhole (withNone (Refused (OutOfVisits allowed))) bits word ≡ wholeBy m ks l allowed bits word
-  whole-out e = rw e
+  pub runner-up-out : answer m ks l allowed ≡ outOfVisits
+      → runnerUpOutcomeOf (withNone (Refused (OutOfVisits allowed))) bits word ≡ runnerUpOutcomeBy m ks l allowed bits word
+  runner-up-out e = rw e
 
-  pub whole-tied : {p v : ℕ} → answer m ks l allowed ≡ tied p v → toldWhole (withNone (Refused (Tied p v))) bits word ≡ wholeBy m ks l allowed bits word
-  whole-tied e = rw e
+  pub runner-up-tied : {p v : ℕ} → answer m ks l allowed ≡ tied p v
+      → runnerUpOutcomeOf (withNone (Refused (Tied p v))) bits word ≡ runnerUpOutcomeBy m ks l allowed bits word
+  runner-up-tied e = rw e
 
-  pub whole-found : {b x y : List ℕ} {p g v : ℕ} → answer m ks l allowed ≡ found b x p g v → y ≡ runnerUp m ks l
-      → record { outcome = foundWith p g v b x; runnerUp = y } ≡ wholeBy m ks l allowed bits word
-  whole-found e f = rw (e, f)
+  pub runner-up-found : {b x y : List ℕ} {p g v : ℕ} → answer m ks l allowed ≡ found b x p g v → y ≡ runnerUp m ks l
+      → record { outcome = foundWith p g v b x; runnerUp = y } ≡ runnerUpOutcomeBy m ks l allowed bits word
+  runner-up-found e f = rw (e, f)
 
 -- ---- an array of zeros, whose first k places are lent to the bits
 zeros-left : (k : ℕ) → k ≤ 256 → drop k (replicate {A = ℕ} 256 0) ≡ replicate (256 - k) 0
@@ -57,14 +59,14 @@ second-shown n k ks second b p long is =
     rw (sub-zero, is, zeros-left k (p .few)) (ap (λ (j : ℕ). pick ks (take n second) ++ replicate {A = ℕ} (256 - j) 0) (sym e))
 
 module _ (r m allowed : ℕ) (l : List ℤ) (bits word : List ℕ) where
-  pub whole-refused : (why : Refusal) → admission.Refused why ≡ admitted r m l (length bits) (length word)
-      → searchingWhole r m allowed l bits word ≡ toldWhole (withNone (Refused why)) bits word
-  whole-refused why e =
+  pub runner-up-refused : (why : Refusal) → admission.Refused why ≡ admitted r m l (length bits) (length word)
+      → searchingWithRunnerUp r m allowed l bits word ≡ runnerUpOutcomeOf (withNone (Refused why)) bits word
+  runner-up-refused why e =
       ap (shownWith (runnerUp m (kinds r m) l)) (searching-refused r m allowed l bits word why e) ∙ none-shown (runnerUp m (kinds r m) l) why bits word
 
-  pub whole-answered : (c : Code) → admission.Allowed c ≡ admitted r m l (length bits) (length word)
-      → searchingWhole r m allowed l bits word ≡ wholeBy (c .m) (kinds (c .r) (c .m)) l allowed bits word
-  whole-answered c e =
+  pub runner-up-answered : (c : Code) → admission.Allowed c ≡ admitted r m l (length bits) (length word)
+      → searchingWithRunnerUp r m allowed l bits word ≡ runnerUpOutcomeBy (c .m) (kinds (c .r) (c .m)) l allowed bits word
+  runner-up-answered c e =
       ap (shownWith (runnerUp m (kinds r m) l)) (searching-answered r m allowed l bits word c e)
       ∙ ap (λ (d : Code). shownWith (runnerUp (d .m) (kinds (d .r) (d .m)) l) (byAnswer allowed bits word (answer (c .m) (kinds (c .r) (c .m)) l allowed)))
       (sym (allowed-sound-for dimensionOf r m l (length bits) (length word) c e .0))

@@ -25,7 +25,7 @@ use Rattle.code.specs.RefusalLaws.{number-above}
 use Rattle.code.specs.AdmittedLaws.{allows, refuses, decided}
 use Rattle.search.specs.Outcome.{Outcome, byAnswer, searching}
 use Rattle.search.specs.OutcomeLaws.{searching-refused}
-use Rattle.search.specs.RunnerUp.{secondHeld, roomy, runnerUp, wholeBy}
+use Rattle.search.specs.RunnerUp.{secondHeld, roomy, runnerUp, runnerUpOutcomeBy}
 use Rattle.search.specs.Demands.{SoundSearch, RunnerUpShown, RunnerUpDemand}
 use Rattle.search.specs.DemandsMet.{sound-answered}
 
@@ -56,7 +56,7 @@ module _ (m : ℕ) (ks : List ℕ) (l : List ℤ) (e : length l ≡ 2 ^ m) (f : 
       }
 
   pub runner-up-shown : (allowed : ℕ) (bits word : List ℕ) → byAnswer allowed bits word (answer m ks l allowed) .number ≡ 0
-      → RunnerUpShown m ks l (wholeBy m ks l allowed bits word)
+      → RunnerUpShown m ks l (runnerUpOutcomeBy m ks l allowed bits word)
   runner-up-shown allowed bits word n =
       let number : Answer → ℕ = λ a. byAnswer allowed bits word a .number in
       ⊎-elim

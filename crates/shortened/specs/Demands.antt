@@ -51,7 +51,7 @@ QuickShortenedDemand1 r m named l bits word =
     Demand1 (quickShortenedChecks r m named l bits word) (bits ∷ word ∷ []) (quick.view (quickShortened r m named l bits word))
 
 -- ---- what a quick reading that is done says: the row is a good one, the tests 2 to 4 find nothing, and what is left in the buffers is a word of the smaller
--- set with its bits, which has the penalty that is told
+-- set with its bits, which has the penalty that is reported
 abbrev pub ShortenedQuickDone : ℕ → ℕ → List ℕ → List ℤ → List ℕ → List ℕ → Type 0
 ShortenedQuickDone r m named l bits word =
     let ks = leftOf named (rm r m) in

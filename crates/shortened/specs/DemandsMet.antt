@@ -1,4 +1,4 @@
--- The outcomes of calls on a shortened set meet the demands; C-14 holds with the full code's distance.
+-- The outcomes of calls on a shortened set meet the demands; the quick reading is surely right by the full code's distance.
 use mathlib.Core.Path.{_≡_, refl, ap, sym, subst, _∙_}
 use mathlib.Core.Logic.{_⊎_, inl, inr, ⊎-elim}
 use mathlib.Core.List.{List, [], _∷_}
@@ -149,7 +149,7 @@ module _ (r m : ℕ) (named : List ℕ) where
               ]
         ]
 
--- ---- C-14: the set lies in RM(r,m), so that the sum is compared with the full code's distance
+-- ---- surely right: the set lies in RM(r,m), so that the sum is compared with the full code's distance
 pub left-inside : (r m : ℕ) (named : List ℕ) → Inside r m (leftOf named (rm r m))
 left-inside r m named = record { long = long-left named (rm r m); are-bits = are-left named (rm r m); frozen = left-frozen named (kinds r m) }
 

@@ -1,4 +1,4 @@
--- What the calls on a shortened set tell and leave, and the demands over it
+-- Encoding, inverse and quick reading on a shortened set (docs/RULES.md, §15): what the calls report and leave, and the demands
 pub mod Outcome
 pub mod Demands
 -- What the inner functions ask

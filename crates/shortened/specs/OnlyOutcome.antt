@@ -13,7 +13,7 @@ use Rattle.code.specs.Sound.{Sound, rm}
 use Rattle.code.specs.SoundLaws.{made-good}
 use Rattle.code.specs.AdmittedLaws.{allows, refuses, decided-for, tested-made}
 use Rattle.named.specs.NamedLaws.{bad-parameters, bad-row, sound-row, row-decided}
-use Rattle.encode.specs.declared.Encoded.{Encoded}
+use Rattle.code.specs.declared.Completed.{Completed}
 use Rattle.encode.specs.Outcome as encoder
 use Rattle.encode.specs.OutcomeLaws.{tested-small}
 use Rattle.encode.specs.OnlyOutcome as encoders
@@ -70,21 +70,22 @@ module _ (r m : ℕ) (named : List ℕ) where
         | sound-row s g e ↦ rw (← quick-left r m named (rm r m) e l bits word) (small-plain (over-small (leftOf named (rm r m)) l bits word s))
       ]
 
-  module _ (a b : Encoded) (x y : List ℕ) where
-    pub encode-only : (bits word : List ℕ) → encoder.told a x ≡ encodingShortened r m named bits word → encoder.told b y ≡ encodingShortened r m named bits word
+  module _ (a b : Completed) (x y : List ℕ) where
+    pub encode-only : (bits word : List ℕ)
+        → encoder.outcomeOf a x ≡ encodingShortened r m named bits word → encoder.outcomeOf b y ≡ encodingShortened r m named bits word
         → (a ≡ b) × (x ≡ y)
     encode-only bits word =
         let p = encoding-plain bits word in
         encoders.outcome-only (encodingShortened r m named bits word) (p .0) (p .1) a b x y
 
-    pub inverse-only : (word bits : List ℕ) → encoder.told a x ≡ invertingShortened r m named word bits
-        → encoder.told b y ≡ invertingShortened r m named word bits → (a ≡ b) × (x ≡ y)
+    pub inverse-only : (word bits : List ℕ) → encoder.outcomeOf a x ≡ invertingShortened r m named word bits
+        → encoder.outcomeOf b y ≡ invertingShortened r m named word bits → (a ≡ b) × (x ≡ y)
     inverse-only word bits =
         let p = inverting-plain word bits in
         encoders.outcome-only (invertingShortened r m named word bits) (p .0) (p .1) a b x y
 
-  pub quick-only : (l : List ℤ) (bits word : List ℕ) (a b : Read) (x y v w : List ℕ) → reader.told a x y ≡ quickShortened r m named l bits word
-      → reader.told b v w ≡ quickShortened r m named l bits word → (a ≡ b) × (x ≡ v) × (y ≡ w)
+  pub quick-only : (l : List ℤ) (bits word : List ℕ) (a b : Read) (x y v w : List ℕ) → reader.outcomeOf a x y ≡ quickShortened r m named l bits word
+      → reader.outcomeOf b v w ≡ quickShortened r m named l bits word → (a ≡ b) × (x ≡ v) × (y ≡ w)
   quick-only l bits word =
       let p = quick-plain l bits word in
       readers.outcome-only (quickShortened r m named l bits word) (p .0) (p .1)

@@ -1,4 +1,4 @@
--- What the calls on a shortened set tell and leave, for all that they can be given (docs/RULES.md, §15): refused as 1 or 12 by the row's tests, else as the
+-- What the calls on a shortened set report and leave, for every input (docs/RULES.md, §15): refused as 1 or 12 by the row's tests, else as the
 -- plain calls do it, over the words of the kinds that are left.
 use mathlib.Core.List.{List}
 use Prim.Native.Nat.{ℕ, _^_}
@@ -9,8 +9,8 @@ use Rattle.words.specs.Kinds.{kinds, encoded}
 use Rattle.words.specs.Inverse.{takenBack}
 use Rattle.decoding.specs.Quick.{quickWord, quickBits, quickPenalty}
 use Rattle.code.specs.declared.Code.{Code}
-use Rattle.code.specs.Admitted.{admittedBy}
-use Rattle.named.specs.Named.{left, rowAdmitted, afterTest}
+use Rattle.code.specs.Admitted.{admittedBy, afterTest}
+use Rattle.named.specs.Named.{left, rowAdmitted}
 use Rattle.encode.specs.Outcome as encoder
 use Rattle.quick.specs.Outcome as reader
 

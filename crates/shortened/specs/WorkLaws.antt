@@ -22,7 +22,7 @@ use Rattle.code.specs.declared.Code.{Code}
 use Rattle.code.specs.Sound.{Sound}
 use Rattle.code.specs.SoundLaws.{length-most}
 use Rattle.code.specs.SoundInput.{GoodReadings}
-use Rattle.half.specs.Takeable.{Takeable}
+use Rattle.bit_rows.specs.Takeable.{Takeable}
 use Rattle.named.specs.NamedLaws.{length-left, bits-left}
 use Rattle.encode.specs.Outcome as encoder
 use Rattle.encode.specs.Work.{takingRow}

@@ -1,9 +1,9 @@
-// The public calls on a shortened set: encoder, inverse and quick reading. A row names information
-// indices that are to be 0 as well, 1 where named.
+// Encoder, inverse and quick reading on a shortened set (docs/RULES.md, §15). A row names
+// information indices that are to be 0 as well, 1 where named.
 use code::Admitted;
 use code::Code;
+use code::Completed;
 use code::Refusal;
-use encode::Encoded;
 use quick::Read;
 ghost use mathlib.Core.Path.{_≡_};
 ghost use Prim.Native.Nat.{_^_};
@@ -22,28 +22,28 @@ ghost use Rattle.shortened.specs.Outcome.{invertingShortened, quickShort
 ghost use Rattle.shortened.specs.Work.{Workable};
 
 // Writes the word of the information bits that are left into the lent buffer.
-pub fn encode_shortened(r: u32, m: u32, named: &[u8], bits: &[u8], word: &mut [u8]) -> Encoded
-    ensures { λ answer. ⌜ encoder.told answer (now (word .exit))
+pub fn encode_shortened(r: u32, m: u32, named: &[u8], bits: &[u8], word: &mut [u8]) -> Completed
+    ensures { λ answer. ⌜ encoder.outcomeOf answer (now (word .exit))
         ≡ encodingShortened r m (now (named .entry)) (now (bits .entry)) (now (word .entry)) ⌝ }
 {
     match named::admit_row(r, m, named) {
-        Admitted::Refused(why) => Encoded::Refused(why),
+        Admitted::Refused(why) => Completed::Refused(why),
         Admitted::Allowed(code) => encode_left(code, named, bits, word),
     }
 }
 
 // Writes the information bits of the word into the lent buffer: a named index is frozen.
-pub fn inverse_shortened(r: u32, m: u32, named: &[u8], word: &[u8], bits: &mut [u8]) -> Encoded
-    ensures { λ answer. ⌜ encoder.told answer (now (bits .exit))
+pub fn inverse_shortened(r: u32, m: u32, named: &[u8], word: &[u8], bits: &mut [u8]) -> Completed
+    ensures { λ answer. ⌜ encoder.outcomeOf answer (now (bits .exit))
         ≡ invertingShortened r m (now (named .entry)) (now (word .entry)) (now (bits .entry)) ⌝ }
 {
     match named::admit_row(r, m, named) {
-        Admitted::Refused(why) => Encoded::Refused(why),
+        Admitted::Refused(why) => Completed::Refused(why),
         Admitted::Allowed(code) => inverse_left(code, named, word, bits),
     }
 }
 
-// Reads the readings by halves: writes the information bits and the word, and tells the penalty.
+// Reads the readings by halves: writes the information bits and the word, and gives the penalty.
 pub fn quick_shortened(
     r: u32,
     m: u32,
@@ -52,7 +52,7 @@ pub fn quick_shortened(
     bits: &mut [u8],
     word: &mut [u8],
 ) -> Read
-    ensures { λ answer. ⌜ reader.told answer (now (bits .exit)) (now (word .exit))
+    ensures { λ answer. ⌜ reader.outcomeOf answer (now (bits .exit)) (now (word .exit))
         ≡ quickShortened r m (now (named .entry)) (now (readings .entry))
         (now (bits .entry)) (now (word .entry)) ⌝ }
 {
@@ -63,26 +63,26 @@ pub fn quick_shortened(
 }
 
 // The tests 2 to 4 of the encoder, and its work.
-fn encode_left(code: Code, named: &[u8], bits: &[u8], word: &mut [u8]) -> Encoded
+fn encode_left(code: Code, named: &[u8], bits: &[u8], word: &mut [u8]) -> Completed
     requires { ⌜ Sound code × GoodRow (now named) (kinds (code .r) (code .m)) ⌝ }
-    ensures { λ answer. ⌜ encoder.told answer (now (word .exit))
+    ensures { λ answer. ⌜ encoder.outcomeOf answer (now (word .exit))
         ≡ encodingOver (leftOf (now (named .entry)) code) code (now (bits .entry))
         (now (word .entry)) ⌝ }
 {
     if bits.len() != named::count_left(code, named) {
-        return Encoded::Refused(Refusal::InputLength);
+        return Completed::Refused(Refusal::InputLength);
     }
     let n = code.length();
     if word.len() != n {
-        return Encoded::Refused(Refusal::OutputLength);
+        return Completed::Refused(Refusal::OutputLength);
     }
     let place = code::first_bad_bit(bits);
     if place < bits.len() {
-        return Encoded::Refused(Refusal::Entry(place));
+        return Completed::Refused(Refusal::Entry(place));
     }
     let mut kinds = [0u8; 256];
     put_word(code, named, &mut kinds[0..n], bits, word);
-    Encoded::Done
+    Completed::Done
 }
 
 // The kinds that are left go into a row of scratch, and by them the bits into the word.
@@ -93,27 +93,27 @@ fn put_word(code: Code, named: &[u8], kinds: &mut [u8], bits: &[u8], word: &mut 
         ≡ encoded (code .m) (leftOf (now (named .entry)) code) (now (bits .entry)) ⌝ }
 {
     named::put_left(code, named, kinds);
-    half::fill(kinds, bits, word);
-    half::transform(word, code.m as usize);
+    bit_rows::fill(kinds, bits, word);
+    bit_rows::transform(word, code.m as usize);
 }
 
 // The tests 2 to 4 of the inverse, and its work.
-fn inverse_left(code: Code, named: &[u8], word: &[u8], bits: &mut [u8]) -> Encoded
+fn inverse_left(code: Code, named: &[u8], word: &[u8], bits: &mut [u8]) -> Completed
     requires { ⌜ Sound code × GoodRow (now named) (kinds (code .r) (code .m)) ⌝ }
-    ensures { λ answer. ⌜ encoder.told answer (now (bits .exit))
+    ensures { λ answer. ⌜ encoder.outcomeOf answer (now (bits .exit))
         ≡ invertingOver (leftOf (now (named .entry)) code) code (now (word .entry))
         (now (bits .entry)) ⌝ }
 {
     let n = code.length();
     if word.len() != n {
-        return Encoded::Refused(Refusal::InputLength);
+        return Completed::Refused(Refusal::InputLength);
     }
     if bits.len() != named::count_left(code, named) {
-        return Encoded::Refused(Refusal::OutputLength);
+        return Completed::Refused(Refusal::OutputLength);
     }
     let place = code::first_bad_bit(word);
     if place < word.len() {
-        return Encoded::Refused(Refusal::Entry(place));
+        return Completed::Refused(Refusal::Entry(place));
     }
     let mut kinds = [0u8; 256];
     let mut row = [0u8; 256];
@@ -127,22 +127,22 @@ fn take_back(
     row: &mut [u8],
     word: &[u8],
     bits: &mut [u8],
-) -> Encoded
+) -> Completed
     requires { ⌜ Workable code (now named) (now kinds) (length (now bits)) (length (now word))
         (Bits (now word)) × (length (now row) ≡ 2 ^ (code .m)) ⌝ }
-    ensures { λ answer. ⌜ encoder.told answer (now (bits .exit))
+    ensures { λ answer. ⌜ encoder.outcomeOf answer (now (bits .exit))
         ≡ encoder.takingBack (takenBack (code .m) (leftOf (now (named .entry)) code)
         (now (word .entry))) (now (bits .entry)) ⌝ }
 {
     named::put_left(code, named, kinds);
-    half::put_row(word, row, code.m as usize);
+    bit_rows::put_row(word, row, code.m as usize);
     encode::take_row(kinds, row, bits)
 }
 
 // The tests 2 to 4 of the quick reading, and its work.
 fn quick_left(code: Code, named: &[u8], readings: &[i16], bits: &mut [u8], word: &mut [u8]) -> Read
     requires { ⌜ Sound code × GoodRow (now named) (kinds (code .r) (code .m)) ⌝ }
-    ensures { λ answer. ⌜ reader.told answer (now (bits .exit)) (now (word .exit))
+    ensures { λ answer. ⌜ reader.outcomeOf answer (now (bits .exit)) (now (word .exit))
         ≡ quickOver (leftOf (now (named .entry)) code) code (now (readings .entry))
         (now (bits .entry)) (now (word .entry)) ⌝ }
 {
@@ -174,6 +174,6 @@ fn take_reading(
     let m = code.m as usize;
     named::put_left(code, named, kinds);
     quick::quick_word(readings, kinds, word, m);
-    half::take_bits(kinds, word, bits, m);
+    bit_rows::take_bits(kinds, word, bits, m);
     quick::penalty(readings, word)
 }

@@ -16,14 +16,15 @@ use Rattle.code.specs.SoundLaws.{length-most}
 use Rattle.code.specs.SoundInput.{GoodReadings, SoundFor}
 use Rattle.code.specs.Admitted.{admittedBy}
 use Rattle.named.specs.Named.{GoodRow, rowAdmitted}
-use Rattle.search.specs.RunnerUp.{wholeBy}
+use Rattle.search.specs.RunnerUp.{runnerUpOutcomeBy}
 use Rattle.search.specs.Work.{Searchable}
 use Rattle.shortened.specs.Outcome.{leftOf}
 use Rattle.shortened.specs.WorkLaws.{long-left, are-left}
-use Rattle.shortened_search.specs.Outcome.{refusedWhole, searchingOver, searchingShortened}
+use Rattle.shortened_search.specs.Outcome.{refusedWithNone, searchingOver, searchingShortened}
 
 module _ (r m allowed : ℕ) (named : List ℕ) (l : List ℤ) (bits word : List ℕ) where
-  pub searching-refused : (why : Refusal) → Refused why ≡ rowAdmitted r m named → refusedWhole why bits word ≡ searchingShortened r m allowed named l bits word
+  pub searching-refused : (why : Refusal) → Refused why ≡ rowAdmitted r m named
+      → refusedWithNone why bits word ≡ searchingShortened r m allowed named l bits word
   unfolding searchingShortened
   searching-refused why e = rw (← e)
 
@@ -34,11 +35,11 @@ module _ (r m allowed : ℕ) (named : List ℕ) (l : List ℤ) (bits word : List
 
 module _ (ks : List ℕ) (c : Code) (allowed : ℕ) (l : List ℤ) (bits word : List ℕ) where
   pub over-refused : (why : Refusal) → Refused why ≡ admittedBy c (sum ks) l (length bits) (length word)
-      → refusedWhole why bits word ≡ searchingOver ks c allowed l bits word
+      → refusedWithNone why bits word ≡ searchingOver ks c allowed l bits word
   over-refused why e = rw (← e)
 
   pub over-answered : (d : Code) → Allowed d ≡ admittedBy c (sum ks) l (length bits) (length word)
-      → wholeBy (d .m) ks l allowed bits word ≡ searchingOver ks c allowed l bits word
+      → runnerUpOutcomeBy (d .m) ks l allowed bits word ≡ searchingOver ks c allowed l bits word
   over-answered d e = rw (← e)
 
 -- the kinds that are left, and readings x that are l, can be searched

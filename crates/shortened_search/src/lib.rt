@@ -1,4 +1,4 @@
-// The public calls on a shortened set: the search with an allowance, and the short call.
+// The search on a shortened set (docs/RULES.md, §15): with an allowance, and the short call.
 use code::Admitted;
 use code::Code;
 use search::WithRunnerUp;
@@ -9,7 +9,7 @@ ghost use Rattle.words.specs.Kinds.{kinds};
 ghost use Rattle.code.specs.Sound.{Sound, defaultAllowance};
 ghost use Rattle.code.specs.SoundInput.{GoodReadings, SoundFor};
 ghost use Rattle.named.specs.Named.{GoodRow};
-ghost use Rattle.search.specs.RunnerUp.{toldWhole, wholeBy};
+ghost use Rattle.search.specs.RunnerUp.{runnerUpOutcomeOf, runnerUpOutcomeBy};
 ghost use Rattle.shortened.specs.Outcome.{leftOf};
 ghost use Rattle.shortened_search.specs.Outcome.{searchingOver, searchingShortened};
 
@@ -24,7 +24,7 @@ pub fn search_within_shortened(
     bits: &mut [u8],
     word: &mut [u8],
 ) -> WithRunnerUp
-    ensures { λ answer. ⌜ toldWhole answer (now (bits .exit)) (now (word .exit))
+    ensures { λ answer. ⌜ runnerUpOutcomeOf answer (now (bits .exit)) (now (word .exit))
         ≡ searchingShortened r m allowed (now (named .entry)) (now (readings .entry))
         (now (bits .entry)) (now (word .entry)) ⌝ }
 {
@@ -43,7 +43,7 @@ pub fn search_shortened(
     bits: &mut [u8],
     word: &mut [u8],
 ) -> WithRunnerUp
-    ensures { λ answer. ⌜ toldWhole answer (now (bits .exit)) (now (word .exit))
+    ensures { λ answer. ⌜ runnerUpOutcomeOf answer (now (bits .exit)) (now (word .exit))
         ≡ searchingShortened r m defaultAllowance (now (named .entry)) (now (readings .entry))
         (now (bits .entry)) (now (word .entry)) ⌝ }
 {
@@ -60,7 +60,7 @@ fn search_left(
     word: &mut [u8],
 ) -> WithRunnerUp
     requires { ⌜ Sound code × GoodRow (now named) (kinds (code .r) (code .m)) ⌝ }
-    ensures { λ answer. ⌜ toldWhole answer (now (bits .exit)) (now (word .exit))
+    ensures { λ answer. ⌜ runnerUpOutcomeOf answer (now (bits .exit)) (now (word .exit))
         ≡ searchingOver (leftOf (now (named .entry)) code) code allowed (now (readings .entry))
         (now (bits .entry)) (now (word .entry)) ⌝ }
 {
@@ -82,9 +82,9 @@ fn search_sound(
     requires { ⌜ GoodRow (now named) (kinds (code .r) (code .m))
         × SoundFor code (sum (leftOf (now named) code)) (length (now bits)) (length (now word))
         (GoodReadings code (now readings)) ⌝ }
-    ensures { λ answer. ⌜ toldWhole answer (now (bits .exit)) (now (word .exit))
-        ≡ wholeBy (code .m) (leftOf (now (named .entry)) code) (now (readings .entry)) allowed
-        (now (bits .entry)) (now (word .entry)) ⌝ }
+    ensures { λ answer. ⌜ runnerUpOutcomeOf answer (now (bits .exit)) (now (word .exit))
+        ≡ runnerUpOutcomeBy (code .m) (leftOf (now (named .entry)) code) (now (readings .entry))
+        allowed (now (bits .entry)) (now (word .entry)) ⌝ }
 {
     let mut kinds = [0u8; 256];
     let mut own = [0i16; 256];

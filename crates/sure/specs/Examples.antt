@@ -1,4 +1,4 @@
--- Examples to C-14, computed from the definitions, as one statement; and one real case, where the theorem tells of all 65,536 words of RM(2,5)
+-- Examples, computed from the definitions, as one statement; and one real case, where the theorem speaks of all 65,536 words of RM(2,5)
 -- what none of them was asked.
 use mathlib.Core.Path.{_≡_, refl}
 use mathlib.Core.List.{List, [], _∷_, map}

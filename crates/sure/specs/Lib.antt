@@ -1,4 +1,4 @@
--- Definitions and statements, to be read beside C-14
+-- When the quick reading is surely right (docs/RULES.md, §4 and §10): definitions and statements
 pub mod Sure
 pub mod Test
 -- Laws

@@ -1,4 +1,4 @@
--- When the quick reading is surely right (C-14; docs/RULES.md, §4): the sum that tells it, the property, and all that follows from it.
+-- When the quick reading is surely right (docs/RULES.md, §4): the sum that shows it, the property, and all that follows from it.
 -- A set of words is given by a row of kinds that lies in RM(r,m), as that of RM(r,m) itself does.
 use mathlib.Core.Path.{_≡_}
 use mathlib.Core.List.{List, [], _∷_, map}

@@ -1,4 +1,4 @@
--- C-14: a word with the property is the only one of its code, the quick reading's, and the best with a gap above 0; and the textbook rule gives the property.
+-- A word with the property is the only one of its code, the quick reading's, and the best with a gap above 0; and the textbook rule gives the property.
 use mathlib.Core.Path.{_≡_, refl, ap, sym, subst, _∙_}
 use mathlib.Core.Logic.{⊎-elim}
 use mathlib.Core.Bool.{cond}

@@ -1,4 +1,4 @@
--- The test of C-15: whether the quick reading's word has C-14's property, with the largest size as M.
+-- The early answer's test (docs/RULES.md, §10): whether the quick reading's word has the property of §4, with the largest size as M.
 use mathlib.Core.Bool.{Bool}
 use mathlib.Core.List.{List}
 use Prim.Native.Nat.{ℕ, _-_, _*_, _^_}

@@ -1,4 +1,4 @@
--- C-15's test passes exactly if some word of the set has C-14's property for some M. Readings negated by a word of the set pass it exactly if they did before,
+-- The test passes exactly if some word of the set has the property for some M. Readings negated by a word of the set pass it exactly if they did before,
 -- and the quick reading then has that word added.
 use mathlib.Core.Path.{_≡_, refl, ap, ap₂, sym, _∙_}
 use mathlib.Core.Logic.{_↔_}

@@ -1,4 +1,4 @@
--- Demand 1 of the telegram's writer and reader, and of the reader of information bits (docs/RULES.md, §11): when each number is given, what is told with
+-- Demand 1 of the telegram's writer and reader, and of the reader of information bits (docs/RULES.md, §11): when each number is given, what is reported with
 -- it, and what stays. That all three meet it is proved in Demand1Met.
 use mathlib.Core.Path.{_≡_}
 use mathlib.Core.Logic.{_⊎_, _↔_}
@@ -27,7 +27,7 @@ LevelToPort t = (t .tilt ≡ 0) × (t .direction ≡ 1)
 abbrev pub BeyondField : Telegram → Type 0
 BeyondField t = (largestCylinder < t .cylinder) ⊎ (largestDirection < t .direction)
 
--- ---- the writer, which tells and leaves o
+-- ---- the writer, which reports and leaves o
 pub record WriterMeets (t : Telegram) (word : List ℕ) (o : WriteOutcome) : Type 0 where
   pub three : (o .carry .number ≡ 3) ↔ (length word ≡ 32 → ⊥)
   pub fourteen : (o .carry .number ≡ 14) ↔ (length word ≡ 32) × TooTilted t
@@ -41,7 +41,7 @@ pub record WriterMeets (t : Telegram) (word : List ℕ) (o : WriteOutcome) : Typ
 abbrev pub TelegramWriteDemand1 : Telegram → List ℕ → Type 0
 TelegramWriteDemand1 t word = WriterMeets t word (writingTelegram (t .cylinder) (t .direction) (t .tilt) word)
 
--- ---- a reader, which tells o, by the checks that come before the tests on its bits b
+-- ---- a reader, which reports o, by the checks that come before the tests on its bits b
 pub record ReaderMeets (checks : Checks) (b : List ℕ) (o : ReadOutcome) : Type 0 where
   -- below 13 it refuses as these checks do, with what that refusal carries
   pub link : (n : ℕ) → 0 < n → n < 13 → (o .carry .number ≡ n) ↔ First (λ why. numberOf why ≡ n) checks

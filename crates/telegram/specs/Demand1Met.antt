@@ -195,7 +195,8 @@ first-why such (checkAt why applies rest) f =
     (λ x. let y = first-why such rest (x .1) in (y .0, y .1, inr (x .0, y .2)))
     f
 
--- what a reader tells, by what the checks before its tests tell (v): nothing is refused, and its tests are made on the bits, with these numbers; or that refusal
+-- what a reader reports, by what the checks before its tests report (v): nothing is refused, and its tests are made on the bits, with these numbers; or
+-- that refusal
 record Tells (v : View) (b : List ℕ) (penalty gap visits : ℕ) (o : ReadOutcome) : Type 0 where
   bit : v .number ≡ 0 → markerOf b < 2
   found : v .number ≡ 0 → o ≡ judged b penalty gap visits
@@ -385,7 +386,11 @@ module _ (b : List ℕ) where
   after-bits : Bits-tell bitsTold
   after-bits =
       elim (ℕ-discrete (length b) 16) [
-        | no n ↦ rw (ne-eqb (length b) 16 n) (record { bit = λ z. absurd (omega (arith, z)); found = λ z. absurd (omega (arith, z)); other = λ x. bits-short b n })
+        | no n ↦ rw (ne-eqb (length b) 16 n) (record {
+          bit = λ z. absurd (omega (arith, z));
+          found = λ z. absurd (omega (arith, z));
+          other = λ x. bits-short b n;
+        })
         | yes e ↦
             ⊎-elim
             (λ h.

@@ -1,4 +1,4 @@
--- Definitions
+-- The tilt telegram (docs/RULES.md, §11): definitions
 pub mod Telegram
 pub mod Faults
 pub mod Outcome

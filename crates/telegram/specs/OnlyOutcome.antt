@@ -8,10 +8,10 @@ use Rattle.telegram.specs.declared.Written.the-variants as write
 use Rattle.telegram.specs.declared.Heard.{Heard}
 use Rattle.telegram.specs.declared.Heard.the-variants as hear
 use Rattle.telegram.specs.FaultLaws.{fault-above, fault-only}
-use Rattle.telegram.specs.Outcome.{WriteOutcome, toldWritten, ReadOutcome, told}
+use Rattle.telegram.specs.Outcome.{WriteOutcome, writtenOutcomeOf, ReadOutcome, outcomeOf}
 
 -- ---- the reader
-same-heard : (a b : Heard) → told a ≡ told b → a ≡ b
+same-heard : (a b : Heard) → outcomeOf a ≡ outcomeOf b → a ≡ b
 same-heard (hear.Shown t p g v) (hear.Shown t′ p′ g′ v′) e =
     ap (λ (o : ReadOutcome). hear.Shown (o .telegram) (o .carry .penalty) (o .gap) (o .carry .visits)) e
 same-heard (hear.Shown t p g v) (hear.Refused why) e = absurd (omega (arith, ap (λ (o : ReadOutcome). o .carry .number) e, fault-above why))
@@ -19,21 +19,21 @@ same-heard (hear.Refused why) (hear.Shown t p g v) e = absurd (omega (arith, ap 
 same-heard (hear.Refused why) (hear.Refused why′) e = ap hear.Refused (fault-only why why′ (ap (λ (o : ReadOutcome). o .carry) e))
 
 -- whatever outcome is promised
-pub read-only : (o : ReadOutcome) (a b : Heard) → told a ≡ o → told b ≡ o → a ≡ b
+pub read-only : (o : ReadOutcome) (a b : Heard) → outcomeOf a ≡ o → outcomeOf b ≡ o → a ≡ b
 read-only o a b e f = same-heard a b (e ∙ sym f)
 
 -- ---- the writer
-same-written : (a b : Written) (x y : List ℕ) → toldWritten a x ≡ toldWritten b y → a ≡ b
+same-written : (a b : Written) (x y : List ℕ) → writtenOutcomeOf a x ≡ writtenOutcomeOf b y → a ≡ b
 same-written write.Done write.Done x y e = refl
 same-written write.Done (write.Refused why) x y e = absurd (omega (arith, ap (λ (o : WriteOutcome). o .carry .number) e, fault-above why))
 same-written (write.Refused why) write.Done x y e = absurd (omega (arith, ap (λ (o : WriteOutcome). o .carry .number) e, fault-above why))
 same-written (write.Refused why) (write.Refused why′) x y e = ap write.Refused (fault-only why why′ (ap (λ (o : WriteOutcome). o .carry) e))
 
-told-word : (a : Written) (x : List ℕ) → toldWritten a x .word ≡ x
+told-word : (a : Written) (x : List ℕ) → writtenOutcomeOf a x .word ≡ x
 told-word write.Done x = refl
 told-word (write.Refused why) x = refl
 
-pub write-only : (o : WriteOutcome) (a b : Written) (x y : List ℕ) → toldWritten a x ≡ o → toldWritten b y ≡ o → (a ≡ b) × (x ≡ y)
+pub write-only : (o : WriteOutcome) (a b : Written) (x y : List ℕ) → writtenOutcomeOf a x ≡ o → writtenOutcomeOf b y ≡ o → (a ≡ b) × (x ≡ y)
 write-only o a b x y e f =
-    let same : toldWritten a x ≡ toldWritten b y = e ∙ sym f in
+    let same : writtenOutcomeOf a x ≡ writtenOutcomeOf b y = e ∙ sym f in
     (same-written a b x y same, sym (told-word a x) ∙ ap (λ (p : WriteOutcome). p .word) same ∙ told-word b y)

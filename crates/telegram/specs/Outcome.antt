@@ -1,4 +1,4 @@
--- What the writer and the reader tell and leave, for all that they can be given.
+-- What the writer and the reader report and leave, for every input.
 use mathlib.Core.List.{List}
 use mathlib.Core.Bool.{cond, not}
 use Prim.Native.Nat.{ℕ}
@@ -36,9 +36,9 @@ abbrev pub refused : Fault → List ℕ → WriteOutcome
 refused why word = record { carry = faultCarries why; word = word }
 
 -- the answer in the rules' numbers
-abbrev pub toldWritten : Written → List ℕ → WriteOutcome
-toldWritten write.Done = done
-toldWritten (write.Refused why) = refused why
+abbrev pub writtenOutcomeOf : Written → List ℕ → WriteOutcome
+writtenOutcomeOf write.Done = done
+writtenOutcomeOf (write.Refused why) = refused why
 
 abbrev pub writtenIf : Tested → Telegram → List ℕ → WriteOutcome
 writtenIf Good t word = done (wordOf t)
@@ -68,9 +68,9 @@ abbrev pub faulted : Fault → ReadOutcome
 faulted why = record { carry = faultCarries why; gap = 0; telegram = noTelegram }
 
 -- the answer in the rules' numbers
-abbrev pub told : Heard → ReadOutcome
-told (hear.Shown t penalty gap visits) = showing t penalty gap visits
-told (hear.Refused why) = faulted why
+abbrev pub outcomeOf : Heard → ReadOutcome
+outcomeOf (hear.Shown t penalty gap visits) = showing t penalty gap visits
+outcomeOf (hear.Refused why) = faulted why
 
 abbrev pub shownIf : Tested → Telegram → ℕ → ℕ → ℕ → ReadOutcome
 shownIf Good t penalty gap visits = showing t penalty gap visits

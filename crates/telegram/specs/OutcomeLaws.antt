@@ -22,8 +22,8 @@ use Rattle.code.specs.EntriesLaws.{first-none}
 use Rattle.code.specs.SoundInput.{SoundReadings}
 use Rattle.code.specs.RefusalLaws.{number-above}
 use Rattle.code.specs.AdmittedLaws.{allows, refuses, decided}
-use Rattle.encode.specs.declared.Encoded.{Encoded}
-use Rattle.encode.specs.declared.Encoded.the-variants as encode
+use Rattle.code.specs.declared.Completed.{Completed}
+use Rattle.code.specs.declared.Completed.the-variants as encode
 use Rattle.encode.specs.Outcome as Encode
 use Rattle.encode.specs.OutcomeLaws.{sound-encoding}
 use Rattle.search.specs.Outcome as Search
@@ -74,12 +74,12 @@ module _ (t : Telegram) (x : List ℕ) (cylinder : x ≡ digits 3 (t .cylinder))
       bits-put = rw (tilt, direction, cylinder)
 
 -- the encoder writes the telegram's word
-buffer-told : (a : Encoded) (x : List ℕ) → Encode.told a x .buffer ≡ x
+buffer-told : (a : Completed) (x : List ℕ) → Encode.outcomeOf a x .buffer ≡ x
 buffer-told encode.Done x = refl
 buffer-told (encode.Refused why) x = refl
 
-pub word-written : (t : Telegram) (word : List ℕ) → length word ≡ 32 → (a : Encoded) (x : List ℕ)
-    → Encode.told a x ≡ Encode.encoding 2 5 (telegramBits t) word → x ≡ wordOf t
+pub word-written : (t : Telegram) (word : List ℕ) → length word ≡ 32 → (a : Completed) (x : List ℕ)
+    → Encode.outcomeOf a x ≡ Encode.encoding 2 5 (telegramBits t) word → x ≡ wordOf t
 word-written t word e a x is =
     let done =
     sound-encoding 2 5 (telegramBits t) word

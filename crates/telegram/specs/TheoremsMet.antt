@@ -26,7 +26,7 @@ use Rattle.code.specs.EntriesLaws.{good-bits}
 use Rattle.code.specs.Demand1.{NoneApplies}
 use Rattle.search.specs.Outcome as Search
 use Rattle.search.specs.Demand1Met.{search-demand-1}
-use Rattle.search.specs.RunnerUp.{WholeOutcome}
+use Rattle.search.specs.RunnerUp.{RunnerUpOutcome}
 use Rattle.search.specs.DemandsMet.{larger-allowance, outcome-demands}
 use Rattle.telegram.specs.declared.Telegram.{Telegram}
 use Rattle.telegram.specs.declared.Fault.the-variants.{Link, Marker}
@@ -297,7 +297,7 @@ unfolding readingTelegram
 telegram-larger-allowance l allowed more h n =
     let six-passed : linkSearch allowed l .number ≡ 6 → readingTelegram allowed l .carry .number ≡ 6 =
     λ e. ap (λ (r : ReadOutcome). r .carry .number) (reading-other allowed l (λ z. omega (arith, e, z))) ∙ e in
-    ap (λ (w : WholeOutcome). heard (w .outcome)) (larger-allowance 2 5 l (replicate 16 0) (replicate 32 0) allowed more h (λ e. n (six-passed e)))
+    ap (λ (w : RunnerUpOutcome). heard (w .outcome)) (larger-allowance 2 5 l (replicate 16 0) (replicate 32 0) allowed more h (λ e. n (six-passed e)))
 
 tree-25 : tree (kinds 2 5) ≡ 131759
 unfolding tree total sum kinds kind ones digit tabulate

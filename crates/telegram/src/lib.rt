@@ -1,6 +1,7 @@
-// The tilt telegram: a cylinder, a direction and a tilt in one word of RM(2,5).
-// It stands above the encoder and the search and knows no more of them than they promise.
+// The tilt telegram (docs/RULES.md, §11): a cylinder, a direction and a tilt in one word of
+// RM(2,5), over the encoder and the search, of which no more is known here than they promise.
 use code::Refusal;
+use code::Shown;
 use search::Searched;
 ghost use mathlib.Core.Path.{_≡_};
 ghost use Prim.Native.Nat.{_≤_};
@@ -10,8 +11,8 @@ ghost use Rattle.words.specs.Bits.{Bits, digits};
 ghost use Rattle.telegram.specs.Telegram.{ofDigits, telegramOf, wordOf};
 ghost use Rattle.telegram.specs.Faults.{tiltFault, fieldFault, writerFault, readerFault};
 ghost use Rattle.telegram.specs.Faults.{faultCarries};
-ghost use Rattle.telegram.specs.Outcome.{toldWritten, writingTelegram};
-ghost use Rattle.telegram.specs.Outcome.{told, judged, readingTelegram, readingBits};
+ghost use Rattle.telegram.specs.Outcome.{writtenOutcomeOf, writingTelegram};
+ghost use Rattle.telegram.specs.Outcome.{outcomeOf, judged, readingTelegram, readingBits};
 
 // What the tilt head says. Direction 1 is to port; the tilt is in hundredths of a degree.
 pub struct Telegram {
@@ -70,7 +71,7 @@ pub enum Heard {
 
 // Writes the telegram's word into the lent buffer.
 pub fn write(cylinder: u32, direction: u32, tilt: u32, word: &mut [u8]) -> Written
-    ensures { λ answer. ⌜ toldWritten answer (now (word .exit))
+    ensures { λ answer. ⌜ writtenOutcomeOf answer (now (word .exit))
         ≡ writingTelegram cylinder direction tilt (now (word .entry)) ⌝ }
 {
     if word.len() != Telegram::LENGTH {
@@ -92,7 +93,7 @@ pub fn write(cylinder: u32, direction: u32, tilt: u32, word: &mut [u8]) -> Writt
 
 // The telegram of the best word for the readings, or why there is none to show.
 pub fn read_within(allowed: u32, readings: &[i16]) -> Heard
-    ensures { λ answer. ⌜ told answer ≡ readingTelegram allowed (now (readings .entry)) ⌝ }
+    ensures { λ answer. ⌜ outcomeOf answer ≡ readingTelegram allowed (now (readings .entry)) ⌝ }
 {
     let mut found = [0u8; 16];
     let mut word = [0u8; 32];
@@ -111,14 +112,15 @@ pub fn read_within(allowed: u32, readings: &[i16]) -> Heard
 
 // The same, with the default allowance.
 pub fn read(readings: &[i16]) -> Heard
-    ensures { λ answer. ⌜ told answer ≡ readingTelegram defaultAllowance (now (readings .entry)) ⌝ }
+    ensures { λ answer. ⌜ outcomeOf answer
+        ≡ readingTelegram defaultAllowance (now (readings .entry)) ⌝ }
 {
     read_within(code::Code::DEFAULT_ALLOWANCE, readings)
 }
 
 // What 16 information bits say, those of a runner-up for one: the reader without its search.
 pub fn of_bits(bits: &[u8]) -> Heard
-    ensures { λ answer. ⌜ told answer ≡ readingBits (now (bits .entry)) ⌝ }
+    ensures { λ answer. ⌜ outcomeOf answer ≡ readingBits (now (bits .entry)) ⌝ }
 {
     if bits.len() != Telegram::BITS {
         return Heard::Refused(Fault::Link(Refusal::InputLength));
@@ -244,7 +246,7 @@ fn telegram_of(bits: &[u8]) -> Telegram
 // Shows the telegram of the bits that the search found, where no fault forbids it.
 fn judge(bits: &[u8], penalty: u32, gap: u32, visits: u32) -> Heard
     requires { ⌜ Bits (now bits) × (length (now bits) ≡ 16) ⌝ }
-    ensures { λ answer. ⌜ told answer ≡ judged (now (bits .entry)) penalty gap visits ⌝ }
+    ensures { λ answer. ⌜ outcomeOf answer ≡ judged (now (bits .entry)) penalty gap visits ⌝ }
 {
     let telegram = telegram_of(bits);
     match reader_fault(bits[15], telegram) {
@@ -259,53 +261,53 @@ fn judge(bits: &[u8], penalty: u32, gap: u32, visits: u32) -> Heard
 }
 
 impl Fault {
-    // The rules' number.
-    pub fn number(self) -> u32
-        ensures { λ r. ⌜ r ≡ faultCarries self .number ⌝ }
+    // What the fault reports: what the search's refusal does, else its number alone.
+    pub fn shown(self) -> Shown
+        ensures { λ s. ⌜ (s .number ≡ faultCarries self .number)
+            × (s .place ≡ faultCarries self .place)
+            × (s .penalty ≡ faultCarries self .penalty)
+            × (s .visits ≡ faultCarries self .visits) ⌝ }
     {
+        let none = Shown {
+            number: 0,
+            place: 0,
+            penalty: 0,
+            visits: 0,
+        };
         match self {
-            Fault::Link(why) => why.number(),
-            Fault::Marker => 13,
-            Fault::Tilt => 14,
-            Fault::ZeroTilt => 15,
-            Fault::Field => 16,
+            Fault::Link(why) => why.shown(),
+            Fault::Marker => Shown { number: 13, ..none },
+            Fault::Tilt => Shown { number: 14, ..none },
+            Fault::ZeroTilt => Shown { number: 15, ..none },
+            Fault::Field => Shown { number: 16, ..none },
         }
     }
 
-    // What the search's refusal carries, else 0.
+    pub fn number(self) -> u32
+        ensures { λ r. ⌜ r ≡ faultCarries self .number ⌝ }
+    {
+        let shown = self.shown();
+        shown.number
+    }
+
     pub fn place(self) -> usize
         ensures { λ r. ⌜ r ≡ faultCarries self .place ⌝ }
     {
-        match self {
-            Fault::Link(why) => why.place(),
-            Fault::Marker => 0,
-            Fault::Tilt => 0,
-            Fault::ZeroTilt => 0,
-            Fault::Field => 0,
-        }
+        let shown = self.shown();
+        shown.place
     }
 
     pub fn penalty(self) -> u32
         ensures { λ r. ⌜ r ≡ faultCarries self .penalty ⌝ }
     {
-        match self {
-            Fault::Link(why) => why.penalty(),
-            Fault::Marker => 0,
-            Fault::Tilt => 0,
-            Fault::ZeroTilt => 0,
-            Fault::Field => 0,
-        }
+        let shown = self.shown();
+        shown.penalty
     }
 
     pub fn visits(self) -> u32
         ensures { λ r. ⌜ r ≡ faultCarries self .visits ⌝ }
     {
-        match self {
-            Fault::Link(why) => why.visits(),
-            Fault::Marker => 0,
-            Fault::Tilt => 0,
-            Fault::ZeroTilt => 0,
-            Fault::Field => 0,
-        }
+        let shown = self.shown();
+        shown.visits
     }
 }

@@ -90,7 +90,7 @@ fn copy_front(from: &[u8], to: &mut [u8], n: usize)
     requires { ⌜ (n ≤ length (now from)) × (n ≤ length (now to)) ⌝ }
     ensures { λ _. ⌜ take n (now (to .exit)) ≡ take n (now (from .entry)) ⌝ }
 {
-    half::copy(&from[0..n], &mut to[0..n]);
+    bit_rows::copy(&from[0..n], &mut to[0..n]);
 }
 
 // The first n bytes.

@@ -1,4 +1,4 @@
--- Definitions, to be read beside docs/RULES.md, §1
+-- The code (docs/RULES.md, §1): words, information bits, index kinds, inverse, degree, distance
 pub mod Bits
 pub mod Word
 pub mod Kinds

@@ -1,6 +1,6 @@
 -- `answers::put_answered` meets its contract.
-use Rattle.answers.specs.AtOnceLaws.{answeredNumber, answeredNumbers}
-use Rattle.answers.specs.ToldLaws.{handed}
+use Rattle.answers.specs.EarlyLaws.{answeredNumber, answeredNumbers}
+use Rattle.answers.specs.ReportedLaws.{handed}
 use borrow.Author.Needs.{needs}
 use Rattle.answers.proofs.put_answered.Statement.{statement}
 use Rattle.answers.proofs.put_answered.Tie as tie

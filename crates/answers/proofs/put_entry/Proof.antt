@@ -4,7 +4,7 @@ use mathlib.Core.List.{[], _∷_}
 use Prim.Native.Nat.{ℕ}
 use Rattle.answers.specs.Answers.{headerNumber}
 use Rattle.answers.specs.Indexed.{entryNumbers}
-use Rattle.answers.specs.ToldLaws.{handed}
+use Rattle.answers.specs.ReportedLaws.{handed}
 use borrow.Author.Needs.{needs}
 use Rattle.answers.proofs.put_entry.Statement.{statement}
 use Rattle.answers.proofs.put_entry.Tie as tie

@@ -1,9 +1,9 @@
 -- `answers::put_header` meets its contract.
 use mathlib.Core.Path.{refl, ap, _∙_}
 use Prim.Native.Nat.{ℕ}
-use Rattle.answers.specs.Told.{numbers}
+use Rattle.answers.specs.Reported.{numbers}
 use Rattle.answers.specs.Answers.{headerNumber, headerNumbers}
-use Rattle.answers.specs.ToldLaws.{handed}
+use Rattle.answers.specs.ReportedLaws.{handed}
 use borrow.Author.Needs.{needs}
 use Rattle.answers.proofs.put_header.Statement.{statement}
 use Rattle.answers.proofs.put_header.Tie as tie

@@ -1,6 +1,6 @@
 -- `put_heard`: each value of the answer goes to its place; under a refusal the telegram is zeros.
 use borrow.Author.Needs.{needs}
-use Rattle.answers.specs.TelegramsLaws.{told-shown, told-unread}
+use Rattle.answers.specs.TelegramsLaws.{reported-shown, reported-unread}
 use Rattle.answers.proofs.put_heard.Statement.{statement}
 use Rattle.answers.proofs.put_heard.Tie as tie
 
@@ -35,14 +35,14 @@ returns : tie.Need-returns
 returns c =
     let n = c .before .before .put-numbers in
     let e = c .before .before .before .before .before .answer .given in
-    told-shown _ _ _ _ _ (n .last .0) (c .put-telegram .last .0) (e .1) (n .ensures) (c .put-telegram .ensures)
+    reported-shown _ _ _ _ _ (n .last .0) (c .put-telegram .last .0) (e .1) (n .ensures) (c .put-telegram .ensures)
 
 returns-2 : tie.Need-returns-2
 returns-2 c =
     let n = c .before .before .put-numbers2 in
     let a = c .before .before .before in
     let e = a .before .before .before .before .before .answer2 .given in
-    told-unread _ _ (c .number .result) (a .before .before .penalty .result) (a .before .visits .result) (a .place .result) (n .last .0) (e .1)
+    reported-unread _ _ (c .number .result) (a .before .before .penalty .result) (a .before .visits .result) (a .place .result) (n .last .0) (e .1)
     (c .number .ensures) (a .before .before .penalty .ensures) (a .before .visits .ensures) (a .place .ensures) (n .ensures)
 
 pub put-heard-spec : {M : Type 1} → statement M

@@ -1,6 +1,6 @@
 -- `answers::put_place` meets its contract.
 use mathlib.Core.Path.{ap, _∙_}
-use Rattle.answers.specs.Told.{numbers}
+use Rattle.answers.specs.Reported.{numbers}
 use borrow.Author.Needs.{needs}
 use Rattle.answers.proofs.put_place.Statement.{statement}
 use Rattle.answers.proofs.put_place.Tie as tie

@@ -1,9 +1,9 @@
 -- `answers::put_read`: each value of the answer goes to its place.
 use mathlib.Core.Path.{ap₂, _∙_}
 use Prim.Native.Nat.{ℕ}
-use Rattle.answers.specs.Told.{numbers}
+use Rattle.answers.specs.Reported.{numbers}
 use Rattle.answers.specs.Answers.{readNumber, readNumbers}
-use Rattle.answers.specs.ToldLaws.{handed}
+use Rattle.answers.specs.ReportedLaws.{handed}
 use borrow.Author.Needs.{needs}
 use Rattle.answers.proofs.put_read.Statement.{statement}
 use Rattle.answers.proofs.put_read.Tie as tie

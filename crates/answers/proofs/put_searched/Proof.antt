@@ -1,7 +1,7 @@
 -- `answers::put_searched` meets its contract.
 use mathlib.Core.Path.{refl}
 use Rattle.answers.specs.Answers.{searchedNumber, searchedNumbers}
-use Rattle.answers.specs.ToldLaws.{handed}
+use Rattle.answers.specs.ReportedLaws.{handed}
 use borrow.Author.Needs.{needs}
 use Rattle.answers.proofs.put_searched.Statement.{statement}
 use Rattle.answers.proofs.put_searched.Tie as tie

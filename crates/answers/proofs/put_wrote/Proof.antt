@@ -3,7 +3,7 @@ use mathlib.Core.Path.{ap, _∙_}
 use mathlib.Core.List.{[], _∷_}
 use Prim.Native.Nat.{ℕ}
 use Rattle.answers.specs.Written.{wroteNumber, wroteNumbers}
-use Rattle.answers.specs.ToldLaws.{handed}
+use Rattle.answers.specs.ReportedLaws.{handed}
 use borrow.Author.Needs.{needs}
 use Rattle.answers.proofs.put_wrote.Statement.{statement}
 use Rattle.answers.proofs.put_wrote.Tie as tie

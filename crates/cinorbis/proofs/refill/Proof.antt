@@ -1,5 +1,5 @@
 -- `cinorbis::refill` meets its contract.
-use Rattle.turns.specs.SituationLaws.{kept-front, length-behind}
+use Rattle.rounds.specs.SituationLaws.{kept-front, length-behind}
 use mathlib.Core.Path.{_∙_}
 use Prim.Native.Nat.{_-_}
 use native.Mathlib.Omega.{arith}

@@ -1,9 +1,9 @@
--- `cinorbis::run` meets its contract: it is a chain of turns, and no count of records exceeds that of the turns.
+-- `cinorbis::run` meets its contract: it is a chain of rounds, and no count of records exceeds that of the rounds.
 use mathlib.Core.Path.{_≡_, refl, _∙_}
 use mathlib.Core.Logic.{inl, inr}
 use native.Mathlib.Omega.{arith}
 use lib.ListN.{length}
-use Rattle.cinorbis.specs.EndLaws.{Along, along-start, along-stands, along-turn, along-ran}
+use Rattle.cinorbis.specs.EndLaws.{Along, along-start, along-stands, along-round, along-ran}
 use Rattle.cinorbis.proofs.run.Statement.{statement}
 use Rattle.cinorbis.proofs.run.Tie as tie
 
@@ -22,8 +22,8 @@ loop-holds c =
     let pre = c .before .before .before .pre in
     (along-start (g .input .now) (g .output .now) (c .start .result) (c .start .ensures) (pre .0) (pre .1), refl, refl)
 
-turn-requires : tie.Need-turn-requires Inv-loop μ-loop
-turn-requires c κs =
+round-requires : tie.Need-round-requires Inv-loop μ-loop
+round-requires c κs =
     let o = c .before .before .before .before .loop in
     let along = o .inv .0 in
     let stands = along-stands (o .left) (o .s) (o .input) (o .output) along in
@@ -38,9 +38,9 @@ loop-less c = omega arith
 loop-again : tie.Need-loop-again Inv-loop μ-loop
 loop-again c =
     let o = c .before .before .before .before .before .before .before .before .before .loop in
-    let t = c .before .before .before .before .turn in
+    let t = c .before .before .before .before .round in
     let going = c .before .before .before .before .before .before .before .if1 .taken in (
-      along-turn (o .left) (o .s) (o .input) (o .output) (o .inv .0) (t .result) (t .last .0) (t .last .1 .0)
+      along-round (o .left) (o .s) (o .input) (o .output) (o .inv .0) (t .result) (t .last .0) (t .last .1 .0)
           (omega arith) going (t .kept .0) (t .kept .1 .0) (t .ensures),
       t .kept .0 ∙ o .inv .1,
       t .kept .1 .0 ∙ o .inv .2,
@@ -76,7 +76,7 @@ run-spec =
     μ-loop
     start-requires
     loop-holds
-    turn-requires
+    round-requires
     sub-left
     loop-less
     loop-again

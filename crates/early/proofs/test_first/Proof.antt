@@ -2,9 +2,9 @@
 use borrow.Author.Needs.{needs}
 use mathlib.Core.Path.{ap, sym, _∙_}
 use native.Mathlib.Omega.{arith}
-use Rattle.search.specs.RunnerUp.{WholeOutcome}
+use Rattle.search.specs.RunnerUp.{RunnerUpOutcome}
 use Rattle.early.specs.declared.Answered.{Answered}
-use Rattle.early.specs.Outcome.{told}
+use Rattle.early.specs.Outcome.{outcomeOf}
 use Rattle.early.specs.OutcomeLaws.{at-once, by-search}
 use Rattle.early.proofs.test_first.Statement.{statement}
 use Rattle.early.proofs.test_first.Tie as tie
@@ -64,8 +64,8 @@ returns c =
 search-sound-requires : tie.Need-search-sound-requires
 search-sound-requires c κs = search needs
 
-shortened-requires : tie.Need-shortened-requires
-shortened-requires c κs = search needs
+penalty-only-requires : tie.Need-penalty-only-requires
+penalty-only-requires c κs = search needs
 
 same-length-5 : tie.Need-same-length-5
 same-length-5 c = search needs
@@ -89,10 +89,10 @@ returns-2 c =
     let searched = found .search-sound in
     let bits = searched .last .1 .1 .1 .0 in
     let word = searched .last .1 .1 .1 .1 .0 in
-    ap (λ (a : Answered). told a bits word) (c .shortened .ensures)
+    ap (λ (a : Answered). outcomeOf a bits word) (c .penalty-only .ensures)
     ∙ by-search (s .code) (s .allowed) (s .readings .now) (s .bits .now) (s .word .now) (quick .result) (quick .last .1 .1 .0) (quick .last .1 .1 .1 .0)
     (quick .ensures) (sym (test .surely-right .ensures) ∙ else .if1 .left) (searched .result .result) bits word
-    (ap (λ (o : WholeOutcome). o .outcome) (searched .ensures))
+    (ap (λ (o : RunnerUpOutcome). o .outcome) (searched .ensures))
 
 pub test-first-spec : {M : Type 1} → statement M
 test-first-spec =
@@ -108,7 +108,7 @@ test-first-spec =
     same-length-4
     returns
     search-sound-requires
-    shortened-requires
+    penalty-only-requires
     same-length-5
     same-length-6
     same-length-7

@@ -1,4 +1,4 @@
--- After j turns the first j sums and the first j differences stand in their places.
+-- After j passes the first j sums and the first j differences stand in their places.
 use mathlib.Core.Path.{_≡_, refl, ap, ap₂, _∙_}
 use Prim.Native.Nat.{_+_, _-_, _≤_, zero-le}
 use native.Mathlib.Omega.{arith}
@@ -10,7 +10,7 @@ use mir.Val.{toZ, ofZ}
 use mir.Facts.{toZ-ofZ}
 use Rattle.numbers.specs.PartsLaws.{fits-size}
 use Rattle.hadamard.specs.HadamardLaws.{size-combined}
-use Rattle.first_order.specs.CrossLaws.{crossing, crossing-none, crossing-all, read-first, read-second, pair-small, turn-stores}
+use Rattle.first_order.specs.CrossLaws.{crossing, crossing-none, crossing-all, read-first, read-second, pair-small, pass-stores}
 use Rattle.first_order.proofs.cross.Statement.{statement}
 use Rattle.first_order.proofs.cross.Tie as tie
 
@@ -38,7 +38,7 @@ mul-b c = omega arith
 slice-copy-out-b : tie.Need-slice-copy-out-b Inv-loop μ-loop
 slice-copy-out-b c = omega arith
 
--- what a turn stores
+-- what a pass stores
 abbrev first-read : tie.After-b Inv-loop μ-loop → ℤ
 first-read c = let o = c .before .before .before .loop in toZ w32 (ofZ w32 (getD (o .row) (o .j) (pos 0)))
 
@@ -51,7 +51,7 @@ sum-stored c = toZ w32 (ofZ w32 (first-read c +ℤ second-read c))
 abbrev difference-stored : tie.After-b Inv-loop μ-loop → ℤ
 difference-stored c = toZ w32 (ofZ w32 (first-read c -ℤ second-read c))
 
--- what a turn has read
+-- what a pass has read
 pair : (c : tie.After-b Inv-loop μ-loop)
     → let o = c .before .before .before .loop in
     let s = c .before .before .before .before in
@@ -122,7 +122,7 @@ loop-again c =
     let h = s .args .h in (
       omega arith,
       λ long.
-          turn-stores d h long (o .row) (o .j) (omega arith) (o .inv .1 long) _ _
+          pass-stores d h long (o .row) (o .j) (omega arith) (o .inv .1 long) _ _
           (toZ-ofZ {w = w32} (add-row c) ∙ ap₂ _+ℤ_ (pair c .0) (pair c .1))
           (toZ-ofZ {w = w32} (sub-row c) ∙ ap₂ _-ℤ_ (pair c .0) (pair c .1)),
       length-set (set (o .row) (o .j) (sum-stored c)) (h + o .j) (difference-stored c) ∙ length-set (o .row) (o .j) (sum-stored c) ∙ o .inv .2,

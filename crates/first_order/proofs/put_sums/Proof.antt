@@ -1,4 +1,4 @@
--- After j turns the row has the first j readings.
+-- After j passes the row has the first j readings.
 use mathlib.Core.Path.{_≡_, refl, _∙_}
 use Prim.Native.Nat.{_-_, _≤_}
 use native.Mathlib.Omega.{arith}

@@ -1,4 +1,4 @@
--- After p turns the first 2^p bits are the word of the place's lowest p digits.
+-- After p passes the first 2^p bits are the word of the place's lowest p digits.
 use mathlib.Core.Path.{_≡_, refl, ap, sym, _∙_, subst}
 use Prim.Native.Nat.{ℕ, _-_, _^_, _≤_, _<_}
 use native.Mathlib.Omega.{arith}

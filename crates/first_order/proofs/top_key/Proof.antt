@@ -1,4 +1,4 @@
--- After j turns the largest of the first j keys is held.
+-- After j passes the largest of the first j keys is held.
 use mathlib.Core.Path.{_≡_, ap, _∙_, subst}
 use Prim.Native.Nat.{ℕ, _+_, _*_, _-_, _≤_, max}
 use native.Mathlib.Omega.{arith}

@@ -4,7 +4,7 @@ use Prim.Native.Nat.{ℕ, _-_, _^_, _≤_, _<_, suc}
 use native.Mathlib.Omega.{arith}
 use lib.ListN.{length, take}
 use Rattle.memory.specs.Memory.{Arrays, Made}
-use Rattle.memory.specs.CodeLaws.{short, row-fits, row-small, row-made, turn-ready}
+use Rattle.memory.specs.CodeLaws.{short, row-fits, row-small, row-made, pass-ready}
 use Rattle.float_numbers.specs.Whole.{wholes}
 use Rattle.float_numbers.specs.WholesLaws.{length-wholes}
 use Rattle.float_memory.specs.FloatMemoryLaws.{same-floats}
@@ -34,7 +34,7 @@ row-requires : tie.Need-row-requires Inv-loop μ-loop
 row-requires c κs =
     let g = c .before .before .before .before .before .before .before .before .before .before .before .before .before .before .before in
     let o = c .before .before .before .loop in
-    let r = turn-ready (g .pre .3) (o .inv .0) (omega arith) (o .inv .3) in
+    let r = pass-ready (g .pre .3) (o .inv .0) (omega arith) (o .inv .3) in
     let more : suc (o .t - 1) < g .args .m = omega (arith, g .pre .3 .some, o .inv .0) in
     (row-fits r (o .inv .1) more, short r (o .inv .1), o .inv .1, o .inv .2, row-small r (o .inv .1) more)
 
@@ -43,11 +43,11 @@ loop-less c = omega arith
 
 loop-again : tie.Need-loop-again Inv-loop μ-loop
 loop-again c =
-    let turn = c .before .before .before .before .before .before .before .before in
-    let g = turn .before .before .before .before .before .before .before .before .before .before .before .before in
-    let o = turn .loop in
+    let pass = c .before .before .before .before .before .before .before .before in
+    let g = pass .before .before .before .before .before .before .before .before .before .before .before .before in
+    let o = pass .loop in
     let a = c .before .before .before .before .row in
-    let r = turn-ready (g .pre .3) (o .inv .0) (omega arith) (o .inv .3) in
+    let r = pass-ready (g .pre .3) (o .inv .0) (omega arith) (o .inv .3) in
     let more : suc (o .t - 1) < g .args .m = omega (arith, g .pre .3 .some, o .inv .0) in (
       omega (arith, o .inv .0),
       same-floats (o .rows) (a .last .0) (o .inv .1) (a .kept .0),

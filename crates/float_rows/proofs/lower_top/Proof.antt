@@ -1,4 +1,4 @@
--- `float_rows::lower_top`: after j turns the new row has its first j sums.
+-- `float_rows::lower_top`: after j passes the new row has its first j sums.
 use mathlib.Core.Path.{_≡_, refl, ap, _∙_}
 use Prim.Native.Nat.{_+_, _-_, _≤_, zero-le}
 use native.Mathlib.Omega.{arith}
@@ -43,7 +43,7 @@ mul-y c = omega arith
 shared-slice-read-y : tie.Need-shared-slice-read-y Inv-loop μ-loop
 shared-slice-read-y c = omega arith
 
--- what a turn has read
+-- what a pass has read
 pair : (c : tie.After-shared-slice-known3 Inv-loop μ-loop)
     → let o = c .before .before .before .loop in
     let g = c .before .before .before .before .before .before in

@@ -1,4 +1,4 @@
--- `float_rows::upper_row`: after j turns the new row has its first j sums.
+-- `float_rows::upper_row`: after j passes the new row has its first j sums.
 use mathlib.Core.Path.{_≡_, refl, ap, _∙_}
 use Prim.Native.Nat.{_+_, _-_, _≤_, zero-le}
 use native.Mathlib.Omega.{arith}
@@ -60,7 +60,7 @@ slice-read-y c = omega arith
 shared-slice-read-upper : tie.Need-shared-slice-read-upper Inv-loop μ-loop
 shared-slice-read-upper c = omega arith
 
--- what a turn has read
+-- what a pass has read
 pair : (c : tie.After-shared-slice-known2 Inv-loop μ-loop)
     → let o = c .before .before .before .before .loop in
     let g = c .before .before .before .before .before .before .before in

@@ -6,8 +6,8 @@ use Rattle.code.specs.declared.Admitted.the-variants.{Allowed}
 use Rattle.code.specs.Admitted.{admitted}
 use Rattle.code.specs.AdmittedLaws.{allowed-sound}
 use Rattle.search.specs.declared.WithRunnerUp.{WithRunnerUp}
-use Rattle.search.specs.RunnerUp.{toldWhole}
-use Rattle.search.specs.RunnerUpLaws.{whole-refused, whole-answered}
+use Rattle.search.specs.RunnerUp.{runnerUpOutcomeOf}
+use Rattle.search.specs.RunnerUpLaws.{runner-up-refused, runner-up-answered}
 use Rattle.float_numbers.specs.Whole.{wholes}
 use Rattle.float_search.proofs.search_float_within.Statement.{statement}
 use Rattle.float_search.proofs.search_float_within.Tie as tie
@@ -41,8 +41,8 @@ returns c =
     let tests = refused .before .before in
     let s = tests .before .before .before .before .args in
     let why = refused .why .given in
-    ap (λ (a : WithRunnerUp). toldWhole a (s .bits .now) (s .word .now)) (c .refused .ensures)
-    ∙ sym (whole-refused (s .r) (s .m) (s .allowed) (wholes (s .readings .now)) (s .bits .now) (s .word .now) (why .0 .0)
+    ap (λ (a : WithRunnerUp). runnerUpOutcomeOf a (s .bits .now) (s .word .now)) (c .refused .ensures)
+    ∙ sym (runner-up-refused (s .r) (s .m) (s .allowed) (wholes (s .readings .now)) (s .bits .now) (s .word .now) (why .0 .0)
     (sym (why .1) ∙ tests .admit .ensures))
 
 same-length : tie.Need-same-length
@@ -57,7 +57,7 @@ returns-2 c =
     let allowed = done .before .before .before .before in
     let s = allowed .before .before .before .before .before .before .args in
     done .search-sound .ensures
-    ∙ sym (whole-answered (s .r) (s .m) (s .allowed) (wholes (s .readings .now)) (s .bits .now) (s .word .now)
+    ∙ sym (runner-up-answered (s .r) (s .m) (s .allowed) (wholes (s .readings .now)) (s .bits .now) (s .word .now)
     (allowed .code .given .0 .0) (is-allowed allowed))
 
 pub search-float-within-spec : {M : Type 1} → statement M

@@ -15,8 +15,8 @@ use Rattle.code.specs.declared.Refusal.the-variants.{Tied}
 use Rattle.search.specs.declared.Searched.the-variants.{Refused}
 use Rattle.search.specs.declared.WithRunnerUp.{WithRunnerUp}
 use Rattle.search.specs.Outcome.{Outcome, foundWith}
-use Rattle.search.specs.RunnerUp.{WholeOutcome, roomy, runnerUp, toldWhole, withNone}
-use Rattle.search.specs.RunnerUpLaws.{whole-out, whole-tied, whole-found}
+use Rattle.search.specs.RunnerUp.{RunnerUpOutcome, roomy, runnerUp, runnerUpOutcomeOf, withNone}
+use Rattle.search.specs.RunnerUpLaws.{runner-up-out, runner-up-tied, runner-up-found}
 use Rattle.search.specs.WorkLaws.{out-answer, ordered, many, runner-up-is, tied-answer, found-answer, walkable, pickable}
 use Rattle.float_numbers.specs.Whole.{float, wholes}
 use Rattle.float_walk.specs.Held.{count, secondOf}
@@ -24,7 +24,7 @@ use Rattle.float_walk.specs.PenaltyLaws.{penalty-sub, penalty-of, count-of}
 use Rattle.float_search.proofs.search_kinds.Statement.{statement}
 use Rattle.float_search.proofs.search_kinds.Tie as tie
 
-abbrev beside : Outcome → List ℕ → WholeOutcome
+abbrev beside : Outcome → List ℕ → RunnerUpOutcome
 beside o x = record { outcome = o; runnerUp = x }
 
 -- the walk was not out
@@ -65,8 +65,8 @@ returns c =
     let start = walked .before .before .before .before .before .before in
     let s = start .args in
     let numbers = walked .walk .last .1 .1 .1 .1 .1 .1 .0 in
-    ap (λ (a : WithRunnerUp). toldWhole a (s .bits .now) (s .word .now)) (c .refused .ensures)
-    ∙ whole-out (s .m) _ _ (s .allowed) (s .bits .now) (s .word .now)
+    ap (λ (a : WithRunnerUp). runnerUpOutcomeOf a (s .bits .now) (s .word .now)) (c .refused .ensures)
+    ∙ runner-up-out (s .m) _ _ (s .allowed) (s .bits .now) (s .word .now)
     (out-answer (start .pre) (walked .walk .ensures .0) (lt-ltb 0 (getD numbers 4 0) (omega (arith, left .if1 .taken))))
 
 array-read-visits : tie.Need-array-read-visits
@@ -96,9 +96,9 @@ returns-2 c =
     let start = walked .before .before .before .before .before .before in
     let s = start .args in
     let numbers = walked .walk .last .1 .1 .1 .1 .1 .1 .0 in
-    ap (λ (a : WithRunnerUp). toldWhole a (s .bits .now) (s .word .now)) (c .refused2 .ensures)
-    ∙ ap (λ (p : ℕ). toldWhole (withNone (Refused (Tied p (getD numbers 3 0)))) (s .bits .now) (s .word .now)) (whole2 .before .before .whole .ensures)
-    ∙ whole-tied (s .m) _ _ (s .allowed) (s .bits .now) (s .word .now)
+    ap (λ (a : WithRunnerUp). runnerUpOutcomeOf a (s .bits .now) (s .word .now)) (c .refused2 .ensures)
+    ∙ ap (λ (p : ℕ). runnerUpOutcomeOf (withNone (Refused (Tied p (getD numbers 3 0)))) (s .bits .now) (s .word .now)) (whole2 .before .before .whole .ensures)
+    ∙ runner-up-tied (s .m) _ _ (s .allowed) (s .bits .now) (s .word .now)
     (tied-answer (start .pre) (walked .walk .ensures .0) (on else1) (sym (gap-is whole2) ∙ left .if2 .taken))
 
 put-best-requires : tie.Need-put-best-requires
@@ -140,7 +140,7 @@ returns-3 c =
     (whole2 .before .before .whole .ensures) (gap-is whole2)
     ∙ ap₂ (λ (b x : List ℕ). beside (foundWith (count (end .best)) (secondOf end - count (end .best)) (getD numbers 3 0) b x) shown)
     (written .bits-are) (written .word-is)
-    ∙ whole-found (s .m) _ _ (s .allowed) (s .bits .now) (s .word .now)
+    ∙ runner-up-found (s .m) _ _ (s .allowed) (s .bits .now) (s .word .now)
     (found-answer (start .pre) (walked .walk .ensures .0) (on else1) (λ e. if2 .if2 .left (gap-is whole2 ∙ e))) is
 
 pub search-kinds-spec : {M : Type 1} → statement M

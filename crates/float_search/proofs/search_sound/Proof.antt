@@ -12,7 +12,7 @@ use lib.Ieee.{Float, binary32, ofBits}
 use Rattle.words.specs.Kinds.{kinds}
 use Rattle.words.specs.KindLaws.{length-kinds}
 use Rattle.code.specs.SoundLaws.{length-most}
-use Rattle.search.specs.RunnerUp.{wholeBy}
+use Rattle.search.specs.RunnerUp.{runnerUpOutcomeBy}
 use Rattle.search.specs.WorkLaws.{front-is, same-readings, searchable}
 use Rattle.float_numbers.specs.Whole.{wholes}
 use Rattle.float_numbers.specs.WholesLaws.{length-wholes, wholes-take}
@@ -91,7 +91,7 @@ returns c =
     let own = own-is (copied .copy-readings .last .1 .0) _ (s .readings .now) (2 ^ m) (copied .copy-readings .ensures) (start .pre .entries .long) in
     let is = front-is (filled .put-kinds .last .1 .0) _ (kinds (s .code .r) m) (2 ^ m) (filled .put-kinds .ensures) (length-kinds (s .code .r) m) in
     done .search-kinds .ensures
-    ∙ ap₂ (λ (ks : List ℕ) (x : List ℤ). wholeBy m ks x (s .allowed) (s .bits .now) (s .word .now)) is own
+    ∙ ap₂ (λ (ks : List ℕ) (x : List ℤ). runnerUpOutcomeBy m ks x (s .allowed) (s .bits .now) (s .word .now)) is own
 
 pub search-sound-spec : {M : Type 1} → statement M
 search-sound-spec =

@@ -114,9 +114,9 @@ frozen-step-full-requires : (t : ℕ)
     → frozen-step-lts.Need-full-requires (frozen-step-calls t) (frozen-step-at t) frozen-step.Post frozen-step-Inv-loop frozen-step-μ-loop
 frozen-step-full-requires t c κs = c .before .loop .inv .reached .asked .ready .room
 
--- a turn of the loop, where the path is not full; the value made in it; what comes of a 0, and that it is kept
-abbrev Turn : ℕ → Type 0
-Turn t = frozen-step-lts.Then1 (frozen-step-calls t) (frozen-step-at t) frozen-step.Post frozen-step-Inv-loop frozen-step-μ-loop
+-- a pass of the loop, where the path is not full; the value made in it; what comes of a 0, and that it is kept
+abbrev Pass : ℕ → Type 0
+Pass t = frozen-step-lts.Then1 (frozen-step-calls t) (frozen-step-at t) frozen-step.Post frozen-step-Inv-loop frozen-step-μ-loop
 
 abbrev Valued : ℕ → Type 0
 Valued t = frozen-step-lts.After-value-at (frozen-step-calls t) (frozen-step-at t) frozen-step.Post frozen-step-Inv-loop frozen-step-μ-loop
@@ -127,37 +127,37 @@ Extended-by-0 t = frozen-step-lts.After-extend (frozen-step-calls t) (frozen-ste
 abbrev Kept-0 : ℕ → Type 0
 Kept-0 t = frozen-step-lts.After-known-told (frozen-step-calls t) (frozen-step-at t) frozen-step.Post frozen-step-Inv-loop frozen-step-μ-loop
 
-abbrev turn-of : (t : ℕ) → Valued t → Turn t
-turn-of t c = c .before .before .before .before .before .before .before .before .before .before
+abbrev pass-of : (t : ℕ) → Valued t → Pass t
+pass-of t c = c .before .before .before .before .before .before .before .before .before .before
 
 abbrev valued-of : (t : ℕ) → Kept-0 t → Valued t
 valued-of t c = c .before .before .before .before
 
-inside : (t : ℕ) (c : Turn t) → let o = c .before .before .before .loop in o .i < 2 ^ getD (o .state) 6 0
+inside : (t : ℕ) (c : Pass t) → let o = c .before .before .before .loop in o .i < 2 ^ getD (o .state) 6 0
 inside t c = not-full (c .before .before .before .loop .inv .reached .asked) (sym (c .before .full .ensures) ∙ not-true _ (c .if1 .taken))
 
-short-turn : (t : ℕ) (c : Turn t) → c .before .before .before .loop .i < 256
-short-turn t c = within (c .before .before .before .loop .inv .reached .asked) (inside t c)
+short-pass : (t : ℕ) (c : Pass t) → c .before .before .before .loop .i < 256
+short-pass t c = within (c .before .before .before .loop .inv .reached .asked) (inside t c)
 
 -- the walk is over as many indices as at the start
-same-power : (t : ℕ) (c : Turn t)
+same-power : (t : ℕ) (c : Pass t)
     → 2 ^ getD (c .before .before .before .loop .state) 6 0 ≡ 2 ^ getD (c .before .before .before .before .args .state .now) 6 0
 same-power t c = ap (λ (n : ℕ). 2 ^ n) (c .before .before .before .loop .inv .reached .onward .same-m)
 
 frozen-step-element-copy-out-if2 : (t : ℕ)
     → frozen-step-lts.Need-element-copy-out-if2 (frozen-step-calls t) (frozen-step-at t) frozen-step.Post frozen-step-Inv-loop frozen-step-μ-loop
-frozen-step-element-copy-out-if2 t c = short-turn t c
+frozen-step-element-copy-out-if2 t c = short-pass t c
 
 frozen-step-info-step-requires : (t : ℕ)
     → frozen-step-lts.Need-info-step-requires (frozen-step-calls t) (frozen-step-at t) frozen-step.Post frozen-step-Inv-loop frozen-step-μ-loop
 frozen-step-info-step-requires t c κs =
-    let turn = c .before .before .before .before .before .before .before .before in
-    let start = turn .before .before .before .before in
-    let r = turn .before .before .before .loop .inv in (
-      omega (arith, start .pre .0, r .reached .onward .on, same-power t turn, inside t turn),
+    let pass = c .before .before .before .before .before .before .before .before in
+    let start = pass .before .before .before .before in
+    let r = pass .before .before .before .loop .inv in (
+      omega (arith, start .pre .0, r .reached .onward .on, same-power t pass, inside t pass),
       (
         record { long = r .long; asked = r .reached .asked; penalty = r .penalty; counts = start .pre .1 .counts },
-        inside t turn,
+        inside t pass,
         c .before .before .before .before .before .before .if2 .taken,
       ),
     )
@@ -165,8 +165,8 @@ frozen-step-info-step-requires t c κs =
 frozen-step-returns : (t : ℕ)
     → frozen-step-lts.Need-returns (frozen-step-calls t) (frozen-step-at t) frozen-step.Post frozen-step-Inv-loop frozen-step-μ-loop
 frozen-step-returns t c =
-    let turn = c .before .before .before .before .before .before .before .before .before in
-    float-given (turn .before .before .before .loop .inv) (c .info-step .ensures)
+    let pass = c .before .before .before .before .before .before .before .before .before in
+    float-given (pass .before .before .before .loop .inv) (c .info-step .ensures)
 
 frozen-step-visit-requires : (t : ℕ)
     → frozen-step-lts.Need-visit-requires (frozen-step-calls t) (frozen-step-at t) frozen-step.Post frozen-step-Inv-loop frozen-step-μ-loop
@@ -175,13 +175,13 @@ frozen-step-visit-requires t c κs = c .before .before .before .before .before .
 frozen-step-returns-2 : (t : ℕ)
     → frozen-step-lts.Need-returns-2 (frozen-step-calls t) (frozen-step-at t) frozen-step.Post frozen-step-Inv-loop frozen-step-μ-loop
 frozen-step-returns-2 t c =
-    let turn = c .before .before .before .before .before in
-    let r = turn .before .before .before .loop .inv in
-    let start = turn .before .before .before .before in
+    let pass = c .before .before .before .before .before in
+    let r = pass .before .before .before .loop .inv in
+    let start = pass .before .before .before .before in
     let v = c .before .visit .ensures in
     record {
       long = v .shows .long;
-      given = reached-given (r .reached) (frozen-stop (r .reached .asked) (inside t turn) (c .before .before .before .if2 .left)
+      given = reached-given (r .reached) (frozen-stop (r .reached .asked) (inside t pass) (c .before .before .before .if2 .left)
           (visit-over (start .args .held) (may-not (c .if3 .taken) v)));
       counts = start .pre .1 .counts;
     }
@@ -189,56 +189,56 @@ frozen-step-returns-2 t c =
 frozen-step-value-at-requires : (t : ℕ)
     → frozen-step-lts.Need-value-at-requires (frozen-step-calls t) (frozen-step-at t) frozen-step.Post frozen-step-Inv-loop frozen-step-μ-loop
 frozen-step-value-at-requires t c κs =
-    let turn = c .before .before .before .before .before .before .before .before .before in
+    let pass = c .before .before .before .before .before .before .before .before .before in
     let allowed = c .before .before .before .before in
     let v = allowed .before .visit .ensures in
-    let h = turn .before .before .before .before .args .held in
+    let h = pass .before .before .before .before .args .held in
     asked-over h (v .shows .long)
-    (value-asked (turn .before .before .before .loop .inv .reached .asked) (inside t turn) (visit-over h (may-visit (allowed .if3 .left) v)))
+    (value-asked (pass .before .before .before .loop .inv .reached .asked) (inside t pass) (visit-over h (may-visit (allowed .if3 .left) v)))
 
 -- the value at the index that the loop has come to
-abbrev frozen-at : (t : ℕ) → Turn t → ℤ
+abbrev frozen-at : (t : ℕ) → Pass t → ℤ
 frozen-at t c =
     let o = c .before .before .before .loop in
     value (getD (o .state) 6 0) (front (o .state) (wholes (c .before .before .before .before .args .readings .now))) (take (o .i) (o .path))
 
-frozen-value : (t : ℕ) (c : Valued t) → wholeOf (c .value-at .result) ≡ frozen-at t (turn-of t c)
+frozen-value : (t : ℕ) (c : Valued t) → wholeOf (c .value-at .result) ≡ frozen-at t (pass-of t c)
 frozen-value t c =
-    let turn = turn-of t c in
+    let pass = pass-of t c in
     let allowed = c .before .before .before .before .before in
-    let h = turn .before .before .before .before .args .held in
-    value-is (turn .before .before .before .loop .inv .reached .asked) (inside t turn)
+    let h = pass .before .before .before .before .args .held in
+    value-is (pass .before .before .before .loop .inv .reached .asked) (inside t pass)
     (visit-over h (may-visit (allowed .if3 .left) (allowed .before .visit .ensures)))
     (given-over h (c .value-at .ensures))
 
 -- it is a frozen one
-turn-kind : (t : ℕ) (c : Valued t) → let turn = turn-of t c in
-    getD (turn .before .before .before .before .args .kinds .now) (turn .before .before .before .loop .i) 0 ≡ 0
-turn-kind t c = c .before .before .before .before .before .before .before .before .if2 .left
+pass-kind : (t : ℕ) (c : Valued t) → let pass = pass-of t c in
+    getD (pass .before .before .before .before .args .kinds .now) (pass .before .before .before .loop .i) 0 ≡ 0
+pass-kind t c = c .before .before .before .before .before .before .before .before .if2 .left
 
-frozen-going : (t : ℕ) (c : Valued t) → let turn = turn-of t c in
-    let o = turn .before .before .before .loop in
-    let h = turn .before .before .before .before .args .held in
-    Going (front (o .state) (wholes (turn .before .before .before .before .args .readings .now))) (o .path) (o .i)
+frozen-going : (t : ℕ) (c : Valued t) → let pass = pass-of t c in
+    let o = pass .before .before .before .loop in
+    let h = pass .before .before .before .before .args .held in
+    Going (front (o .state) (wholes (pass .before .before .before .before .args .readings .now))) (o .path) (o .i)
     (seen (eightOf h (o .state))) (seen (eightOf h (o .state)))
     (eightOf h (c .value-at .last .1 .1 .1 .1 .0)) (wholes (c .value-at .last .1 .0)) (o .path) (o .best) (o .second)
 frozen-going t c =
-    let turn = turn-of t c in
+    let pass = pass-of t c in
     let allowed = c .before .before .before .before .before in
-    let h = turn .before .before .before .before .args .held in
-    value-going (turn .before .before .before .loop .inv .reached .asked) (inside t turn)
+    let h = pass .before .before .before .before .args .held in
+    value-going (pass .before .before .before .loop .inv .reached .asked) (inside t pass)
     (visit-over h (may-visit (allowed .if3 .left) (allowed .before .visit .ensures)))
     (given-over h (c .value-at .ensures))
 
 frozen-step-extend-requires : (t : ℕ)
     → frozen-step-lts.Need-extend-requires (frozen-step-calls t) (frozen-step-at t) frozen-step.Post frozen-step-Inv-loop frozen-step-μ-loop
 frozen-step-extend-requires t c κs =
-    let turn = turn-of t c in
-    let r = turn .before .before .before .loop .inv in (
-      turn .before .before .before .before .pre .1 .counts,
+    let pass = pass-of t c in
+    let r = pass .before .before .before .loop .inv in (
+      pass .before .before .before .before .pre .1 .counts,
       r .penalty,
       rw (frozen-value t c) (value-small (r .reached .asked .ready)),
-      rw (frozen-value t c) (sum-small (r .reached .asked .ready) 0 (inside t turn) (omega arith)),
+      rw (frozen-value t c) (sum-small (r .reached .asked .ready) 0 (inside t pass) (omega arith)),
     )
 
 frozen-step-enum-known-after : (t : ℕ)
@@ -250,61 +250,61 @@ frozen-step-enum-told : (t : ℕ)
 frozen-step-enum-told t c = search needs
 
 -- what comes of the 0, and of one that is kept
-frozen-extends : (t : ℕ) (c : Extended-by-0 t) → let turn = turn-of t (c .before) in
-    Extends (turn .before .before .before .before .args .held) (count (turn .before .before .before .loop .sum) + loss (frozen-at t turn) 0) (c .extend .result)
+frozen-extends : (t : ℕ) (c : Extended-by-0 t) → let pass = pass-of t (c .before) in
+    Extends (pass .before .before .before .before .args .held) (count (pass .before .before .before .loop .sum) + loss (frozen-at t pass) 0) (c .extend .result)
 frozen-extends t c =
-    let turn = turn-of t (c .before) in
-    let h = turn .before .before .before .before .args .held in
-    subst (λ (v : ℤ). Extends h (count (turn .before .before .before .loop .sum) + loss v 0) (c .extend .result))
+    let pass = pass-of t (c .before) in
+    let h = pass .before .before .before .before .args .held in
+    subst (λ (v : ℤ). Extends h (count (pass .before .before .before .loop .sum) + loss v 0) (c .extend .result))
     (frozen-value t (c .before)) (c .extend .ensures)
 
-frozen-kept : (t : ℕ) (c : Kept-0 t) → let turn = turn-of t (valued-of t c) in
-    KeptAs (turn .before .before .before .before .args .held) (count (turn .before .before .before .loop .sum) + loss (frozen-at t turn) 0)
+frozen-kept : (t : ℕ) (c : Kept-0 t) → let pass = pass-of t (valued-of t c) in
+    KeptAs (pass .before .before .before .before .args .held) (count (pass .before .before .before .loop .sum) + loss (frozen-at t pass) 0)
     (c .before .after .given .0 .0)
 frozen-kept t c =
-    let turn = turn-of t (valued-of t c) in
-    let h = turn .before .before .before .before .args .held in
+    let pass = pass-of t (valued-of t c) in
+    let h = pass .before .before .before .before .args .held in
     kept-as (subst (Extends h _) (c .before .after .given .1) (frozen-extends t (c .before .before .before)))
-    (sum-small (turn .before .before .before .loop .inv .reached .asked .ready) 0 (inside t turn) (omega arith))
+    (sum-small (pass .before .before .before .loop .inv .reached .asked .ready) 0 (inside t pass) (omega arith))
 
 frozen-step-returns-3 : (t : ℕ)
     → frozen-step-lts.Need-returns-3 (frozen-step-calls t) (frozen-step-at t) frozen-step.Post frozen-step-Inv-loop frozen-step-μ-loop
 frozen-step-returns-3 t c =
     let extend = c .before .before in
     let valued = extend .before in
-    let turn = turn-of t valued in
-    let h = turn .before .before .before .before .args .held in
+    let pass = pass-of t valued in
+    let h = pass .before .before .before .before .args .held in
     record {
       long = valued .value-at .ensures .shows .long;
-      given = frozen-dropped (turn .before .before .before .loop .inv .reached) (inside t turn) (turn-kind t valued) (frozen-going t valued) refl
+      given = frozen-dropped (pass .before .before .before .loop .inv .reached) (inside t pass) (pass-kind t valued) (frozen-going t valued) refl
           (subst (Extends h _) (c .enum-told .given .1) (frozen-extends t extend));
-      counts = turn .before .before .before .before .pre .1 .counts;
+      counts = pass .before .before .before .before .pre .1 .counts;
     }
 
 frozen-step-put-requires : (t : ℕ)
     → frozen-step-lts.Need-put-requires (frozen-step-calls t) (frozen-step-at t) frozen-step.Post frozen-step-Inv-loop frozen-step-μ-loop
-frozen-step-put-requires t c κs = short-turn t (turn-of t (valued-of t (c .before)))
+frozen-step-put-requires t c κs = short-pass t (pass-of t (valued-of t (c .before)))
 
 frozen-step-add-i : (t : ℕ)
     → frozen-step-lts.Need-add-i (frozen-step-calls t) (frozen-step-at t) frozen-step.Post frozen-step-Inv-loop frozen-step-μ-loop
-frozen-step-add-i t c = record { fits = omega (arith, short-turn t (turn-of t (valued-of t (c .before .before)))) }
+frozen-step-add-i t c = record { fits = omega (arith, short-pass t (pass-of t (valued-of t (c .before .before)))) }
 
 frozen-step-loop-less : (t : ℕ)
     → frozen-step-lts.Need-loop-less (frozen-step-calls t) (frozen-step-at t) frozen-step.Post frozen-step-Inv-loop frozen-step-μ-loop
 frozen-step-loop-less t c =
-    let turn = turn-of t (valued-of t (c .before .before)) in
-    omega (arith, inside t turn, same-power t turn)
+    let pass = pass-of t (valued-of t (c .before .before)) in
+    omega (arith, inside t pass, same-power t pass)
 
 frozen-step-loop-again : (t : ℕ)
     → frozen-step-lts.Need-loop-again (frozen-step-calls t) (frozen-step-at t) frozen-step.Post frozen-step-Inv-loop frozen-step-μ-loop
 frozen-step-loop-again t c =
     let known = c .before .before in
     let valued = known .before .before .before .before in
-    let turn = turn-of t valued in
+    let pass = pass-of t valued in
     let x = frozen-kept t known in
     record {
       long = valued .value-at .ensures .shows .long;
-      reached = reached-more (turn .before .before .before .loop .inv .reached) (inside t turn) (turn-kind t valued) (frozen-going t valued)
+      reached = reached-more (pass .before .before .before .loop .inv .reached) (inside t pass) (pass-kind t valued) (frozen-going t valued)
           (x .adds) (x .kept) (c .put .ensures);
       penalty = x .penalty;
     }

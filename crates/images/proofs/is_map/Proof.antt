@@ -2,7 +2,7 @@
 use mathlib.Core.Path.{refl}
 use lib.ListN.{getD-replicate}
 use borrow.Author.Needs.{needs}
-use Rattle.images.specs.WorkLaws.{map-told}
+use Rattle.images.specs.WorkLaws.{map-tested}
 use Rattle.images.proofs.is_map.Statement.{statement}
 use Rattle.images.proofs.is_map.Tie as tie
 
@@ -17,7 +17,7 @@ same-length : tie.Need-same-length
 same-length c = search needs
 
 returns : tie.Need-returns
-returns c = map-told _ _ _ _ _ _ (c .before .before .before .take-map .ensures)
+returns c = map-tested _ _ _ _ _ _ (c .before .before .before .take-map .ensures)
 
 pub is-map-spec : {M : Type 1} → statement M
 is-map-spec =

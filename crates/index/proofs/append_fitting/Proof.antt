@@ -2,7 +2,7 @@
 use mathlib.Core.Path.{ap, sym, _∙_}
 use native.Mathlib.Omega.{arith}
 use Rattle.record.specs.declared.Written.{Written}
-use Rattle.record.specs.Writing.{told}
+use Rattle.record.specs.Writing.{outcomeOf}
 use Rattle.index.specs.AppendingLaws.{few-records, free-room, append-wrote, append-writes}
 use borrow.Author.Needs.{needs}
 use Rattle.index.proofs.append_fitting.Statement.{statement}
@@ -37,7 +37,7 @@ returns c =
     let wrote = c .before .before .before .before .before .before .before .before .before .before .write in
     let left = wrote .last .1 .1 .1 .0 in
     append-wrote (g .index) (g .r) (g .m) (g .readings .now) (g .capture .now) (g .table .now) _ left _
-    (ap (λ (a : Written). told a left) (sym (c .before .before .before .before .before .before .next .given .1)) ∙ wrote .ensures)
+    (ap (λ (a : Written). outcomeOf a left) (sym (c .before .before .before .before .before .before .next .given .1)) ∙ wrote .ensures)
     (c .before .before .before .put-entry .ensures)
 
 same-length-3 : tie.Need-same-length-3
@@ -50,7 +50,7 @@ returns-2 c =
     let left = wrote .last .1 .1 .1 .0 in
     append-writes (g .index) (g .r) (g .m) (g .readings .now) (g .capture .now) (g .table .now) (c .before .why .given .0 .0) left _
     (c .before .before .before .before .before .before .before .before .before .pre)
-    (ap (λ (a : Written). told a left) (sym (c .before .why .given .1)) ∙ wrote .ensures)
+    (ap (λ (a : Written). outcomeOf a left) (sym (c .before .why .given .1)) ∙ wrote .ensures)
 
 pub append-fitting-spec : {M : Type 1} → statement M
 append-fitting-spec =

@@ -5,7 +5,7 @@ use Prim.Native.Nat.{ℕ, _<_}
 use native.Mathlib.Omega.{arith}
 use lib.ListN.{length}
 use Rattle.numbers.specs.Lent.{lent-from}
-use Rattle.record.specs.Reader.{headerOf, told}
+use Rattle.record.specs.Reader.{headerOf, outcomeOf}
 use Rattle.index.specs.declared.Place.{Place}
 use Rattle.index.specs.Finding.{headerAt}
 use Rattle.index.specs.FindingLaws.{start-inside}
@@ -44,14 +44,14 @@ returns : tie.Need-returns
 returns c =
     let s = c .before .before .before .before .before .before .before .before .args .capture .now in
     c .header-of .ensures
-    ∙ ap (λ (x : List ℕ). told (headerOf x)) (lent-from (c .before .before .before .start .given .0 .0) s)
-    ∙ ap (λ (p : Place). told (headerAt s p))
+    ∙ ap (λ (x : List ℕ). outcomeOf (headerOf x)) (lent-from (c .before .before .before .start .given .0 .0) s)
+    ∙ ap (λ (p : Place). outcomeOf (headerAt s p))
     (sym (c .before .before .before .start .given .1) ∙ c .before .before .before .before .before .start-of .ensures)
 
 returns-2 : tie.Need-returns-2
 returns-2 c =
     let s = c .before .before .before .before .before .before .args .capture .now in
-    ap (λ (p : Place). told (headerAt s p)) (sym (c .before .why .given .1) ∙ c .before .before .before .start-of .ensures)
+    ap (λ (p : Place). outcomeOf (headerAt s p)) (sym (c .before .why .given .1) ∙ c .before .before .before .start-of .ensures)
 
 pub header-of-spec : {M : Type 1} → statement M
 header-of-spec =

@@ -3,7 +3,7 @@ use mathlib.Core.Path.{ap, sym, _∙_}
 use native.Mathlib.Omega.{arith}
 use lib.ListN.{length}
 use Rattle.index.specs.declared.Indexed.the-variants.{Done}
-use Rattle.index.specs.Making.{indexOf, told}
+use Rattle.index.specs.Making.{indexOf, outcomeOf}
 use Rattle.index.specs.MakingLaws.{counted-whole, make-refused, make-short, make-room, make-done}
 use borrow.Author.Needs.{needs}
 use Rattle.index.proofs.make.Statement.{statement}
@@ -43,7 +43,7 @@ same-length c = search needs
 returns-2 : tie.Need-returns-2
 returns-2 c =
     let g = c .before .before .before .before .before .before .before .before .before .before .before .before .args in
-    ap (told (Done (indexOf (c .before .before .before .before .before .before .before .records .given .0 .0) (length (g .capture .now)))))
+    ap (outcomeOf (Done (indexOf (c .before .before .before .before .before .before .before .records .given .0 .0) (length (g .capture .now)))))
     (c .before .before .put-entries .ensures)
     ∙ make-done (g .capture .now) (g .table .now) _
     (counted-whole (g .capture .now) (g .table .now) _

@@ -6,7 +6,7 @@ use native.Mathlib.Omega.{arith}
 use lib.ListN.{length, drop}
 use Rattle.numbers.specs.Lent.{lent-from}
 use Rattle.record.specs.declared.Header.{Header}
-use Rattle.record.specs.Reader.{headerOf, told}
+use Rattle.record.specs.Reader.{headerOf, outcomeOf}
 use Rattle.record.specs.OnlyHeader.{header-only}
 use Rattle.index.specs.Finding.{partAfter, partStartAt}
 use Rattle.index.specs.FindingLaws.{start-inside}
@@ -50,7 +50,7 @@ returns c =
     let start = c .before .before .before .before .start .given .0 .0 in
     let head = c .before .header-of in
     let same : head .result ≡ headerOf (drop start s) =
-    header-only (head .result) (headerOf (drop start s)) (head .ensures ∙ ap (λ (x : List ℕ). told (headerOf x)) (lent-from start s)) in
+    header-only (head .result) (headerOf (drop start s)) (head .ensures ∙ ap (λ (x : List ℕ). outcomeOf (headerOf x)) (lent-from start s)) in
     c .part-after .ensures
     ∙ ap (λ (h : Header). partAfter h start) same
     ∙ ap (partStartAt s) (sym (c .before .before .before .before .start .given .1) ∙ c .before .before .before .before .before .before .start-of .ensures)

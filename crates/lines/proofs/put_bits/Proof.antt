@@ -1,4 +1,4 @@
--- `lines::put_bits` meets its contract: turn by turn the next byte is stored.
+-- `lines::put_bits` meets its contract: pass by pass the next byte is stored.
 use mathlib.Core.Path.{_≡_, refl, _∙_}
 use mathlib.Core.List.{map}
 use Prim.Native.Nat.{_-_, _≤_, zero-le}

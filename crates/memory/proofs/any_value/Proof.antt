@@ -1,5 +1,5 @@
 -- `any_value`: the highest row that changes, and all below it, the lowest three by straight code where m is at least 4.
-use Rattle.memory.specs.CodeLaws.{low-asked, low-made, first-ready, turn-ready, same-arrays, value-arrays, value-given, single}
+use Rattle.memory.specs.CodeLaws.{low-asked, low-made, first-ready, pass-ready, same-arrays, value-arrays, value-given, single}
 use Rattle.memory.specs.Memory.{remade}
 use Rattle.rows.specs.RowLaws.{reading-fits}
 use lib.ListN.{getD}
@@ -71,7 +71,7 @@ low-rows-requires-2 c κs =
     let made = c .before .before .before in
     let t = made .before .before .before .before .before .before .before .top in
     let start = made .before .before .before .before .before .before .before .before .before in
-    let ready = turn-ready (first-ready (start .pre) (t .ensures)) (omega arith) (omega arith) (made .make-rows2 .ensures) in
+    let ready = pass-ready (first-ready (start .pre) (t .ensures)) (omega arith) (omega arith) (made .make-rows2 .ensures) in
     let arrays = value-arrays (start .pre) (omega arith) (omega arith) in
     (omega arith, low-asked ready (same-arrays arrays (made .make-rows2 .kept .1 .0)) (omega arith) (omega arith), omega arith)
 
@@ -83,7 +83,7 @@ returns-4 c =
     let made = c .before .before .before .before .before in
     let t = made .before .before .before .before .before .before .before .top in
     let start = made .before .before .before .before .before .before .before .before .before in
-    let ready = turn-ready (first-ready (start .pre) (t .ensures)) (omega arith) (omega arith) (made .make-rows2 .ensures) in
+    let ready = pass-ready (first-ready (start .pre) (t .ensures)) (omega arith) (omega arith) (made .make-rows2 .ensures) in
     let arrays = value-arrays (start .pre) (omega arith) (omega arith) in
     value-given (start .pre) (omega arith) (omega arith)
     (low-made ready (same-arrays arrays (made .make-rows2 .kept .1 .0)) (omega arith) (c .before .low-rows2 .ensures))

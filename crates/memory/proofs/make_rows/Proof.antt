@@ -1,5 +1,5 @@
 -- `make_rows`: from the row of 2^t sums on the rows stand for i.
-use Rattle.memory.specs.CodeLaws.{short, row-fits, row-small, row-made, turn-ready, made-above, same-arrays}
+use Rattle.memory.specs.CodeLaws.{short, row-fits, row-small, row-made, pass-ready, made-above, same-arrays}
 use Rattle.memory.specs.Memory.{Arrays, Made}
 use lib.ListN.{length, take}
 use native.Mathlib.Omega.{arith}
@@ -31,7 +31,7 @@ row-requires : tie.Need-row-requires Inv-loop μ-loop
 row-requires c κs =
     let g = c .before .before .before .before .before .before .before .before .before .before .before .before in
     let o = c .before .before .before .loop in
-    let r = turn-ready (g .pre .3) (o .inv .0) (omega arith) (o .inv .3) in
+    let r = pass-ready (g .pre .3) (o .inv .0) (omega arith) (o .inv .3) in
     let more : suc (o .t - 1) < g .args .m = omega (arith, g .pre .3 .some, o .inv .0) in
     (row-fits r (o .inv .1) more, short r (o .inv .1), o .inv .1, o .inv .2, row-small r (o .inv .1) more)
 
@@ -43,7 +43,7 @@ loop-again c =
     let g = c .before .before .before .before .before .before .before .before .before .before .before .before .before .before .before .before in
     let o = c .before .before .before .before .before .before .before .loop in
     let a = c .before .before .before .row in
-    let r = turn-ready (g .pre .3) (o .inv .0) (omega arith) (o .inv .3) in
+    let r = pass-ready (g .pre .3) (o .inv .0) (omega arith) (o .inv .3) in
     let more : suc (o .t - 1) < g .args .m = omega (arith, g .pre .3 .some, o .inv .0) in
     (omega (arith, o .inv .0), same-arrays (o .inv .1) (a .kept .0), omega (arith, o .inv .2, a .kept), row-made r (o .inv .1) more (a .ensures))
 

@@ -1,4 +1,4 @@
--- `packing::put_packed_pairs` meets its contract: turn by turn the next three bytes are stored.
+-- `packing::put_packed_pairs` meets its contract: pass by pass the next three bytes are stored.
 use mathlib.Core.Path.{_≡_, refl, sym}
 use Prim.Native.Nat.{_+_, _-_, _*_, _/_, _%_, _≤_, _<_}
 use native.Mathlib.Omega.{arith}

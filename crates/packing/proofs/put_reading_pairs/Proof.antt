@@ -1,4 +1,4 @@
--- `packing::put_reading_pairs` meets its contract: turn by turn the next two readings are stored.
+-- `packing::put_reading_pairs` meets its contract: pass by pass the next two readings are stored.
 use mathlib.Core.Path.{_≡_, refl, _∙_, sym}
 use Prim.Native.Nat.{_+_, _-_, _*_, _/_, _≤_}
 use native.Mathlib.Omega.{arith}

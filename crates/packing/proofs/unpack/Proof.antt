@@ -1,8 +1,8 @@
 -- `packing::unpack` meets its contract: 2, then 3, then the readings.
 use mathlib.Core.Path.{ap, sym, _∙_}
-use Rattle.packing.specs.declared.Unpacked.the-variants.{Done}
+use Rattle.code.specs.declared.Completed.the-variants.{Done}
 use Rattle.packing.specs.LayoutLaws.{readings-in}
-use Rattle.packing.specs.Unpacking.{told}
+use Rattle.packing.specs.Unpacking.{outcomeOf}
 use Rattle.packing.specs.UnpackingLaws.{no-part, other-room, all-unpacked}
 use borrow.Author.Needs.{needs}
 use Rattle.packing.proofs.unpack.Statement.{statement}
@@ -33,7 +33,7 @@ returns-3 : tie.Need-returns-3
 returns-3 c =
     let g = c .before .before .before .before .before .before .before .args in
     let is = c .before .before .before .before .before .readings-in .ensures in
-    ap (told Done) (c .before .put-readings .ensures)
+    ap (outcomeOf Done) (c .before .put-readings .ensures)
     ∙ sym (all-unpacked (g .part .now) (g .readings .now) (λ z. c .before .before .before .before .if1 .left (is ∙ z))
     (c .before .before .before .if2 .left ∙ is))
 

@@ -1,5 +1,5 @@
 -- `cinorbis_quick` tells the outcome of `quick`.
-use Rattle.answers.specs.ToldLaws.{told-read}
+use Rattle.answers.specs.ReportedLaws.{reported-read}
 use borrow.Author.Needs.{needs}
 use Rattle.pumpbox.proofs.cinorbis_quick.Statement.{statement}
 use Rattle.pumpbox.proofs.cinorbis_quick.Tie as tie
@@ -20,7 +20,7 @@ returns : tie.Need-returns
 returns c =
     let e = c .before .before .before .before .before .before .quick in
     let p = c .put-read in
-    told-read (e .result) _ _ _ (p .result) (p .last .1 .0) (e .ensures) (p .ensures .0) (p .ensures .1)
+    reported-read (e .result) _ _ _ (p .result) (p .last .1 .0) (e .ensures) (p .ensures .0) (p .ensures .1)
 
 pub cinorbis-quick-spec : {M : Type 1} → statement M
 cinorbis-quick-spec =

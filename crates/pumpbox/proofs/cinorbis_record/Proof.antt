@@ -1,6 +1,6 @@
 -- `cinorbis_record` tells the header and the length of the packed part.
 use Rattle.record.specs.Reader.{headerOf, partBy}
-use Rattle.answers.specs.ToldLaws.{told-part}
+use Rattle.answers.specs.ReportedLaws.{reported-part}
 use borrow.Author.Needs.{needs}
 use Rattle.pumpbox.proofs.cinorbis_record.Statement.{statement}
 use Rattle.pumpbox.proofs.cinorbis_record.Tie as tie
@@ -20,7 +20,7 @@ returns c =
     let part = c .before .before .packed in
     let head = c .before .before .before .header-of in
     let bytes = c .before .before .before .before .before .args .bytes .now in
-    told-part (head .result) (headerOf bytes) (part .result .now) (partBy (headerOf bytes) bytes) (p .last .1 .1 .0) (p .result)
+    reported-part (head .result) (headerOf bytes) (part .result .now) (partBy (headerOf bytes) bytes) (p .last .1 .1 .0) (p .result)
     (head .ensures) (part .ensures) (p .ensures .0) (p .ensures .1)
 
 pub cinorbis-record-spec : {M : Type 1} → statement M

@@ -9,7 +9,7 @@ use native.Mathlib.Nat.{sub-zero}
 use borrow.Rule.Slice.PartMut.{midOf, mid-len, same-len-mid}
 use Rattle.numbers.specs.Lent.{lent-again}
 use Rattle.code.specs.SoundLaws.{length-most}
-use Rattle.search.specs.RunnerUp.{searchingWhole}
+use Rattle.search.specs.RunnerUp.{searchingWithRunnerUp}
 use Rattle.packing.specs.Layout.{unpacked}
 use Rattle.record.specs.Reader.{partOf}
 use Rattle.record.specs.ReaderLaws.{part-taken, length-readings-of}
@@ -98,11 +98,11 @@ same-length-2 c = search needs
 returns : tie.Need-returns
 returns c =
     let lending = c .before .before .before .before .before .before .before .before .before .before .before .before .before in
-    let g = c .before .before .before .before .before .before .before .before .before .before .before .before .before .before .before .before .before .before .args in
+    let g = lending .before .before .before .before .before .args in
     let put = c .before .before .before .before .before .before .before .before .before .before .put-readings in
     let read = lent-again (n lending) zeros (put .last .1 .0) (ap length (put .ensures) ∙ count lending) ∙ put .ensures ∙ ap unpacked (taken lending) in
     c .before .before .before .before .search-within .ensures
-    ∙ ap (λ (l : List ℤ). searchingWhole (g .code .r) (g .code .m) (g .allowed) l (g .bits .now) (g .word .now)) read
+    ∙ ap (λ (l : List ℤ). searchingWithRunnerUp (g .code .r) (g .code .m) (g .allowed) l (g .bits .now) (g .word .now)) read
 
 pub search-framed-spec : {M : Type 1} → statement M
 search-framed-spec =

@@ -2,10 +2,10 @@
 use mathlib.Core.Path.{_∙_, ap, sym}
 use mathlib.Core.List.{[]}
 use Rattle.search.specs.declared.WithRunnerUp.{WithRunnerUp}
-use Rattle.search.specs.RunnerUp.{toldWhole}
+use Rattle.search.specs.RunnerUp.{runnerUpOutcomeOf}
 use Rattle.search.specs.RunnerUpLaws.{none-shown}
 use Rattle.record.specs.declared.Header.{Header}
-use Rattle.record.specs.Searching.{searchingWholeBy, searchingRecord}
+use Rattle.record.specs.Searching.{searchingWithRunnerUpBy, searchingRecord}
 use Rattle.record.specs.ReaderLaws.{framed-record}
 use borrow.Author.Needs.{needs}
 use Rattle.record.proofs.search_record.Statement.{statement}
@@ -41,7 +41,7 @@ returns c =
     let f = c .before .before .before .before .before .before .before .before .before .before in
     let g = f .before .before .before .before .args in
     c .before .before .before .before .search-framed .ensures
-    ∙ ap (λ (h : Header). searchingWholeBy h (g .allowed) (g .s .now) (g .bits .now) (g .word .now))
+    ∙ ap (λ (h : Header). searchingWithRunnerUpBy h (g .allowed) (g .s .now) (g .bits .now) (g .word .now))
     (sym (sym (f .frame .ensures) ∙ c .before .before .before .before .before .before .before .before .code .given .1))
 
 returns-2 : tie.Need-returns-2
@@ -49,9 +49,9 @@ unfolding searchingRecord
 returns-2 c =
     let known = c .before .before in
     let g = known .before .before .before .before .before .before .args in
-    ap (λ (a : WithRunnerUp). toldWhole a (g .bits .now) (g .word .now)) (c .refused .ensures)
+    ap (λ (a : WithRunnerUp). runnerUpOutcomeOf a (g .bits .now) (g .word .now)) (c .refused .ensures)
     ∙ sym (none-shown [] (known .why .given .0 .0) (g .bits .now) (g .word .now))
-    ∙ ap (λ (h : Header). searchingWholeBy h (g .allowed) (g .s .now) (g .bits .now) (g .word .now))
+    ∙ ap (λ (h : Header). searchingWithRunnerUpBy h (g .allowed) (g .s .now) (g .bits .now) (g .word .now))
     (sym (sym (known .before .before .frame .ensures) ∙ known .why .given .1))
 
 pub search-record-spec : {M : Type 1} → statement M

@@ -1,4 +1,4 @@
--- `rows::lower_row` meets its contract: after j turns the new row has its first j sums.
+-- `rows::lower_row` meets its contract: after j passes the new row has its first j sums.
 use mathlib.Core.Path.{_≡_, refl, ap, _∙_}
 use Prim.Native.Nat.{_+_, _-_, _≤_, zero-le}
 use native.Mathlib.Omega.{arith}
@@ -55,7 +55,7 @@ mul-y c = omega arith
 slice-copy-out-y : tie.Need-slice-copy-out-y Inv-loop μ-loop
 slice-copy-out-y c = omega arith
 
--- what a turn has read
+-- what a pass has read
 pair : (c : tie.After-y Inv-loop μ-loop)
     → let o = c .before .before .before .loop in
     let g = c .before .before .before .before in

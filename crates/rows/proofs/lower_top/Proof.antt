@@ -1,4 +1,4 @@
--- `rows::lower_top` meets its contract: after j turns the new row has its first j sums.
+-- `rows::lower_top` meets its contract: after j passes the new row has its first j sums.
 use mathlib.Core.Path.{_≡_, refl, ap, _∙_}
 use Prim.Native.Nat.{_+_, _-_, _≤_, zero-le}
 use native.Mathlib.Omega.{arith}
@@ -49,7 +49,7 @@ cast-y c =
     let g = c .before .before .before .before in
     reading-fits {z = getD (g .args .readings .now) (g .args .h + c .before .before .before .loop .j) (pos 0)} (record { sfits = c .y .given })
 
--- what a turn has read
+-- what a pass has read
 pair : (c : tie.After-y Inv-loop μ-loop)
     → let o = c .before .before .before .loop in
     let g = c .before .before .before .before in

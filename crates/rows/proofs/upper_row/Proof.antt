@@ -1,4 +1,4 @@
--- `rows::upper_row` meets its contract: after j turns the new row has its first j sums.
+-- `rows::upper_row` meets its contract: after j passes the new row has its first j sums.
 use mathlib.Core.Path.{_≡_, refl, ap, _∙_}
 use Prim.Native.Nat.{_+_, _-_, _≤_, zero-le}
 use native.Mathlib.Omega.{arith}
@@ -59,7 +59,7 @@ slice-copy-out-y c = omega arith
 shared-slice-read-upper : tie.Need-shared-slice-read-upper Inv-loop μ-loop
 shared-slice-read-upper c = omega arith
 
--- what a turn has read
+-- what a pass has read
 pair : (c : tie.After-y Inv-loop μ-loop)
     → let o = c .before .before .before .loop in
     let g = c .before .before .before .before .before in

@@ -1,4 +1,4 @@
--- `rows::upper_top` meets its contract: after j turns the new row has its first j sums.
+-- `rows::upper_top` meets its contract: after j passes the new row has its first j sums.
 use mathlib.Core.Path.{_≡_, refl, ap, _∙_}
 use Prim.Native.Nat.{_+_, _-_, _≤_, zero-le}
 use native.Mathlib.Omega.{arith}
@@ -54,7 +54,7 @@ cast-y c =
 shared-slice-read-upper : tie.Need-shared-slice-read-upper Inv-loop μ-loop
 shared-slice-read-upper c = omega arith
 
--- what a turn has read
+-- what a pass has read
 pair : (c : tie.After-y Inv-loop μ-loop)
     → let o = c .before .before .before .loop in
     let g = c .before .before .before .before .before in

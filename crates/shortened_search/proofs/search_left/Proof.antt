@@ -7,7 +7,7 @@ use Rattle.words.specs.KindLaws.{length-kinds}
 use Rattle.code.specs.declared.Code.{Code}
 use Rattle.code.specs.Admitted.{admittedBy}
 use Rattle.search.specs.declared.WithRunnerUp.{WithRunnerUp}
-use Rattle.search.specs.RunnerUp.{toldWhole, wholeBy}
+use Rattle.search.specs.RunnerUp.{runnerUpOutcomeOf, runnerUpOutcomeBy}
 use Rattle.shortened.specs.Outcome.{leftOf}
 use Rattle.shortened.specs.OutcomeLaws.{allowed-over}
 use Rattle.shortened_search.specs.OutcomeLaws.{over-refused, over-answered}
@@ -53,7 +53,7 @@ returns c =
     let s = c9 .args in
     let why = c .before .before .why .given in
     let ks = leftOf (s .named .now) (s .code) in
-    ap (λ (a : WithRunnerUp). toldWhole a (s .bits .now) (s .word .now)) (c .refused .ensures)
+    ap (λ (a : WithRunnerUp). runnerUpOutcomeOf a (s .bits .now) (s .word .now)) (c .refused .ensures)
     ∙ over-refused ks (s .code) (s .allowed) (s .readings .now) (s .bits .now) (s .word .now) (why .0 .0)
     (sym (why .1) ∙ c4 .admit-for .ensures
     ∙ ap (λ (due : ℕ). admittedBy (s .code) due (s .readings .now) (length (s .bits .now)) (length (s .word .now))) (c5 .count-left .ensures))
@@ -78,7 +78,7 @@ returns-2 c =
     let n = length (s .word .now) in
     let is = sym (told .1) ∙ c9 .admit-for .ensures ∙ ap (λ (due : ℕ). admittedBy (s .code) due (s .readings .now) k n) (c10 .count-left .ensures) in
     let same = allowed-over (s .code) (sum ks) (s .readings .now) k n (start .pre .0) (told .0 .0) is .0 in
-    c4 .search-sound .ensures ∙ ap (λ (d : Code). wholeBy (d .m) ks (s .readings .now) (s .allowed) (s .bits .now) (s .word .now)) (sym same)
+    c4 .search-sound .ensures ∙ ap (λ (d : Code). runnerUpOutcomeBy (d .m) ks (s .readings .now) (s .allowed) (s .bits .now) (s .word .now)) (sym same)
     ∙ over-answered ks (s .code) (s .allowed) (s .readings .now) (s .bits .now) (s .word .now) (told .0 .0) is
 
 pub search-left-spec : {M : Type 1} → statement M

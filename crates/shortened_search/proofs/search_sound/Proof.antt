@@ -6,7 +6,7 @@ use native.Mathlib.Omega.{arith}
 use lib.IntN.{ℤ}
 use Rattle.words.specs.KindLaws.{length-kinds}
 use Rattle.code.specs.SoundLaws.{length-most}
-use Rattle.search.specs.RunnerUp.{wholeBy}
+use Rattle.search.specs.RunnerUp.{runnerUpOutcomeBy}
 use Rattle.shortened.specs.Outcome.{leftOf}
 use Rattle.shortened.specs.WorkLaws.{long-left, zeros-lent}
 use Rattle.search.specs.WorkLaws.{front-is}
@@ -83,7 +83,7 @@ returns c =
     let copied = c10 .copy-readings in
     let m = s .code .m in
     c4 .search-kinds .ensures
-    ∙ ap₂ (λ (ks : List ℕ) (x : List ℤ). wholeBy m ks x (s .allowed) (s .bits .now) (s .word .now))
+    ∙ ap₂ (λ (ks : List ℕ) (x : List ℤ). runnerUpOutcomeBy m ks x (s .allowed) (s .bits .now) (s .word .now))
     (front-is (put .last .1 .1 .0) _ (leftOf (s .named .now) (s .code)) (2 ^ m) (put .ensures) (long-left (s .named .now) (s .code)))
     (front-is (copied .last .1 .0) _ (s .readings .now) (2 ^ m) (copied .ensures) (start .pre .1 .entries .long))
 

@@ -4,7 +4,7 @@ use Rattle.code.specs.declared.Admitted.the-variants.{Allowed}
 use Rattle.named.specs.Named.{rowAdmitted}
 use Rattle.named.specs.NamedLaws.{allowed-row}
 use Rattle.search.specs.declared.WithRunnerUp.{WithRunnerUp}
-use Rattle.search.specs.RunnerUp.{toldWhole}
+use Rattle.search.specs.RunnerUp.{runnerUpOutcomeOf}
 use Rattle.shortened_search.specs.OutcomeLaws.{searching-refused, searching-left}
 use borrow.Author.Needs.{needs}
 use Rattle.shortened_search.proofs.search_within_shortened.Statement.{statement}
@@ -40,7 +40,7 @@ returns c =
     let c8 = c4 .before .before .before .before in
     let s = c8 .args in
     let why = c .before .before .why .given in
-    ap (λ (a : WithRunnerUp). toldWhole a (s .bits .now) (s .word .now)) (c .refused .ensures)
+    ap (λ (a : WithRunnerUp). runnerUpOutcomeOf a (s .bits .now) (s .word .now)) (c .refused .ensures)
     ∙ searching-refused (s .r) (s .m) (s .allowed) (s .named .now) (s .readings .now) (s .bits .now) (s .word .now) (why .0 .0) (sym
     (why .1) ∙ c4 .admit-row .ensures)
 

@@ -1,7 +1,7 @@
 -- `read_within`: what the search found is judged, what it refused is passed on.
 use mathlib.Core.Path.{ap, sym, _∙_}
 use borrow.Author.Needs.{needs}
-use Rattle.search.specs.RunnerUp.{WholeOutcome}
+use Rattle.search.specs.RunnerUp.{RunnerUpOutcome}
 use Rattle.telegram.specs.OutcomeLaws.{reading-refused, judged-bits, judged-reading}
 use Rattle.telegram.proofs.read_within.Statement.{statement}
 use Rattle.telegram.proofs.read_within.Tie as tie
@@ -29,7 +29,7 @@ judge-requires c κs =
     let s = c .before .before .before .before .before .before .before .before .before .args in
     let found = c .before .before .result2 .given in
     judged-bits (s .allowed) (s .readings .now) (found .0 .0) (found .0 .1 .0) (found .0 .1 .1 .0) _ _
-    (rw (found .1) at (ap (λ (o : WholeOutcome). o .outcome) (c .before .before .before .before .before .before .search-within .ensures)))
+    (rw (found .1) at (ap (λ (o : RunnerUpOutcome). o .outcome) (c .before .before .before .before .before .before .search-within .ensures)))
 
 returns : tie.Need-returns
 returns c =
@@ -37,7 +37,7 @@ returns c =
     let why = c .before .result .given in
     sym
     (reading-refused (s .allowed) (s .readings .now) (why .0 .0) _ _
-    (sym (rw (why .1) at (ap (λ (o : WholeOutcome). o .outcome) (c .before .before .before .before .before .search-within .ensures)))))
+    (sym (rw (why .1) at (ap (λ (o : RunnerUpOutcome). o .outcome) (c .before .before .before .before .before .search-within .ensures)))))
 
 returns-2 : tie.Need-returns-2
 returns-2 c =
@@ -45,7 +45,7 @@ returns-2 c =
     let found = c .before .before .before .result2 .given in
     c .judge .ensures
     ∙ judged-reading (s .allowed) (s .readings .now) (found .0 .0) (found .0 .1 .0) (found .0 .1 .1 .0) _ _
-    (rw (found .1) at (ap (λ (o : WholeOutcome). o .outcome) (c .before .before .before .before .before .before .before .search-within .ensures)))
+    (rw (found .1) at (ap (λ (o : RunnerUpOutcome). o .outcome) (c .before .before .before .before .before .before .before .search-within .ensures)))
 
 pub read-within-spec : {M : Type 1} → statement M
 read-within-spec =

@@ -115,9 +115,9 @@ frozen-step-full-requires : (t : ℕ)
     → frozen-step-lts.Need-full-requires (frozen-step-calls t) (frozen-step-at t) frozen-step.Post frozen-step-Inv-loop frozen-step-μ-loop
 frozen-step-full-requires t c κs = c .before .loop .inv .asked .ready .room
 
--- a turn of the loop, where the path is not full; the value made in it; what a 0 adds
-abbrev Turn : ℕ → Type 0
-Turn t = frozen-step-lts.Then1 (frozen-step-calls t) (frozen-step-at t) frozen-step.Post frozen-step-Inv-loop frozen-step-μ-loop
+-- a pass of the loop, where the path is not full; the value made in it; what a 0 adds
+abbrev Pass : ℕ → Type 0
+Pass t = frozen-step-lts.Then1 (frozen-step-calls t) (frozen-step-at t) frozen-step.Post frozen-step-Inv-loop frozen-step-μ-loop
 
 abbrev Valued : ℕ → Type 0
 Valued t = frozen-step-lts.After-value-at (frozen-step-calls t) (frozen-step-at t) frozen-step.Post frozen-step-Inv-loop frozen-step-μ-loop
@@ -125,30 +125,30 @@ Valued t = frozen-step-lts.After-value-at (frozen-step-calls t) (frozen-step-at 
 abbrev Added : ℕ → Type 0
 Added t = frozen-step-lts.After-loss (frozen-step-calls t) (frozen-step-at t) frozen-step.Post frozen-step-Inv-loop frozen-step-μ-loop
 
-inside : (t : ℕ) (c : Turn t) → let o = c .before .before .before .loop in o .i < 2 ^ getD (o .state) 6 0
+inside : (t : ℕ) (c : Pass t) → let o = c .before .before .before .loop in o .i < 2 ^ getD (o .state) 6 0
 inside t c = not-full (c .before .before .before .loop .inv .asked) (sym (c .before .full .ensures) ∙ not-true _ (c .if1 .taken))
 
-short-turn : (t : ℕ) (c : Turn t) → c .before .before .before .loop .i < 256
-short-turn t c = within (c .before .before .before .loop .inv .asked) (inside t c)
+short-pass : (t : ℕ) (c : Pass t) → c .before .before .before .loop .i < 256
+short-pass t c = within (c .before .before .before .loop .inv .asked) (inside t c)
 
 frozen-step-element-copy-out-if2 : (t : ℕ)
     → frozen-step-lts.Need-element-copy-out-if2 (frozen-step-calls t) (frozen-step-at t) frozen-step.Post frozen-step-Inv-loop frozen-step-μ-loop
-frozen-step-element-copy-out-if2 t c = short-turn t c
+frozen-step-element-copy-out-if2 t c = short-pass t c
 
 frozen-step-info-step-requires : (t : ℕ)
     → frozen-step-lts.Need-info-step-requires (frozen-step-calls t) (frozen-step-at t) frozen-step.Post frozen-step-Inv-loop frozen-step-μ-loop
 frozen-step-info-step-requires t c κs =
-    let turn = c .before .before .before .before .before .before .before .before in
-    let start = turn .before .before .before .before in
-    let r = turn .before .before .before .loop .inv in
+    let pass = c .before .before .before .before .before .before .before .before in
+    let start = pass .before .before .before .before in
+    let r = pass .before .before .before .loop .inv in
     let same = ap (λ (n : ℕ). 2 ^ n) (r .onward .same-m) in
-    (omega (arith, start .pre .0, r .onward .on, same, inside t turn), (r .asked, inside t turn, c .before .before .before .before .before .before .if2 .taken))
+    (omega (arith, start .pre .0, r .onward .on, same, inside t pass), (r .asked, inside t pass, c .before .before .before .before .before .before .if2 .taken))
 
 frozen-step-returns : (t : ℕ)
     → frozen-step-lts.Need-returns (frozen-step-calls t) (frozen-step-at t) frozen-step.Post frozen-step-Inv-loop frozen-step-μ-loop
 frozen-step-returns t c =
-    let turn = c .before .before .before .before .before .before .before .before .before in
-    reached-given (turn .before .before .before .loop .inv) (c .info-step .ensures)
+    let pass = c .before .before .before .before .before .before .before .before .before in
+    reached-given (pass .before .before .before .loop .inv) (c .info-step .ensures)
 
 frozen-step-visit-requires : (t : ℕ)
     → frozen-step-lts.Need-visit-requires (frozen-step-calls t) (frozen-step-at t) frozen-step.Post frozen-step-Inv-loop frozen-step-μ-loop
@@ -157,59 +157,59 @@ frozen-step-visit-requires t c κs = c .before .before .before .before .before .
 frozen-step-returns-2 : (t : ℕ)
     → frozen-step-lts.Need-returns-2 (frozen-step-calls t) (frozen-step-at t) frozen-step.Post frozen-step-Inv-loop frozen-step-μ-loop
 frozen-step-returns-2 t c =
-    let turn = c .before .before .before .before .before in
-    let r = turn .before .before .before .loop .inv in
-    reached-given r (frozen-stop (r .asked) (inside t turn) (c .before .before .before .if2 .left) (may-not (c .if3 .taken) (c .before .visit .ensures)))
+    let pass = c .before .before .before .before .before in
+    let r = pass .before .before .before .loop .inv in
+    reached-given r (frozen-stop (r .asked) (inside t pass) (c .before .before .before .if2 .left) (may-not (c .if3 .taken) (c .before .visit .ensures)))
 
 frozen-step-value-at-requires : (t : ℕ)
     → frozen-step-lts.Need-value-at-requires (frozen-step-calls t) (frozen-step-at t) frozen-step.Post frozen-step-Inv-loop frozen-step-μ-loop
 frozen-step-value-at-requires t c κs =
-    let turn = c .before .before .before .before .before .before .before .before .before in
+    let pass = c .before .before .before .before .before .before .before .before .before in
     let allowed = c .before .before .before .before in
-    value-asked (turn .before .before .before .loop .inv .asked) (inside t turn) (may-visit (allowed .if3 .left) (allowed .before .visit .ensures))
+    value-asked (pass .before .before .before .loop .inv .asked) (inside t pass) (may-visit (allowed .if3 .left) (allowed .before .visit .ensures))
 
 -- the value at the index that the loop has come to
-abbrev frozen-at : (t : ℕ) → Turn t → ℤ
+abbrev frozen-at : (t : ℕ) → Pass t → ℤ
 frozen-at t c =
     let o = c .before .before .before .loop in
     value (getD (o .state) 6 0) (front (o .state) (c .before .before .before .before .args .readings .now)) (take (o .i) (o .path))
 
-frozen-value : (t : ℕ) (c : Valued t) → let turn = c .before .before .before .before .before .before .before .before .before .before in
-    toZ w32 (ofZ w32 (c .value-at .result)) ≡ frozen-at t turn
+frozen-value : (t : ℕ) (c : Valued t) → let pass = c .before .before .before .before .before .before .before .before .before .before in
+    toZ w32 (ofZ w32 (c .value-at .result)) ≡ frozen-at t pass
 frozen-value t c =
-    let turn = c .before .before .before .before .before .before .before .before .before .before in
+    let pass = c .before .before .before .before .before .before .before .before .before .before in
     let allowed = c .before .before .before .before .before in
     toZ-ofZ (record { sfits = c .value-at .ok })
-    ∙ value-is (turn .before .before .before .loop .inv .asked) (inside t turn) (may-visit (allowed .if3 .left) (allowed .before .visit .ensures))
+    ∙ value-is (pass .before .before .before .loop .inv .asked) (inside t pass) (may-visit (allowed .if3 .left) (allowed .before .visit .ensures))
     (c .value-at .ensures)
 
-frozen-going : (t : ℕ) (c : Valued t) → let turn = c .before .before .before .before .before .before .before .before .before .before in
-    let o = turn .before .before .before .loop in
-    Going (front (o .state) (turn .before .before .before .before .args .readings .now)) (o .path) (o .i) (seen (o .state)) (seen (o .state))
+frozen-going : (t : ℕ) (c : Valued t) → let pass = c .before .before .before .before .before .before .before .before .before .before in
+    let o = pass .before .before .before .loop in
+    Going (front (o .state) (pass .before .before .before .before .args .readings .now)) (o .path) (o .i) (seen (o .state)) (seen (o .state))
     (c .value-at .last .1 .1 .1 .1 .0) (c .value-at .last .1 .0) (o .path) (o .best) (o .second)
 frozen-going t c =
-    let turn = c .before .before .before .before .before .before .before .before .before .before in
+    let pass = c .before .before .before .before .before .before .before .before .before .before in
     let allowed = c .before .before .before .before .before in
-    value-going (turn .before .before .before .loop .inv .asked) (inside t turn) (may-visit (allowed .if3 .left) (allowed .before .visit .ensures))
+    value-going (pass .before .before .before .loop .inv .asked) (inside t pass) (may-visit (allowed .if3 .left) (allowed .before .visit .ensures))
     (c .value-at .ensures)
 
-frozen-adds : (t : ℕ) (c : Added t) → let turn = c .before .before .before .before .before .before .before .before .before .before .before in
-    turn .before .before .before .loop .sum + c .loss .result ≡ turn .before .before .before .loop .sum + loss (frozen-at t turn) 0
+frozen-adds : (t : ℕ) (c : Added t) → let pass = c .before .before .before .before .before .before .before .before .before .before .before in
+    pass .before .before .before .loop .sum + c .loss .result ≡ pass .before .before .before .loop .sum + loss (frozen-at t pass) 0
 frozen-adds t c =
-    let turn = c .before .before .before .before .before .before .before .before .before .before .before in
-    ap (λ (n : ℕ). turn .before .before .before .loop .sum + n) (c .loss .ensures ∙ ap (λ (v : ℤ). loss v 0) (frozen-value t (c .before)))
+    let pass = c .before .before .before .before .before .before .before .before .before .before .before in
+    ap (λ (n : ℕ). pass .before .before .before .loop .sum + n) (c .loss .ensures ∙ ap (λ (v : ℤ). loss v 0) (frozen-value t (c .before)))
 
 frozen-step-loss-requires : (t : ℕ)
     → frozen-step-lts.Need-loss-requires (frozen-step-calls t) (frozen-step-at t) frozen-step.Post frozen-step-Inv-loop frozen-step-μ-loop
 frozen-step-loss-requires t c κs =
-    let turn = c .before .before .before .before .before .before .before .before .before .before in
-    rw (frozen-value t c) (value-small (turn .before .before .before .loop .inv .asked .ready))
+    let pass = c .before .before .before .before .before .before .before .before .before .before in
+    rw (frozen-value t c) (value-small (pass .before .before .before .loop .inv .asked .ready))
 
 frozen-step-add-sum : (t : ℕ)
     → frozen-step-lts.Need-add-sum (frozen-step-calls t) (frozen-step-at t) frozen-step.Post frozen-step-Inv-loop frozen-step-μ-loop
 frozen-step-add-sum t c =
-    let turn = c .before .before .before .before .before .before .before .before .before .before .before in
-    record { fits = omega (arith, frozen-adds t c, sum-small (turn .before .before .before .loop .inv .asked .ready) 0 (inside t turn) (omega arith)) }
+    let pass = c .before .before .before .before .before .before .before .before .before .before .before in
+    record { fits = omega (arith, frozen-adds t c, sum-small (pass .before .before .before .loop .inv .asked .ready) 0 (inside t pass) (omega arith)) }
 
 frozen-step-dropped-requires : (t : ℕ)
     → frozen-step-lts.Need-dropped-requires (frozen-step-calls t) (frozen-step-at t) frozen-step.Post frozen-step-Inv-loop frozen-step-μ-loop
@@ -220,38 +220,38 @@ frozen-step-returns-3 : (t : ℕ)
 frozen-step-returns-3 t c =
     let added = c .before .before .before in
     let valued = added .before in
-    let turn = valued .before .before .before .before .before .before .before .before .before .before in
+    let pass = valued .before .before .before .before .before .before .before .before .before .before in
     let frozen = valued .before .before .before .before .before .before .before .before in
-    frozen-dropped (turn .before .before .before .loop .inv) (inside t turn) (frozen .if2 .left) (frozen-going t valued) (frozen-adds t added)
+    frozen-dropped (pass .before .before .before .loop .inv) (inside t pass) (frozen .if2 .left) (frozen-going t valued) (frozen-adds t added)
     (sym (c .before .dropped .ensures) ∙ c .if4 .taken)
 
 frozen-step-put-requires : (t : ℕ)
     → frozen-step-lts.Need-put-requires (frozen-step-calls t) (frozen-step-at t) frozen-step.Post frozen-step-Inv-loop frozen-step-μ-loop
 frozen-step-put-requires t c κs =
     let valued = c .before .before .before .before .before in
-    short-turn t (valued .before .before .before .before .before .before .before .before .before .before)
+    short-pass t (valued .before .before .before .before .before .before .before .before .before .before)
 
 frozen-step-add-i : (t : ℕ)
     → frozen-step-lts.Need-add-i (frozen-step-calls t) (frozen-step-at t) frozen-step.Post frozen-step-Inv-loop frozen-step-μ-loop
 frozen-step-add-i t c =
     let valued = c .before .before .before .before .before .before in
-    record { fits = omega (arith, short-turn t (valued .before .before .before .before .before .before .before .before .before .before)) }
+    record { fits = omega (arith, short-pass t (valued .before .before .before .before .before .before .before .before .before .before)) }
 
 frozen-step-loop-less : (t : ℕ)
     → frozen-step-lts.Need-loop-less (frozen-step-calls t) (frozen-step-at t) frozen-step.Post frozen-step-Inv-loop frozen-step-μ-loop
 frozen-step-loop-less t c =
     let valued = c .before .before .before .before .before .before in
-    let turn = valued .before .before .before .before .before .before .before .before .before .before in
-    omega (arith, inside t turn, ap (λ (n : ℕ). 2 ^ n) (turn .before .before .before .loop .inv .onward .same-m))
+    let pass = valued .before .before .before .before .before .before .before .before .before .before in
+    omega (arith, inside t pass, ap (λ (n : ℕ). 2 ^ n) (pass .before .before .before .loop .inv .onward .same-m))
 
 frozen-step-loop-again : (t : ℕ)
     → frozen-step-lts.Need-loop-again (frozen-step-calls t) (frozen-step-at t) frozen-step.Post frozen-step-Inv-loop frozen-step-μ-loop
 frozen-step-loop-again t c =
     let added = c .before .before .before .before .before in
     let valued = added .before in
-    let turn = valued .before .before .before .before .before .before .before .before .before .before in
+    let pass = valued .before .before .before .before .before .before .before .before .before .before in
     let frozen = valued .before .before .before .before .before .before .before .before in
-    reached-more (turn .before .before .before .loop .inv) (inside t turn) (frozen .if2 .left) (frozen-going t valued) (frozen-adds t added)
+    reached-more (pass .before .before .before .loop .inv) (inside t pass) (frozen .if2 .left) (frozen-going t valued) (frozen-adds t added)
     (sym (c .before .before .before .dropped .ensures) ∙ c .before .before .if4 .left) (c .put .ensures)
 
 frozen-step-finish-requires : (t : ℕ)

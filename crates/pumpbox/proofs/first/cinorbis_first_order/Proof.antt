@@ -1,6 +1,6 @@
 -- `cinorbis_first_order` tells the outcome of `first_order`.
 use borrow.Author.Needs.{needs}
-use Rattle.answers.specs.ToldLaws.{told-searched}
+use Rattle.answers.specs.ReportedLaws.{reported-searched}
 use Rattle.pumpbox.proofs.first.cinorbis_first_order.Statement.{statement}
 use Rattle.pumpbox.proofs.first.cinorbis_first_order.Tie as tie
 
@@ -20,7 +20,7 @@ returns : tie.Need-returns
 returns c =
     let e = c .before .before .before .before .before .before .first-order in
     let p = c .put-searched in
-    told-searched (e .result) _ _ _ (p .result) (p .last .1 .0) (e .ensures) (p .ensures .0) (p .ensures .1)
+    reported-searched (e .result) _ _ _ (p .result) (p .last .1 .0) (e .ensures) (p .ensures .0) (p .ensures .1)
 
 pub cinorbis-first-order-spec : {M : Type 1} → statement M
 cinorbis-first-order-spec =

@@ -1,14 +1,14 @@
 -- `cinorbis_search_float` tells the outcome of `search_float`.
 use borrow.Author.Needs.{needs}
-use Rattle.answers.specs.ToldLaws.{told-whole}
+use Rattle.answers.specs.ReportedLaws.{reported-runner-up}
 use Rattle.pumpbox.proofs.floats.cinorbis_search_float.Statement.{statement}
 use Rattle.pumpbox.proofs.floats.cinorbis_search_float.Tie as tie
 
 search-float-requires : tie.Need-search-float-requires
 search-float-requires c κs = search needs
 
-put-whole-requires : tie.Need-put-whole-requires
-put-whole-requires c κs = search needs
+put-with-runner-up-requires : tie.Need-put-with-runner-up-requires
+put-with-runner-up-requires c κs = search needs
 
 same-length : tie.Need-same-length
 same-length c = search needs
@@ -19,10 +19,10 @@ same-length-2 c = search needs
 returns : tie.Need-returns
 returns c =
     let e = c .before .before .before .before .before .before .before .search-float in
-    let p = c .put-whole in
-    told-whole (e .result) _ _ _ _ (p .result) (p .last .1 .1 .0) (e .ensures) (p .ensures .0) (p .ensures .1) (p .ensures .2)
+    let p = c .put-with-runner-up in
+    reported-runner-up (e .result) _ _ _ _ (p .result) (p .last .1 .1 .0) (e .ensures) (p .ensures .0) (p .ensures .1) (p .ensures .2)
 
 pub cinorbis-search-float-spec : {M : Type 1} → statement M
 cinorbis-search-float-spec =
     tie.close
-    (tie.spec search-float-requires put-whole-requires same-length same-length-2 returns)
+    (tie.spec search-float-requires put-with-runner-up-requires same-length same-length-2 returns)

@@ -2,7 +2,7 @@
 use mathlib.Core.Path.{ap, _∙_}
 use Rattle.index.specs.declared.Index.{Index}
 use Rattle.index.specs.Appending.{appending}
-use Rattle.answers.specs.IndexedLaws.{told-appended}
+use Rattle.answers.specs.IndexedLaws.{reported-appended}
 use borrow.Author.Needs.{needs}
 use Rattle.pumpbox.proofs.indexing.cinorbis_index_append.Statement.{statement}
 use Rattle.pumpbox.proofs.indexing.cinorbis_index_append.Tie as tie
@@ -28,7 +28,7 @@ returns c =
     let e = c .before .before .before .before .before .before .before .append in
     let p = c .put-appended in
     let index = c .before .before .before .before .before .before .before .before .before .before .taken .ensures in
-    told-appended (g .index .now) (e .result) (e .last .1 .1 .1 .1 .0) (e .last .1 .1 .1 .1 .1 .0) _ (p .result) (p .last .1 .1 .0) (p .last .1 .0)
+    reported-appended (g .index .now) (e .result) (e .last .1 .1 .1 .1 .0) (e .last .1 .1 .1 .1 .1 .0) _ (p .result) (p .last .1 .1 .0) (p .last .1 .0)
     (e .ensures ∙ ap (λ (i : Index). appending i (g .r) (g .m) (g .readings .now) (g .capture .now) (g .table .now)) index)
     (p .ensures .0) (p .ensures .2) (p .ensures .1)
 

@@ -1,6 +1,6 @@
 -- `cinorbis_index_find` tells the header, the place of the packed part and its length.
 use Rattle.index.specs.Finding.{headerIn, partIn, partStart}
-use Rattle.answers.specs.IndexedLaws.{told-entry}
+use Rattle.answers.specs.IndexedLaws.{reported-entry}
 use borrow.Author.Needs.{needs}
 use Rattle.pumpbox.proofs.indexing.cinorbis_index_find.Statement.{statement}
 use Rattle.pumpbox.proofs.indexing.cinorbis_index_find.Tie as tie
@@ -26,7 +26,7 @@ returns c =
     let g = c .before .before .before .before .before .before .before .args in
     let s = g .capture .now in
     let t = g .table .now in
-    told-entry (head .result) (headerIn s t (g .w)) (start .result) (partStart s t (g .w)) (part .result .now) (partIn s t (g .w)) (p .last .1 .1 .1 .0)
+    reported-entry (head .result) (headerIn s t (g .w)) (start .result) (partStart s t (g .w)) (part .result .now) (partIn s t (g .w)) (p .last .1 .1 .1 .0)
     (p .result) (head .ensures) (start .ensures) (part .ensures) (p .ensures .0) (p .ensures .1)
 
 pub cinorbis-index-find-spec : {M : Type 1} → statement M

@@ -1,5 +1,5 @@
 -- `cinorbis_index_make` tells the outcome of `make`.
-use Rattle.answers.specs.IndexedLaws.{told-made}
+use Rattle.answers.specs.IndexedLaws.{reported-made}
 use borrow.Author.Needs.{needs}
 use Rattle.pumpbox.proofs.indexing.cinorbis_index_make.Statement.{statement}
 use Rattle.pumpbox.proofs.indexing.cinorbis_index_make.Tie as tie
@@ -17,7 +17,7 @@ returns : tie.Need-returns
 returns c =
     let e = c .before .before .before .before .make in
     let p = c .put-made in
-    told-made (e .result) _ _ (p .result) (p .last .1 .0) (e .ensures) (p .ensures .0) (p .ensures .1)
+    reported-made (e .result) _ _ (p .result) (p .last .1 .0) (e .ensures) (p .ensures .0) (p .ensures .1)
 
 pub cinorbis-index-make-spec : {M : Type 1} → statement M
 cinorbis-index-make-spec = tie.close (tie.spec make-requires put-made-requires same-length returns)

@@ -1,5 +1,5 @@
 -- `cinorbis_reorder` tells the outcome of `reorder`.
-use Rattle.answers.specs.Reordered.{told-reordered}
+use Rattle.answers.specs.Reordered.{reported-reordered}
 use borrow.Author.Needs.{needs}
 use Rattle.pumpbox.proofs.reordering.cinorbis_reorder.Statement.{statement}
 use Rattle.pumpbox.proofs.reordering.cinorbis_reorder.Tie as tie
@@ -7,8 +7,8 @@ use Rattle.pumpbox.proofs.reordering.cinorbis_reorder.Tie as tie
 reorder-requires : tie.Need-reorder-requires
 reorder-requires c κs = search needs
 
-put-reordered-requires : tie.Need-put-reordered-requires
-put-reordered-requires c κs = search needs
+put-completed-requires : tie.Need-put-completed-requires
+put-completed-requires c κs = search needs
 
 same-length : tie.Need-same-length
 same-length c = search needs
@@ -16,9 +16,9 @@ same-length c = search needs
 returns : tie.Need-returns
 returns c =
     let e = c .before .before .before .reorder in
-    let p = c .put-reordered in
-    told-reordered (e .result) _ _ (p .result) (p .last .1 .0) (e .ensures) (p .ensures .0) (p .ensures .1)
+    let p = c .put-completed in
+    reported-reordered (e .result) _ _ (p .result) (p .last .1 .0) (e .ensures) (p .ensures .0) (p .ensures .1)
 
 pub cinorbis-reorder-spec : {M : Type 1} → statement M
 cinorbis-reorder-spec =
-    tie.close (tie.spec reorder-requires put-reordered-requires same-length returns)
+    tie.close (tie.spec reorder-requires put-completed-requires same-length returns)

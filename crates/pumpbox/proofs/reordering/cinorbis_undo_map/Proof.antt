@@ -1,5 +1,5 @@
 -- `cinorbis_undo_map` tells the outcome of `undo_map`.
-use Rattle.answers.specs.Reordered.{told-reordered}
+use Rattle.answers.specs.Reordered.{reported-reordered}
 use borrow.Author.Needs.{needs}
 use Rattle.pumpbox.proofs.reordering.cinorbis_undo_map.Statement.{statement}
 use Rattle.pumpbox.proofs.reordering.cinorbis_undo_map.Tie as tie
@@ -7,8 +7,8 @@ use Rattle.pumpbox.proofs.reordering.cinorbis_undo_map.Tie as tie
 undo-map-requires : tie.Need-undo-map-requires
 undo-map-requires c κs = search needs
 
-put-reordered-requires : tie.Need-put-reordered-requires
-put-reordered-requires c κs = search needs
+put-completed-requires : tie.Need-put-completed-requires
+put-completed-requires c κs = search needs
 
 same-length : tie.Need-same-length
 same-length c = search needs
@@ -19,9 +19,9 @@ same-length-2 c = search needs
 returns : tie.Need-returns
 returns c =
     let e = c .before .before .before .before .before .before .undo-map in
-    let p = c .put-reordered in
-    told-reordered (e .result) _ _ (p .result) (p .last .1 .0) (e .ensures) (p .ensures .0) (p .ensures .1)
+    let p = c .put-completed in
+    reported-reordered (e .result) _ _ (p .result) (p .last .1 .0) (e .ensures) (p .ensures .0) (p .ensures .1)
 
 pub cinorbis-undo-map-spec : {M : Type 1} → statement M
 cinorbis-undo-map-spec =
-    tie.close (tie.spec undo-map-requires put-reordered-requires same-length same-length-2 returns)
+    tie.close (tie.spec undo-map-requires put-completed-requires same-length same-length-2 returns)

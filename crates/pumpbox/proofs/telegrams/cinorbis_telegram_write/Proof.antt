@@ -1,5 +1,5 @@
 -- `cinorbis_telegram_write` tells the outcome of `write`.
-use Rattle.answers.specs.TelegramsLaws.{told-written}
+use Rattle.answers.specs.TelegramsLaws.{reported-written}
 use borrow.Author.Needs.{needs}
 use Rattle.pumpbox.proofs.telegrams.cinorbis_telegram_write.Statement.{statement}
 use Rattle.pumpbox.proofs.telegrams.cinorbis_telegram_write.Tie as tie
@@ -17,7 +17,7 @@ returns : tie.Need-returns
 returns c =
     let e = c .before .before .before .before .write in
     let p = c .put-written in
-    told-written (e .result) _ _ (p .result) (p .last .1 .0) (e .ensures) (p .ensures .0) (p .ensures .1)
+    reported-written (e .result) _ _ (p .result) (p .last .1 .0) (e .ensures) (p .ensures .0) (p .ensures .1)
 
 pub cinorbis-telegram-write-spec : {M : Type 1} → statement M
 cinorbis-telegram-write-spec =

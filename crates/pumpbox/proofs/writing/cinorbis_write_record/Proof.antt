@@ -1,5 +1,5 @@
 -- `cinorbis_write_record` tells the outcome of `write`.
-use Rattle.answers.specs.WrittenLaws.{told-wrote}
+use Rattle.answers.specs.WrittenLaws.{reported-wrote}
 use borrow.Author.Needs.{needs}
 use Rattle.pumpbox.proofs.writing.cinorbis_write_record.Statement.{statement}
 use Rattle.pumpbox.proofs.writing.cinorbis_write_record.Tie as tie
@@ -17,7 +17,7 @@ returns : tie.Need-returns
 returns c =
     let e = c .before .before .before .before .write in
     let p = c .put-wrote in
-    told-wrote (e .result) _ _ (p .result) (p .last .1 .0) (e .ensures) (p .ensures .0) (p .ensures .1)
+    reported-wrote (e .result) _ _ (p .result) (p .last .1 .0) (e .ensures) (p .ensures .0) (p .ensures .1)
 
 pub cinorbis-write-record-spec : {M : Type 1} → statement M
 cinorbis-write-record-spec =

@@ -1,0 +1,3 @@
+-- The program's state between two rounds, and its laws
+pub mod Situation
+pub mod SituationLaws

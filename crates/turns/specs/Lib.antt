@@ -1,3 +1,0 @@
--- Where the program stands between two turns, and its laws
-pub mod Situation
-pub mod SituationLaws
