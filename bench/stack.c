@@ -15,9 +15,10 @@ static uint8_t bits[256], word[256], runner_up[256], record[CINORBIS_LARGEST_REC
 static cinorbis_telegram shown;
 static cinorbis_written written;
 static cinorbis_index made;
+static cinorbis_front front;
 static cinorbis_entry entry;
 static cinorbis_size entries[1];
-static uint8_t table[64], row[8], named[256];
+static uint8_t table[64], row[8], named[256], no_bits[16];
 static int16_t moved[256];
 static cinorbis_numbers numbers;
 static volatile uint32_t refusal;
@@ -101,6 +102,11 @@ static void *index_make(void *a) {
     return a;
 }
 
+static void *index_front(void *a) {
+    refusal = cinorbis_index_front(record, sizeof record, entries, 1, &front);
+    return a;
+}
+
 static void *index_find(void *a) {
     refusal = cinorbis_index_find(0, record, sizeof record, entries, 1, &entry);
     return a;
@@ -114,6 +120,11 @@ static void *index_append(void *a) {
 
 static void *write_telegram(void *a) {
     refusal = cinorbis_telegram_write(5, 1, 1234, word, 32, &numbers);
+    return a;
+}
+
+static void *telegram_of_bits(void *a) {
+    refusal = cinorbis_telegram_of_bits(no_bits, 16, &shown, &numbers);
     return a;
 }
 
@@ -233,11 +244,13 @@ int main(void) {
     bounded("writing a record", write_record, 0, 500);
     bounded("unpacking", unpack, 0, 500);
     bounded("making an index", index_make, 0, 500);
+    bounded("the front of a capture", index_front, 0, 500);
     bounded("finding a record", index_find, 0, 500);
     bounded("appending a record", index_append, 0, 1000);
     bounded("writing a telegram", write_telegram, 0, 500);
     /* readings of no telegram: the word found has the marker set */
     bounded("reading a telegram", telegram, CINORBIS_MARKER, 7000);
+    bounded("the telegram of bits", telegram_of_bits, 0, 500);
     printf("%d passed, %d failed\n", passed, failed);
     return failed != 0;
 }
