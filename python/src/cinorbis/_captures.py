@@ -333,7 +333,7 @@ class Capture:
             yield self[w]
 
     def answers(
-        self, *, allowed: SupportsIndex = 1_000_000, first: int = 0, at_once: int = 1024
+        self, *, allowed: SupportsIndex = 1_000_000, first: int = 0, at_once: int = 64
     ) -> Iterator[Answer]:
         """Each record searched, in order, from record ``first`` on, refused ones too.
 
