@@ -74,7 +74,12 @@ function told(from, data) {
         writing: () => capture.writing(data),
         text: () => capture.text(data),
     };
-    return handlers[data.kind]();
+    try {
+        return handlers[data.kind]();
+    } catch (fault) {
+        /* a browser that has no room for so many records */
+        return notice('This capture cannot be shown.', String(fault.message || fault));
+    }
 }
 
 function ready(from, { kinds }) {
@@ -162,6 +167,9 @@ function wire() {
     });
     for (const [name, text] of Object.values(TERMS)) {
         byId('terms').append(make('dt', {}, name), make('dd', {}, text));
+    }
+    for (const head of document.querySelectorAll('[data-term]')) {
+        head.title = TERMS[head.dataset.term].join('. ');
     }
     for (const [number, { short, means, do: advice }] of Object.entries(REFUSALS)) {
         byId('refusals').append(make('dt', {}, capital(short), make('span', { class: 'soft' },

@@ -4,7 +4,7 @@ import { REFUSAL, TELEGRAM_BYTE } from './library.mjs';
 import { NO_TELEGRAM, sureness } from './sure.mjs';
 import { degrees, programLine, programTotal, side } from './words.mjs';
 
-/* the most records that a page keeps these for: 380 MB */
+/* the most records that a page keeps these for: 420 MB */
 export const MOST_RECORDS = 20000000;
 
 /* Of each record: its first byte; its refusal; penalty, gap and visits of its search; how sure it

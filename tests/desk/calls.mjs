@@ -174,6 +174,17 @@ fact('none after the last', nextTrouble(state, sea.records - 1, 1, 200), -1);
 const torn = { ...state, ended: 8, rows: sea.records + 1, show: 'refused', order: false };
 fact('what is torn off is refused', Array.from(listed(torn, 200)), [...refused, sea.records]);
 
+/* ---- the stack of the module, which lies from 0 on: painted, it is used to a quarter at the most */
+
+const STACK = 262144;
+let deepest = 0;
+for (const [r, m] of [[8, 8], [4, 8], [1, 8], [2, 5]]) {
+    library.bytes.fill(0xa5, 0, STACK);
+    library.answer(r, m, Array.from({ length: 2 ** m }, (_, j) => ((j * 7919) % 4001) - 2000));
+    deepest = Math.max(deepest, STACK - library.bytes.findIndex((x) => x !== 0xa5));
+}
+fact('the stack', deepest > 1000 && deepest < STACK / 4);
+
 /* ---- what is drawn, typed and written */
 
 fact('a bar for 0 goes up', bar(5, 10, 100, 80), { y: 60, height: 40 });
