@@ -1,6 +1,7 @@
-/* Times the library beside plain C (plain.h) and C written for vector code (vector.c) in one run: each figure is the least of several
- * alternating rounds, and what counts is the ratio. All sides must agree in every result, or the bench fails. `bench grow` prints visits
- * and time per word over all codes and three noise levels instead. */
+/* Times the library beside plain C (plain.h) and C written for vector code (vector.c) in one run:
+ * each figure is the least of several alternating rounds, and what counts is the ratio. All sides
+ * must agree in every result, or the bench fails. `bench grow` prints visits and time per word over
+ * all codes and three noise levels instead. */
 #include "draw.h"
 #include "../include/cinorbis.h"
 #include "plain.h"
@@ -23,7 +24,8 @@ static size_t dimension(uint32_t r, uint32_t m) {
     return (size_t)plain_kinds(r, m, kinds);
 }
 
-/* noise < 0: readings of no word at all; else a word's signs of size 400 with normal noise of that many times 400 */
+/* noise < 0: readings of no word at all; else a word's signs of size 400 with normal noise of that
+ * many times 400 */
 static void make(uint32_t r, uint32_t m, double noise) {
     size_t n = (size_t)1 << m, k = dimension(r, m);
     for (int t = 0; t < SETS; t++) {
@@ -31,7 +33,8 @@ static void make(uint32_t r, uint32_t m, double noise) {
         for (size_t i = 0; i < k; i++) information[t][i] = random64() >> 40 & 1;
         plain_encode(r, m, information[t], k, word, n);
         for (size_t j = 0; j < n; j++) {
-            double x = noise < 0 ? (double)(random64() >> 20 & 4095) - 2047.5 : 400 * (word[j] ? -1 : 1) + 400 * noise * normal();
+            double x = noise < 0 ? (double)(random64() >> 20 & 4095) - 2047.5
+                                 : 400 * (word[j] ? -1 : 1) + 400 * noise * normal();
             if (x > 2047) x = 2047;
             if (x < -2047) x = -2047;
             readings[t][j] = (int16_t)lrint(x);
@@ -122,7 +125,8 @@ static double library_search(work w) {
     size_t k = dimension(w.r, w.m), l = (size_t)1 << w.m;
     for (int i = 0; i < w.repeats; i++)
         for (int t = 0; t < SETS; t++) {
-            uint32_t refusal = cinorbis_search_within(w.r, w.m, w.allowed, readings[t], l, bits, k, word, l, runner_up, &n);
+            uint32_t refusal = cinorbis_search_within(w.r, w.m, w.allowed, readings[t], l, bits, k,
+                                                      word, l, runner_up, &n);
             visits += (double)n.visits;
             sum_library += refusal == 0 ? n.penalty * 3 + n.gap + bits[0] : refusal;
         }
@@ -136,9 +140,11 @@ static double c_search(work w) {
     size_t k = dimension(w.r, w.m), l = (size_t)1 << w.m;
     for (int i = 0; i < w.repeats; i++)
         for (int t = 0; t < SETS; t++) {
-            uint32_t refusal = (uint32_t)plain_search(w.r, w.m, w.allowed, readings[t], l, bits, k, word, l, &s);
+            uint32_t refusal =
+                (uint32_t)plain_search(w.r, w.m, w.allowed, readings[t], l, bits, k, word, l, &s);
             visits += s.visits;
-            sum_plain += refusal == 0 ? (uint64_t)s.best * 3 + (s.second - s.best) + bits[0] : refusal;
+            sum_plain +=
+                refusal == 0 ? (uint64_t)s.best * 3 + (s.second - s.best) + bits[0] : refusal;
         }
     return visits;
 }
@@ -150,9 +156,11 @@ static double v_search(work w) {
     size_t k = dimension(w.r, w.m), l = (size_t)1 << w.m;
     for (int i = 0; i < w.repeats; i++)
         for (int t = 0; t < SETS; t++) {
-            uint32_t refusal = (uint32_t)vector_search(w.r, w.m, w.allowed, readings[t], l, bits, k, word, l, &e);
+            uint32_t refusal =
+                (uint32_t)vector_search(w.r, w.m, w.allowed, readings[t], l, bits, k, word, l, &e);
             visits += e.visits;
-            sum_vector += refusal == 0 ? (uint64_t)e.best * 3 + (e.second - e.best) + bits[0] : refusal;
+            sum_vector +=
+                refusal == 0 ? (uint64_t)e.best * 3 + (e.second - e.best) + bits[0] : refusal;
         }
     return visits;
 }
@@ -163,8 +171,10 @@ static double library_first_order(work w) {
     size_t l = (size_t)1 << w.m;
     for (int i = 0; i < w.repeats; i++)
         for (int t = 0; t < SETS; t++) {
-            uint32_t refusal = cinorbis_first_order(1, w.m, readings[t], l, bits, w.m + 1, word, l, &n);
-            sum_library += refusal == 0 ? n.penalty * 3 + n.gap + bits[w.m] + word[t & (l - 1)] : refusal;
+            uint32_t refusal =
+                cinorbis_first_order(1, w.m, readings[t], l, bits, w.m + 1, word, l, &n);
+            sum_library +=
+                refusal == 0 ? n.penalty * 3 + n.gap + bits[w.m] + word[t & (l - 1)] : refusal;
         }
     return (double)w.repeats * SETS;
 }
@@ -175,8 +185,11 @@ static double c_first_order(work w) {
     size_t l = (size_t)1 << w.m;
     for (int i = 0; i < w.repeats; i++)
         for (int t = 0; t < SETS; t++) {
-            uint32_t refusal = (uint32_t)plain_first_order(w.m, readings[t], l, bits, w.m + 1, word, l, &s);
-            sum_plain += refusal == 0 ? (uint64_t)s.best * 3 + (s.second - s.best) + bits[w.m] + word[t & (l - 1)] : refusal;
+            uint32_t refusal =
+                (uint32_t)plain_first_order(w.m, readings[t], l, bits, w.m + 1, word, l, &s);
+            sum_plain += refusal == 0 ? (uint64_t)s.best * 3 + (s.second - s.best) + bits[w.m] +
+                                            word[t & (l - 1)]
+                                      : refusal;
         }
     return (double)w.repeats * SETS;
 }
@@ -187,8 +200,11 @@ static double v_first_order(work w) {
     size_t l = (size_t)1 << w.m;
     for (int i = 0; i < w.repeats; i++)
         for (int t = 0; t < SETS; t++) {
-            uint32_t refusal = (uint32_t)vector_first_order(w.m, readings[t], l, bits, w.m + 1, word, l, &e);
-            sum_vector += refusal == 0 ? (uint64_t)e.best * 3 + (e.second - e.best) + bits[w.m] + word[t & (l - 1)] : refusal;
+            uint32_t refusal =
+                (uint32_t)vector_first_order(w.m, readings[t], l, bits, w.m + 1, word, l, &e);
+            sum_vector += refusal == 0 ? (uint64_t)e.best * 3 + (e.second - e.best) + bits[w.m] +
+                                             word[t & (l - 1)]
+                                       : refusal;
         }
     return (double)w.repeats * SETS;
 }
@@ -206,7 +222,8 @@ typedef struct {
     double (*library)(work), (*plain)(work), (*vector)(work);
 } sides;
 
-static const sides encode_sides = {library_encode, c_encode, v_encode}, quick_sides = {library_quick, c_quick, v_quick},
+static const sides encode_sides = {library_encode, c_encode, v_encode},
+                   quick_sides = {library_quick, c_quick, v_quick},
                    search_sides = {library_search, c_search, v_search},
                    first_order_sides = {library_first_order, c_first_order, v_first_order};
 
@@ -220,12 +237,14 @@ static times measure(const char *name, work w, sides s) {
     double units_plain = 0, units_vector = 0;
     sum_library = sum_plain = sum_vector = 0;
     for (int i = 0; i < ROUNDS; i++) {
-        double a = once(s.library, w, &t.units), b = once(s.plain, w, &units_plain), c = once(s.vector, w, &units_vector);
+        double a = once(s.library, w, &t.units), b = once(s.plain, w, &units_plain),
+               c = once(s.vector, w, &units_vector);
         if (a < t.library) t.library = a;
         if (b < t.plain) t.plain = b;
         if (c < t.vector) t.vector = c;
     }
-    if (sum_library != sum_plain || sum_library != sum_vector || t.units != units_plain || t.units != units_vector) {
+    if (sum_library != sum_plain || sum_library != sum_vector || t.units != units_plain ||
+        t.units != units_vector) {
         printf("%s: the sides disagree\n", name);
         disagreed = 1;
     }
@@ -234,8 +253,8 @@ static times measure(const char *name, work w, sides s) {
 
 static void row(const char *name, times t, double units) {
     int digits = t.library / units < 1000;
-    printf("| %s | %.*f | %.*f | %.2f | %.*f | %.2f |\n", name, digits, t.library / units, digits, t.plain / units, t.library / t.plain,
-           digits, t.vector / units, t.library / t.vector);
+    printf("| %s | %.*f | %.*f | %.2f | %.*f | %.2f |\n", name, digits, t.library / units, digits,
+           t.plain / units, t.library / t.plain, digits, t.vector / units, t.library / t.vector);
 }
 
 static void compare(const char *name, work w, sides s) {
@@ -250,11 +269,13 @@ static int out_of_visits(work w) {
     size_t k = dimension(w.r, w.m), l = (size_t)1 << w.m;
     int out = 0;
     for (int t = 0; t < SETS; t++)
-        out += cinorbis_search_within(w.r, w.m, w.allowed, readings[t], l, bits, k, word, l, runner_up, &n) == CINORBIS_OUT_OF_VISITS;
+        out += cinorbis_search_within(w.r, w.m, w.allowed, readings[t], l, bits, k, word, l,
+                                      runner_up, &n) == CINORBIS_OUT_OF_VISITS;
     return out;
 }
 
-/* readings of no word may need more visits than any allowance, so they are cut short; a word with noise has the default allowance */
+/* readings of no word may need more visits than any allowance, so they are cut short; a word with
+ * noise has the default allowance */
 static void search_figures(uint32_t r, uint32_t m, double noise, const char *kind) {
     char name[120];
     work w = {r, m, noise < 0 ? 20000 : CINORBIS_DEFAULT_ALLOWANCE, 1};
@@ -263,20 +284,24 @@ static void search_figures(uint32_t r, uint32_t m, double noise, const char *kin
     times t = measure(name, w, search_sides);
     row(name, t, t.units);
     if (noise < 0) return;
-    snprintf(name, sizeof name, "search RM(%u,%u), %s, per word: %.0f visits, %d of %d out of visits", (unsigned)r, (unsigned)m, kind, t.units / SETS,
-             out_of_visits(w), SETS);
+    snprintf(name, sizeof name,
+             "search RM(%u,%u), %s, per word: %.0f visits, %d of %d out of visits", (unsigned)r,
+             (unsigned)m, kind, t.units / SETS, out_of_visits(w), SETS);
     row(name, t, SETS);
 }
 
-/* first-order words, beside C and beside the search of the same readings with an allowance that is never too small */
+/* first-order words, beside C and beside the search of the same readings with an allowance that is
+ * never too small */
 static void first_order_figures(void) {
-    char name[] = "first-order words RM(1,8)", search[] = "search RM(1,8), the same readings, per word";
+    char name[] = "first-order words RM(1,8)",
+         search[] = "search RM(1,8), the same readings, per word";
     work w = {1, 8, UINT32_MAX, 200}, s = {1, 8, UINT32_MAX, 1};
     make(1, 8, 0.7);
     times first = measure(name, w, first_order_sides), walk = measure(search, s, search_sides);
     row(name, first, first.units);
     row(search, walk, SETS);
-    printf("| first-order words of the search's time, per word | | | %.3f | | |\n", first.library / first.units / (walk.library / SETS));
+    printf("| first-order words of the search's time, per word | | | %.3f | | |\n",
+           first.library / first.units / (walk.library / SETS));
 }
 
 /* records of RM(2,5): packed once, then searched */
@@ -299,7 +324,9 @@ static void record_figures(void) {
     for (int i = 0; i < ROUNDS; i++) {
         double start = now();
         for (int repeat = 0; repeat < 20; repeat++)
-            for (int t = 0; t < SETS; t++) sum_library += cinorbis_search_record(1000000, bytes[t], 49, bits, 16, word, 32, runner_up, &n);
+            for (int t = 0; t < SETS; t++)
+                sum_library += cinorbis_search_record(1000000, bytes[t], 49, bits, 16, word, 32,
+                                                      runner_up, &n);
         double taken = (now() - start) / (20.0 * SETS);
         if (taken < least) least = taken;
     }
@@ -319,10 +346,12 @@ static void grow(void) {
                 double visits = 0, start = now();
                 int out = 0;
                 for (int t = 0; t < SETS; t++) {
-                    out += cinorbis_search_within(r, m, 200000, readings[t], l, bits, k, word, l, runner_up, &n) == 6;
+                    out += cinorbis_search_within(r, m, 200000, readings[t], l, bits, k, word, l,
+                                                  runner_up, &n) == 6;
                     visits += (double)n.visits;
                 }
-                printf("%u %u %zu %.1f %.1f %.0f %d\n", (unsigned)r, (unsigned)m, k, noise[level], visits / SETS, (now() - start) / SETS, out);
+                printf("%u %u %zu %.1f %.1f %.0f %d\n", (unsigned)r, (unsigned)m, k, noise[level],
+                       visits / SETS, (now() - start) / SETS, out);
             }
 }
 

@@ -1,4 +1,5 @@
-/* What the bench programs share: random numbers, the same in every run, and the processor time that was used. */
+/* What the bench programs share: random numbers, the same in every run, and the processor time that
+ * was used. */
 #ifndef DRAW_H
 #define DRAW_H
 #define _POSIX_C_SOURCE 199309L

@@ -1,6 +1,7 @@
-/* The early answer beside the search, in one process: the share of words that it answers at once, and the time of both per word, for four codes at three
- * noise levels, with readings clipped at the word's size and not clipped. Each time is the least of several alternating rounds; both calls must agree
- * wherever the search answers. */
+/* The early answer beside the search, in one process: the share of words that it answers at once,
+ * and the time of both per word, for four codes at three noise levels, with readings clipped at the
+ * word's size and not clipped. Each time is the least of several alternating rounds; both calls
+ * must agree wherever the search answers. */
 #include "draw.h"
 #include "../include/cinorbis.h"
 #include <math.h>
@@ -40,11 +41,12 @@ static void make(uint32_t r, uint32_t m, double noise, double most) {
     }
 }
 
-typedef uint32_t call(uint32_t, uint32_t, const int16_t *, size_t, uint8_t *, size_t, uint8_t *, size_t, cinorbis_numbers *);
+typedef uint32_t call(uint32_t, uint32_t, const int16_t *, size_t, uint8_t *, size_t, uint8_t *,
+                      size_t, cinorbis_numbers *);
 
 /* the search, whose runner-up nobody looks at */
-static uint32_t search_alone(uint32_t r, uint32_t m, const int16_t *l, size_t n, uint8_t *bits, size_t k, uint8_t *word, size_t w,
-                             cinorbis_numbers *numbers) {
+static uint32_t search_alone(uint32_t r, uint32_t m, const int16_t *l, size_t n, uint8_t *bits,
+                             size_t k, uint8_t *word, size_t w, cinorbis_numbers *numbers) {
     uint8_t runner_up[256];
     return cinorbis_search(r, m, l, n, bits, k, word, w, runner_up, numbers);
 }
@@ -56,7 +58,8 @@ static double round_of(call *f, uint32_t r, uint32_t m) {
     volatile uint64_t sum = 0;
     size_t n = (size_t)1 << m, k = dimension(r, m);
     double start = now();
-    for (int t = 0; t < WORDS; t++) sum += f(r, m, readings[t], n, bits, k, word, n, &numbers) + numbers.penalty;
+    for (int t = 0; t < WORDS; t++)
+        sum += f(r, m, readings[t], n, bits, k, word, n, &numbers) + numbers.penalty;
     return now() - start;
 }
 
@@ -69,10 +72,13 @@ static int at_once(uint32_t r, uint32_t m) {
     for (int t = 0; t < WORDS; t++) {
         uint8_t bits[2][256], word[2][256];
         cinorbis_numbers a, b;
-        count += cinorbis_early_within(r, m, 0, readings[t], n, bits[0], k, word[0], n, &a) == CINORBIS_DONE;
-        if (search_alone(r, m, readings[t], n, bits[0], k, word[0], n, &a) != CINORBIS_DONE) continue;
-        if (cinorbis_early(r, m, readings[t], n, bits[1], k, word[1], n, &b) != CINORBIS_DONE || a.penalty != b.penalty ||
-            memcmp(bits[0], bits[1], k) != 0 || memcmp(word[0], word[1], n) != 0)
+        count += cinorbis_early_within(r, m, 0, readings[t], n, bits[0], k, word[0], n, &a) ==
+                 CINORBIS_DONE;
+        if (search_alone(r, m, readings[t], n, bits[0], k, word[0], n, &a) != CINORBIS_DONE)
+            continue;
+        if (cinorbis_early(r, m, readings[t], n, bits[1], k, word[1], n, &b) != CINORBIS_DONE ||
+            a.penalty != b.penalty || memcmp(bits[0], bits[1], k) != 0 ||
+            memcmp(word[0], word[1], n) != 0)
             disagreed = 1;
     }
     return count;
@@ -86,15 +92,19 @@ static void figures(uint32_t r, uint32_t m, double noise, int clipped) {
         early = fmin(early, round_of(cinorbis_early, r, m));
         search = fmin(search, round_of(search_alone, r, m));
     }
-    printf("| RM(%u,%u) | %.2f | %s | %.0f%% | %.2f | %.2f | %.2f |\n", r, m, noise, clipped ? "yes" : "no", 100.0 * count / WORDS,
-           early / WORDS / 1000, search / WORDS / 1000, early / search);
+    printf("| RM(%u,%u) | %.2f | %s | %.0f%% | %.2f | %.2f | %.2f |\n", r, m, noise,
+           clipped ? "yes" : "no", 100.0 * count / WORDS, early / WORDS / 1000,
+           search / WORDS / 1000, early / search);
 }
 
 int main(void) {
     static const struct {
         uint32_t r, m;
         double noise[3];
-    } codes[4] = {{1, 5, {0.2, 0.6, 1.0}}, {2, 5, {0.1, 0.4, 0.7}}, {2, 8, {0.1, 0.4, 0.7}}, {4, 8, {0.05, 0.15, 0.25}}};
+    } codes[4] = {{1, 5, {0.2, 0.6, 1.0}},
+                  {2, 5, {0.1, 0.4, 0.7}},
+                  {2, 8, {0.1, 0.4, 0.7}},
+                  {4, 8, {0.05, 0.15, 0.25}}};
     puts("| code | noise | clipped | at once | early, us | search, us | ratio |");
     puts("|---|---|---|---|---|---|---|");
     for (int clipped = 1; clipped >= 0; clipped--)

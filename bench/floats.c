@@ -1,5 +1,6 @@
-/* The search of floats beside the search of whole numbers and beside plain C whose readings and sums are floats (plain.h with other types), in one run: each
- * figure is the least of several alternating rounds. All sides must agree in every result, or the bench fails. */
+/* The search of floats beside the search of whole numbers and beside plain C whose readings and
+ * sums are floats (plain.h with other types), in one run: each figure is the least of several
+ * alternating rounds. All sides must agree in every result, or the bench fails. */
 #include "draw.h"
 #include "../include/cinorbis.h"
 #include <stdio.h>
@@ -39,7 +40,8 @@ typedef struct {
 
 #define ALLOWED 20000u
 
-static void count(done *d, uint32_t refusal, uint64_t penalty, uint64_t gap, uint64_t visits, uint8_t bit) {
+static void count(done *d, uint32_t refusal, uint64_t penalty, uint64_t gap, uint64_t visits,
+                  uint8_t bit) {
     d->visits += (double)visits;
     d->sum += refusal == 0 ? penalty * 3 + gap + bit : refusal;
 }
@@ -49,7 +51,8 @@ static done of_floats(code c) {
     cinorbis_numbers n;
     done d = {0, 0};
     for (int t = 0; t < SETS; t++) {
-        uint32_t refusal = cinorbis_search_float_within(c.r, c.m, ALLOWED, floats[t], c.n, bits, c.k, word, c.n, runner_up, &n);
+        uint32_t refusal = cinorbis_search_float_within(c.r, c.m, ALLOWED, floats[t], c.n, bits,
+                                                        c.k, word, c.n, runner_up, &n);
         count(&d, refusal, n.penalty, n.gap, n.visits, bits[0]);
     }
     return d;
@@ -60,7 +63,8 @@ static done of_whole(code c) {
     cinorbis_numbers n;
     done d = {0, 0};
     for (int t = 0; t < SETS; t++) {
-        uint32_t refusal = cinorbis_search_within(c.r, c.m, ALLOWED, whole[t], c.n, bits, c.k, word, c.n, runner_up, &n);
+        uint32_t refusal = cinorbis_search_within(c.r, c.m, ALLOWED, whole[t], c.n, bits, c.k, word,
+                                                  c.n, runner_up, &n);
         count(&d, refusal, n.penalty, n.gap, n.visits, bits[0]);
     }
     return d;
@@ -71,7 +75,8 @@ static done of_plain(code c) {
     plain_state s = {0, 0, 0, 0, 0};
     done d = {0, 0};
     for (int t = 0; t < SETS; t++) {
-        uint32_t refusal = (uint32_t)plain_search(c.r, c.m, ALLOWED, floats[t], c.n, bits, c.k, word, c.n, &s);
+        uint32_t refusal =
+            (uint32_t)plain_search(c.r, c.m, ALLOWED, floats[t], c.n, bits, c.k, word, c.n, &s);
         count(&d, refusal, s.best, s.second - s.best, s.visits, bits[0]);
     }
     return d;
@@ -95,15 +100,19 @@ static int figures(uint32_t r, uint32_t m) {
             double taken = timed(side[k], c, &d[k]);
             if (taken < least[k]) least[k] = taken;
         }
-    printf("| RM(%u,%u) | %.1f | %.1f | %.2f | %.1f | %.2f |\n", (unsigned)r, (unsigned)m, least[0] / d[0].visits, least[1] / d[1].visits,
-           least[0] / least[1], least[2] / d[2].visits, least[0] / least[2]);
-    if (d[0].sum == d[1].sum && d[0].sum == d[2].sum && d[0].visits == d[1].visits && d[0].visits == d[2].visits) return 0;
+    printf("| RM(%u,%u) | %.1f | %.1f | %.2f | %.1f | %.2f |\n", (unsigned)r, (unsigned)m,
+           least[0] / d[0].visits, least[1] / d[1].visits, least[0] / least[1],
+           least[2] / d[2].visits, least[0] / least[2]);
+    if (d[0].sum == d[1].sum && d[0].sum == d[2].sum && d[0].visits == d[1].visits &&
+        d[0].visits == d[2].visits)
+        return 0;
     puts("the sides disagree");
     return 1;
 }
 
 int main(void) {
-    puts("| search, random readings | floats, ns a visit | whole numbers | ratio | plain C in floats | ratio |");
+    puts("| search, random readings | floats, ns a visit | whole numbers | ratio | plain C in "
+         "floats | ratio |");
     puts("|---|---|---|---|---|---|");
     return figures(4, 8) | figures(3, 8) | figures(2, 8) | figures(2, 5);
 }

@@ -1,5 +1,6 @@
-/* Finding a record by the index beside stepping from the beginning, in one process: records 40,000 and the last of a capture of a million. Each time is the
- * least of several alternating rounds; both must give the same place. */
+/* Finding a record by the index beside stepping from the beginning, in one process: records 40,000
+ * and the last of a capture of a million. Each time is the least of several alternating rounds;
+ * both must give the same place. */
 #include "draw.h"
 #include "../include/cinorbis.h"
 #include <stdio.h>
@@ -30,8 +31,11 @@ int main(void) {
     }
     cinorbis_index index;
     double start = now();
-    if (cinorbis_index_make(capture, length, table, entries, &index) != CINORBIS_DONE || index.records != RECORDS) return 1;
-    printf("a capture of %u records, %zu bytes: its index is made in %.1f ms\n\n", RECORDS, length, (now() - start) / 1e6);
+    if (cinorbis_index_make(capture, length, table, entries, &index) != CINORBIS_DONE ||
+        index.records != RECORDS)
+        return 1;
+    printf("a capture of %u records, %zu bytes: its index is made in %.1f ms\n\n", RECORDS, length,
+           (now() - start) / 1e6);
     printf("| record | by the index, ns | from the beginning, ns | times |\n|---|---|---|---|\n");
     for (int i = 0; i < 2; i++) {
         double by_index = 1e18, stepping = 1e18;
@@ -39,7 +43,9 @@ int main(void) {
             cinorbis_entry entry = {0, 0, 0, 0, 0};
             start = now();
             for (int j = 0; j < 1000; j++)
-                if (cinorbis_index_find(asked[i], capture, length, table, entries, &entry) != CINORBIS_DONE) return 1;
+                if (cinorbis_index_find(asked[i], capture, length, table, entries, &entry) !=
+                    CINORBIS_DONE)
+                    return 1;
             double took = (now() - start) / 1000;
             if (took < by_index) by_index = took;
             start = now();

@@ -1,5 +1,6 @@
-/* Encode, quick reading and search in plain C, as one would write them without proofs: the same recursions and the same memory rule
- * (255 running sums, the top row read from the readings) as the library. For measuring beside it. */
+/* Encode, quick reading and search in plain C, as one would write them without proofs: the same
+ * recursions and the same memory rule (255 running sums, the top row read from the readings) as the
+ * library. For measuring beside it. */
 #ifndef PLAIN_H
 #define PLAIN_H
 
@@ -39,7 +40,8 @@ static int plain_readings_ok(const int16_t *l, size_t n) {
     return 1;
 }
 
-static int plain_encode(uint32_t r, uint32_t m, const uint8_t *bits, size_t k, uint8_t *word, size_t w) {
+static int plain_encode(uint32_t r, uint32_t m, const uint8_t *bits, size_t k, uint8_t *word,
+                        size_t w) {
     uint8_t kinds[256];
     if (m > 8 || r > m) return 1;
     size_t n = (size_t)1 << m;
@@ -57,7 +59,9 @@ static inline int32_t plain_lower(int32_t x, int32_t y) {
     return (x < 0) == (y < 0) ? s : -s;
 }
 
-static inline int32_t plain_upper(int32_t x, int32_t y, uint8_t a) { return a == 0 ? y + x : y - x; }
+static inline int32_t plain_upper(int32_t x, int32_t y, uint8_t a) {
+    return a == 0 ? y + x : y - x;
+}
 
 /* the row of 2h sums stands at rows + 2h, the half's row goes to rows + h */
 static void plain_lower_row(int32_t *restrict rows, size_t h) {
@@ -65,14 +69,16 @@ static void plain_lower_row(int32_t *restrict rows, size_t h) {
 }
 
 static void plain_upper_row(int32_t *restrict rows, size_t h, const uint8_t *restrict word) {
-    for (size_t j = 0; j < h; j++) rows[h + j] = plain_upper(rows[2 * h + j], rows[3 * h + j], word[j]);
+    for (size_t j = 0; j < h; j++)
+        rows[h + j] = plain_upper(rows[2 * h + j], rows[3 * h + j], word[j]);
 }
 
 static void plain_lower_top(const int16_t *restrict l, int32_t *restrict rows, size_t h) {
     for (size_t j = 0; j < h; j++) rows[h + j] = plain_lower(l[j], l[h + j]);
 }
 
-static void plain_upper_top(const int16_t *restrict l, int32_t *restrict rows, size_t h, const uint8_t *restrict word) {
+static void plain_upper_top(const int16_t *restrict l, int32_t *restrict rows, size_t h,
+                            const uint8_t *restrict word) {
     for (size_t j = 0; j < h; j++) rows[h + j] = plain_upper(l[j], l[h + j], word[j]);
 }
 
@@ -98,8 +104,8 @@ static void plain_take_bits(const uint8_t *kinds, const uint8_t *word, size_t n,
         if (kinds[i]) bits[at++] = u[i];
 }
 
-static int plain_quick(uint32_t r, uint32_t m, const int16_t *l, size_t ll, uint8_t *bits, size_t k, uint8_t *word, size_t w,
-                       uint32_t *penalty) {
+static int plain_quick(uint32_t r, uint32_t m, const int16_t *l, size_t ll, uint8_t *bits, size_t k,
+                       uint8_t *word, size_t w, uint32_t *penalty) {
     uint8_t kinds[256];
     int32_t rows[256] = {0};
     if (m > 8 || r > m) return 1;
@@ -145,8 +151,10 @@ static void plain_make_rows(int32_t *rows, const uint8_t *half, size_t n, size_t
     }
 }
 
-/* the value at index i of the path; where fresh the rows stand for the index before, and only those of blocks that start at i change */
-static int32_t plain_value(const int16_t *l, int32_t *rows, const uint8_t *half, size_t n, int fresh, size_t i) {
+/* the value at index i of the path; where fresh the rows stand for the index before, and only those
+ * of blocks that start at i change */
+static int32_t plain_value(const int16_t *l, int32_t *rows, const uint8_t *half, size_t n,
+                           int fresh, size_t i) {
     if (n == 1) return l[0];
     if (fresh && i > 0) {
         size_t h = i & -i;
@@ -224,7 +232,8 @@ static plain_state plain_step(plain_memory *m, int fresh, size_t i, uint32_t p, 
     return s;
 }
 
-static plain_state plain_info_step(plain_memory *m, int fresh, size_t i, uint32_t p, plain_state s) {
+static plain_state plain_info_step(plain_memory *m, int fresh, size_t i, uint32_t p,
+                                   plain_state s) {
     int32_t v = plain_value(m->l, m->rows, m->half, m->n, fresh, i);
     uint8_t first = v < 0;
     uint32_t q = p + (uint32_t)(v < 0 ? -v : v);
@@ -251,8 +260,8 @@ static plain_state plain_info_step(plain_memory *m, int fresh, size_t i, uint32_
     return s;
 }
 
-static int plain_search(uint32_t r, uint32_t m, uint32_t allowed, const int16_t *l, size_t ll, uint8_t *bits, size_t k, uint8_t *word,
-                        size_t w, plain_state *end) {
+static int plain_search(uint32_t r, uint32_t m, uint32_t allowed, const int16_t *l, size_t ll,
+                        uint8_t *bits, size_t k, uint8_t *word, size_t w, plain_state *end) {
     uint8_t kinds[256];
     plain_memory memory;
     if (m > 8 || r > m) return 1;
@@ -293,9 +302,10 @@ static void plain_hadamard(int32_t *x, size_t n) {
 
 static uint32_t plain_size(int32_t x) { return (uint32_t)(x < 0 ? -x : x); }
 
-/* of s the least penalty and the next; the word of place p has bit j of the digits that p and j share */
-static int plain_first_order(uint32_t m, const int16_t *l, size_t ll, uint8_t *bits, size_t k, uint8_t *word, size_t w,
-                             plain_state *s) {
+/* of s the least penalty and the next; the word of place p has bit j of the digits that p and j
+ * share */
+static int plain_first_order(uint32_t m, const int16_t *l, size_t ll, uint8_t *bits, size_t k,
+                             uint8_t *word, size_t w, plain_state *s) {
     int32_t x[256];
     uint32_t sum = 0, best = 0, second = 0;
     size_t n = (size_t)1 << m, place = 0;
@@ -323,7 +333,8 @@ static int plain_first_order(uint32_t m, const int16_t *l, size_t ll, uint8_t *b
     s->visits = 0;
     if (best == second) return 7;
     uint8_t sign = x[place] < 0;
-    for (size_t j = 0; j < n; j++) word[j] = (uint8_t)(__builtin_parity((unsigned)(place & j)) ^ sign);
+    for (size_t j = 0; j < n; j++)
+        word[j] = (uint8_t)(__builtin_parity((unsigned)(place & j)) ^ sign);
     for (uint32_t i = 0; i < m; i++) bits[i] = place >> (m - 1 - i) & 1;
     bits[m] = (uint8_t)(__builtin_parity((unsigned)place) ^ sign);
     return 0;

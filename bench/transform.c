@@ -1,5 +1,6 @@
-/* Times the library's transform of 256 bits, which no export hands out, beside the recursion by halves in plain C (plain.h), in one run:
- * the least of several alternating rounds. Both must give the same bits. bench/run makes `bit_rows_transform` of the library's module. */
+/* Times the library's transform of 256 bits, which no export hands out, beside the recursion by
+ * halves in plain C (plain.h), in one run: the least of several alternating rounds. Both must give
+ * the same bits. bench/run makes `bit_rows_transform` of the library's module. */
 #include "draw.h"
 #include "plain.h"
 #include <stdio.h>

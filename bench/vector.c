@@ -1,5 +1,6 @@
-/* Encode, quick reading, search and first-order words in C that is written to be compiled to vector code, without intrinsics: loops of known steps over rows,
- * no branch in a row, eight bits of a word in one number, small rows straight. The memory rule is the library's: 255 running sums, the
+/* Encode, quick reading, search and first-order words in C that is written to be compiled to vector
+ * code, without intrinsics: loops of known steps over rows, no branch in a row, eight bits of a
+ * word in one number, small rows straight. The memory rule is the library's: 255 running sums, the
  * top row read from the readings. For measuring beside it. */
 #include "vector.h"
 #include <string.h>
@@ -7,7 +8,8 @@
 #define WEIGHTS_4(n) n, n + 1, n + 1, n + 2
 #define WEIGHTS_16(n) WEIGHTS_4(n), WEIGHTS_4(n + 1), WEIGHTS_4(n + 1), WEIGHTS_4(n + 2)
 #define WEIGHTS_64(n) WEIGHTS_16(n), WEIGHTS_16(n + 1), WEIGHTS_16(n + 1), WEIGHTS_16(n + 2)
-static const uint8_t vector_weights[256] = {WEIGHTS_64(0), WEIGHTS_64(1), WEIGHTS_64(1), WEIGHTS_64(2)};
+static const uint8_t vector_weights[256] = {WEIGHTS_64(0), WEIGHTS_64(1), WEIGHTS_64(1),
+                                            WEIGHTS_64(2)};
 
 static const uint16_t vector_dimensions[9][9] = {
     {1},
@@ -128,12 +130,15 @@ static inline int32_t vector_upper(int32_t x, int32_t y, uint8_t a) {
     return y + ((x ^ sign) - sign);
 }
 
-static inline __attribute__((always_inline)) void vector_lower_row(const int32_t *restrict from, int32_t *restrict to, size_t h) {
+static inline __attribute__((always_inline)) void vector_lower_row(const int32_t *restrict from,
+                                                                   int32_t *restrict to, size_t h) {
     for (size_t j = 0; j < h; j++) to[j] = vector_lower(from[j], from[h + j]);
 }
 
-static inline __attribute__((always_inline)) void vector_upper_row(const int32_t *restrict from, int32_t *restrict to,
-                                                                   const uint8_t *restrict word, size_t h) {
+static inline __attribute__((always_inline)) void vector_upper_row(const int32_t *restrict from,
+                                                                   int32_t *restrict to,
+                                                                   const uint8_t *restrict word,
+                                                                   size_t h) {
     for (size_t j = 0; j < h; j++) to[j] = vector_upper(from[j], from[h + j], word[j]);
 }
 
@@ -141,7 +146,8 @@ static void vector_lower_top(const int16_t *restrict l, int32_t *restrict to, si
     for (size_t j = 0; j < h; j++) to[j] = vector_lower(l[j], l[h + j]);
 }
 
-static void vector_upper_top(const int16_t *restrict l, int32_t *restrict to, const uint8_t *restrict word, size_t h) {
+static void vector_upper_top(const int16_t *restrict l, int32_t *restrict to,
+                             const uint8_t *restrict word, size_t h) {
     for (size_t j = 0; j < h; j++) to[j] = vector_upper(l[j], l[h + j], word[j]);
 }
 
@@ -175,8 +181,8 @@ static void vector_take_bits(const uint8_t *kinds, const uint8_t *word, size_t n
         if (kinds[i]) bits[at++] = u[i];
 }
 
-int vector_quick(uint32_t r, uint32_t m, const int16_t *l, size_t ll, uint8_t *bits, size_t k, uint8_t *word, size_t w,
-                 uint32_t *penalty) {
+int vector_quick(uint32_t r, uint32_t m, const int16_t *l, size_t ll, uint8_t *bits, size_t k,
+                 uint8_t *word, size_t w, uint32_t *penalty) {
     uint8_t kinds[256];
     int32_t rows[256] = {0};
     if (m > 8 || r > m) return 1;
@@ -217,13 +223,15 @@ typedef struct {
 } vector_memory;
 
 /* the word of the h bits of the path from s on */
-static inline __attribute__((always_inline)) void vector_word(const uint8_t *path, size_t s, size_t h, uint8_t *word) {
+static inline __attribute__((always_inline)) void vector_word(const uint8_t *path, size_t s,
+                                                              size_t h, uint8_t *word) {
     memcpy(word, path + s, h);
     vector_transform(word, h);
 }
 
 /* makes the row of h sums, of the block of h indices that holds i, from the row of 2h */
-static inline __attribute__((always_inline)) void vector_make_row(vector_memory *m, size_t i, size_t h) {
+static inline __attribute__((always_inline)) void vector_make_row(vector_memory *m, size_t i,
+                                                                  size_t h) {
     uint8_t word[128];
     int32_t *to = m->rows + h;
     const int32_t *from = m->rows + 2 * h;
@@ -243,7 +251,8 @@ static inline __attribute__((always_inline)) void vector_make_row(vector_memory 
     }
 }
 
-/* the value at index i: only rows of blocks that do not hold both i and the index before, or that start at i, are made */
+/* the value at index i: only rows of blocks that do not hold both i and the index before, or that
+ * start at i, are made */
 static int32_t vector_value(vector_memory *m, size_t i, int all) {
     if (m->n == 1) return m->l[0];
     size_t differ = m->at ^ i, low = i & -i, h = m->n / 2;
@@ -271,7 +280,9 @@ static void vector_hold(vector_memory *m, uint32_t p) {
     }
 }
 
-static int vector_dropped(vector_memory *m, uint32_t p) { return m->held == 2 && m->second_penalty <= p; }
+static int vector_dropped(vector_memory *m, uint32_t p) {
+    return m->held == 2 && m->second_penalty <= p;
+}
 
 static void vector_step(vector_memory *m, size_t i, uint32_t p) {
     for (;; i++) {
@@ -306,8 +317,8 @@ static void vector_step(vector_memory *m, size_t i, uint32_t p) {
     }
 }
 
-int vector_search(uint32_t r, uint32_t m, uint32_t allowed, const int16_t *l, size_t ll, uint8_t *bits, size_t k, uint8_t *word,
-                  size_t w, vector_end *end) {
+int vector_search(uint32_t r, uint32_t m, uint32_t allowed, const int16_t *l, size_t ll,
+                  uint8_t *bits, size_t k, uint8_t *word, size_t w, vector_end *end) {
     uint8_t kinds[256];
     vector_memory memory;
     if (m > 8 || r > m) return 1;
@@ -345,10 +356,12 @@ static inline __attribute__((always_inline)) void vector_cross(int32_t *x, size_
         }
 }
 
-static inline __attribute__((always_inline)) void vector_cross_twice(int32_t *x, size_t n, size_t h) {
+static inline __attribute__((always_inline)) void vector_cross_twice(int32_t *x, size_t n,
+                                                                     size_t h) {
     for (size_t s = 0; s < n; s += 4 * h)
         for (size_t j = 0; j < h; j++) {
-            int32_t *y = x + s + j, a = y[0] + y[h], b = y[0] - y[h], c = y[2 * h] + y[3 * h], d = y[2 * h] - y[3 * h];
+            int32_t *y = x + s + j, a = y[0] + y[h], b = y[0] - y[h], c = y[2 * h] + y[3 * h],
+                    d = y[2 * h] - y[3 * h];
             y[0] = a + c;
             y[h] = b + d;
             y[2 * h] = a - c;
@@ -370,7 +383,8 @@ static void vector_hadamard(int32_t *x, size_t n) {
 static inline uint32_t vector_size(int32_t x) { return (uint32_t)(x < 0 ? -x : x); }
 
 /* the word of a place by doubling, and its bits */
-static void vector_put(uint32_t m, size_t place, uint8_t sign, uint8_t *restrict bits, uint8_t *restrict word) {
+static void vector_put(uint32_t m, size_t place, uint8_t sign, uint8_t *restrict bits,
+                       uint8_t *restrict word) {
     uint8_t last = sign;
     word[0] = sign;
     for (uint32_t p = 0; p < m; p++) {
@@ -384,7 +398,8 @@ static void vector_put(uint32_t m, size_t place, uint8_t sign, uint8_t *restrict
 }
 
 /* a size and its place in one number: 256 times the size, plus the place */
-int vector_first_order(uint32_t m, const int16_t *l, size_t ll, uint8_t *bits, size_t k, uint8_t *word, size_t w, vector_end *end) {
+int vector_first_order(uint32_t m, const int16_t *l, size_t ll, uint8_t *bits, size_t k,
+                       uint8_t *word, size_t w, vector_end *end) {
     int32_t x[256];
     uint32_t sum = 0, best = 0, second = 0;
     if (m > 8 || m < 1) return 1;

@@ -11,10 +11,11 @@ typedef struct {
 } vector_end;
 
 int vector_encode(uint32_t r, uint32_t m, const uint8_t *bits, size_t k, uint8_t *word, size_t w);
-int vector_quick(uint32_t r, uint32_t m, const int16_t *l, size_t ll, uint8_t *bits, size_t k, uint8_t *word, size_t w,
-                 uint32_t *penalty);
-int vector_search(uint32_t r, uint32_t m, uint32_t allowed, const int16_t *l, size_t ll, uint8_t *bits, size_t k, uint8_t *word,
-                  size_t w, vector_end *end);
-int vector_first_order(uint32_t m, const int16_t *l, size_t ll, uint8_t *bits, size_t k, uint8_t *word, size_t w, vector_end *end);
+int vector_quick(uint32_t r, uint32_t m, const int16_t *l, size_t ll, uint8_t *bits, size_t k,
+                 uint8_t *word, size_t w, uint32_t *penalty);
+int vector_search(uint32_t r, uint32_t m, uint32_t allowed, const int16_t *l, size_t ll,
+                  uint8_t *bits, size_t k, uint8_t *word, size_t w, vector_end *end);
+int vector_first_order(uint32_t m, const int16_t *l, size_t ll, uint8_t *bits, size_t k,
+                       uint8_t *word, size_t w, vector_end *end);
 
 #endif

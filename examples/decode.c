@@ -1,4 +1,5 @@
-/* Decodes one word: readings in, information bits, penalty and gap out, and what the word nearly was. */
+/* Decodes one word: readings in, information bits, penalty and gap out, and what the word nearly
+ * was. */
 #include "../include/cinorbis.h"
 #include <stdio.h>
 
@@ -11,7 +12,8 @@ int main(void) {
         printf("refused %u\n", (unsigned)refusal);
         return 1;
     }
-    printf("bits %d%d%d, penalty %u, gap %u, visits %u, runner-up %d%d%d\n", bits[0], bits[1], bits[2], (unsigned)a.penalty,
-           (unsigned)a.gap, (unsigned)a.visits, runner_up[0], runner_up[1], runner_up[2]);
+    printf("bits %d%d%d, penalty %u, gap %u, visits %u, runner-up %d%d%d\n", bits[0], bits[1],
+           bits[2], (unsigned)a.penalty, (unsigned)a.gap, (unsigned)a.visits, runner_up[0],
+           runner_up[1], runner_up[2]);
     return 0;
 }

@@ -1,4 +1,5 @@
-/* A tilt telegram over a noisy link, and over the same link turned over, where every reading is negated. */
+/* A tilt telegram over a noisy link, and over the same link turned over, where every reading is
+ * negated. */
 #include "../include/cinorbis.h"
 #include <stdio.h>
 
@@ -10,8 +11,9 @@ static void show(const char *link, const int16_t *readings) {
         printf("%s: refused %u, %s\n", link, (unsigned)refusal, cinorbis_refusal_text(refusal));
         return;
     }
-    printf("%s: cylinder %u, %u.%02u degrees to %s, penalty %u, gap %u\n", link, (unsigned)t.cylinder, (unsigned)t.tilt / 100,
-           (unsigned)t.tilt % 100, t.direction ? "port" : "starboard", (unsigned)a.penalty, (unsigned)a.gap);
+    printf("%s: cylinder %u, %u.%02u degrees to %s, penalty %u, gap %u\n", link,
+           (unsigned)t.cylinder, (unsigned)t.tilt / 100, (unsigned)t.tilt % 100,
+           t.direction ? "port" : "starboard", (unsigned)a.penalty, (unsigned)a.gap);
 }
 
 int main(void) {
@@ -19,7 +21,8 @@ int main(void) {
     int16_t readings[32];
     cinorbis_numbers a;
     if (cinorbis_telegram_write(5, 1, 1234, word, 32, &a) != CINORBIS_DONE) return 1;
-    for (int j = 0; j < 32; j++) readings[j] = (int16_t)((word[j] ? -100 : 100) + j * 67 % 241 - 120);
+    for (int j = 0; j < 32; j++)
+        readings[j] = (int16_t)((word[j] ? -100 : 100) + j * 67 % 241 - 120);
     show("as it is", readings);
     for (int j = 0; j < 32; j++) readings[j] = (int16_t)-readings[j];
     show("turned over", readings);

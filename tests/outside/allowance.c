@@ -1,13 +1,14 @@
-/* The standing allowance (C-17). The stored record tests/captures/long_walk.bin needs more visits than the short calls allow and fewer than the
- * program: its readings, taken from its bytes here, are searched by the short calls, with the program's allowance, and just at the border, against
- * the walk by its text. And whatever is answered or tied under some allowance stays so, number by number and byte by byte, under every larger one.
- * allowance CAPTURE */
+/* The standing allowance (C-17). The stored record tests/captures/long_walk.bin needs more visits
+ * than the short calls allow and fewer than the program: its readings, taken from its bytes here,
+ * are searched by the short calls, with the program's allowance, and just at the border, against
+ * the walk by its text. And whatever is answered or tied under some allowance stays so, number by
+ * number and byte by byte, under every larger one. allowance CAPTURE */
 #include "call.h"
 #include "check.h"
 #include "reference.h"
 
-#define STANDING 200000u  /* what the short calls are to allow */
-#define PROGRAM 1000000u  /* what the program allows */
+#define STANDING 200000u /* what the short calls are to allow */
+#define PROGRAM 1000000u /* what the program allows */
 
 static guarded gb, gw;
 static ref_walk_t walk;
@@ -18,20 +19,24 @@ static void arm_both(void) {
 }
 
 static void is_out(const char *what, answer a, uint32_t allowed) {
-    CHECK(a.refusal == 6 && a.visits == allowed, "%s: refusal %u, visits %u", what, a.refusal, a.visits);
+    CHECK(a.refusal == 6 && a.visits == allowed, "%s: refusal %u, visits %u", what, a.refusal,
+          a.visits);
     CHECK(a.penalty == 0 && a.gap == 0 && a.place == 0, "%s: another number under 6", what);
     CHECK(untouched(&gb) && untouched(&gw), "%s: a refusal wrote", what);
 }
 
 /* the walk's answer: numbers and buffers */
-static void is_found(const char *what, answer a, int r, int m, long long gap, unsigned long long visits) {
+static void is_found(const char *what, answer a, int r, int m, long long gap,
+                     unsigned long long visits) {
     uint8_t bits[256], word[256];
     size_t n = (size_t)1 << m, k = (size_t)ref_k(r, m);
     ref_word(m, walk.best, word);
     ref_pick(r, m, walk.best, bits);
-    CHECK(a.refusal == 0 && a.penalty == walk.best_penalty && a.gap == gap && a.visits == visits && a.place == 0, "%s: refusal %u, visits %u", what,
-          a.refusal, a.visits);
-    CHECK(memcmp(contents(&gb), bits, k) == 0 && memcmp(contents(&gw), word, n) == 0, "%s: another word", what);
+    CHECK(a.refusal == 0 && a.penalty == walk.best_penalty && a.gap == gap && a.visits == visits &&
+              a.place == 0,
+          "%s: refusal %u, visits %u", what, a.refusal, a.visits);
+    CHECK(memcmp(contents(&gb), bits, k) == 0 && memcmp(contents(&gw), word, n) == 0,
+          "%s: another word", what);
     CHECK(only_first(&gb, k) && only_first(&gw, n), "%s: wrote beyond", what);
 }
 
@@ -48,30 +53,46 @@ static void long_walk(const uint8_t *bytes, size_t length) {
     long long gap = walk.second_penalty - walk.best_penalty;
     uint32_t needs = (uint32_t)walk.visits;
     begin("a record that needs %u visits", needs);
-    CHECK(size <= length && !walk.out && needs > STANDING && gap > 0, "the stored record is another");
+    CHECK(size <= length && !walk.out && needs > STANDING && gap > 0,
+          "the stored record is another");
     CHECK(CINORBIS_DEFAULT_ALLOWANCE == STANDING, "the header says %u", CINORBIS_DEFAULT_ALLOWANCE);
     arm_both();
-    is_out("search", search((uint32_t)r, (uint32_t)m, l, n, contents(&gb), k, contents(&gw), n), STANDING);
+    is_out("search", search((uint32_t)r, (uint32_t)m, l, n, contents(&gb), k, contents(&gw), n),
+           STANDING);
     arm_both();
-    is_out("early", early((uint32_t)r, (uint32_t)m, l, n, contents(&gb), k, contents(&gw), n), STANDING);
+    is_out("early", early((uint32_t)r, (uint32_t)m, l, n, contents(&gb), k, contents(&gw), n),
+           STANDING);
     arm_both();
-    is_out("one too few", search_within((uint32_t)r, (uint32_t)m, needs - 1, l, n, contents(&gb), k, contents(&gw), n), needs - 1);
+    is_out("one too few",
+           search_within((uint32_t)r, (uint32_t)m, needs - 1, l, n, contents(&gb), k, contents(&gw),
+                         n),
+           needs - 1);
     const uint32_t enough[3] = {needs, PROGRAM, UINT32_MAX};
     for (int t = 0; t < 3; t++) {
         arm_both();
-        is_found("search_within", search_within((uint32_t)r, (uint32_t)m, enough[t], l, n, contents(&gb), k, contents(&gw), n), r, m, gap, needs);
+        is_found("search_within",
+                 search_within((uint32_t)r, (uint32_t)m, enough[t], l, n, contents(&gb), k,
+                               contents(&gw), n),
+                 r, m, gap, needs);
         arm_both();
-        is_found("search_record", search_record(enough[t], bytes, size, contents(&gb), k, contents(&gw), n), r, m, gap, needs);
+        is_found("search_record",
+                 search_record(enough[t], bytes, size, contents(&gb), k, contents(&gw), n), r, m,
+                 gap, needs);
         arm_both();
-        is_found("early_within", early_within((uint32_t)r, (uint32_t)m, enough[t], l, n, contents(&gb), k, contents(&gw), n), r, m, 0, 0);
+        is_found("early_within",
+                 early_within((uint32_t)r, (uint32_t)m, enough[t], l, n, contents(&gb), k,
+                              contents(&gw), n),
+                 r, m, 0, 0);
     }
     end();
 }
 
-typedef answer call(uint32_t, uint32_t, uint32_t, const int16_t *, size_t, uint8_t *, size_t, uint8_t *, size_t);
+typedef answer call(uint32_t, uint32_t, uint32_t, const int16_t *, size_t, uint8_t *, size_t,
+                    uint8_t *, size_t);
 
 /* the same buffers before both calls: the same answer and the same bytes after them */
-static void kept(call *within, int r, int m, const int16_t *l, uint32_t allowed, uint32_t more, unsigned long *met) {
+static void kept(call *within, int r, int m, const int16_t *l, uint32_t allowed, uint32_t more,
+                 unsigned long *met) {
     static guarded first_bits, first_word;
     size_t n = (size_t)1 << m, k = (size_t)ref_k(r, m);
     arm_both();
@@ -83,8 +104,10 @@ static void kept(call *within, int r, int m, const int16_t *l, uint32_t allowed,
     memcpy(gb.all, gb.before, sizeof gb.all);
     memcpy(gw.all, gw.before, sizeof gw.all);
     answer b = within((uint32_t)r, (uint32_t)m, more, l, n, contents(&gb), k, contents(&gw), n);
-    CHECK(memcmp(&a, &b, sizeof a) == 0, "RM(%d,%d), %u and %u allowed: refusal %u and %u", r, m, allowed, more, a.refusal, b.refusal);
-    CHECK(memcmp(&first_bits, &gb, sizeof gb) == 0 && memcmp(&first_word, &gw, sizeof gw) == 0, "RM(%d,%d): other bytes", r, m);
+    CHECK(memcmp(&a, &b, sizeof a) == 0, "RM(%d,%d), %u and %u allowed: refusal %u and %u", r, m,
+          allowed, more, a.refusal, b.refusal);
+    CHECK(memcmp(&first_bits, &gb, sizeof gb) == 0 && memcmp(&first_word, &gw, sizeof gw) == 0,
+          "RM(%d,%d): other bytes", r, m);
 }
 
 static void larger_allowances(call *within, const char *name) {

@@ -1,4 +1,5 @@
-/* A frame for the tests: named cases, random numbers that are the same in every run, and buffers with guards around them. */
+/* A frame for the tests: named cases, random numbers that are the same in every run, and buffers
+ * with guards around them. */
 #ifndef CHECK_H
 #define CHECK_H
 
@@ -31,16 +32,16 @@ static inline void end(void) {
     }
 }
 
-#define CHECK(fact, ...)                                                         \
-    do {                                                                         \
-        case_checks++;                                                           \
-        if (!(fact)) {                                                           \
-            if (case_faults++ < 5) {                                             \
-                printf("%s: %s:%d: %s: ", case_name, __FILE__, __LINE__, #fact); \
-                printf(__VA_ARGS__);                                             \
-                printf("\n");                                                    \
-            }                                                                    \
-        }                                                                        \
+#define CHECK(fact, ...)                                                                           \
+    do {                                                                                           \
+        case_checks++;                                                                             \
+        if (!(fact)) {                                                                             \
+            if (case_faults++ < 5) {                                                               \
+                printf("%s: %s:%d: %s: ", case_name, __FILE__, __LINE__, #fact);                   \
+                printf(__VA_ARGS__);                                                               \
+                printf("\n");                                                                      \
+            }                                                                                      \
+        }                                                                                          \
     } while (0)
 
 static inline int finish(void) {
@@ -79,7 +80,9 @@ static inline void arm(guarded *g) {
     memcpy(g->before, g->all, sizeof g->all);
 }
 
-static inline int untouched(const guarded *g) { return memcmp(g->before, g->all, sizeof g->all) == 0; }
+static inline int untouched(const guarded *g) {
+    return memcmp(g->before, g->all, sizeof g->all) == 0;
+}
 
 /* nothing but the first n bytes of the contents has changed */
 static inline int only_first(const guarded *g, size_t n) {
@@ -87,7 +90,8 @@ static inline int only_first(const guarded *g, size_t n) {
            memcmp(g->before + GUARD + n, g->all + GUARD + n, sizeof g->all - GUARD - n) == 0;
 }
 
-/* how a uint64_t is printed where the C library does not say it (newlib), and how a cinorbis_size is */
+/* how a uint64_t is printed where the C library does not say it (newlib), and how a cinorbis_size
+ * is */
 #ifndef PRIu64
 #define PRIu64 "llu"
 #endif

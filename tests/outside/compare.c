@@ -1,5 +1,6 @@
-/* The library against brute force over all words (codes with k <= 12) and against the walk by its text (all codes), on random readings
- * with zeros, ties and rims among them; demand 3 on the library itself; encode and inverse; small cases exhaustively. */
+/* The library against brute force over all words (codes with k <= 12) and against the walk by its
+ * text (all codes), on random readings with zeros, ties and rims among them; demand 3 on the
+ * library itself; encode and inverse; small cases exhaustively. */
 #include "call.h"
 #include "check.h"
 #include "reference.h"
@@ -16,7 +17,8 @@ static answered run(int r, int m, uint32_t allowed, const int16_t *l) {
     size_t n = (size_t)1 << m, k = (size_t)ref_k(r, m);
     arm(&gb);
     arm(&gw);
-    s.a = search_within((uint32_t)r, (uint32_t)m, allowed, l, n, contents(&gb), k, contents(&gw), n);
+    s.a =
+        search_within((uint32_t)r, (uint32_t)m, allowed, l, n, contents(&gb), k, contents(&gw), n);
     if (s.a.refusal)
         CHECK(untouched(&gb) && untouched(&gw), "a refusal %u wrote", s.a.refusal);
     else
@@ -26,7 +28,8 @@ static answered run(int r, int m, uint32_t allowed, const int16_t *l) {
     return s;
 }
 
-/* readings of several kinds: full range, small, with zeros, near a word with noise, only rims, all equal */
+/* readings of several kinds: full range, small, with zeros, near a word with noise, only rims, all
+ * equal */
 static void make_readings(int r, int m, int kind, int16_t *l) {
     int n = 1 << m;
     uint8_t x[256];
@@ -49,12 +52,15 @@ static void against_brute_force(int r, int m, const int16_t *l) {
     ref_best_t b = ref_best(r, m, l);
     answered s = run(r, m, UINT32_MAX, l);
     if (b.least == b.next) {
-        CHECK(s.a.refusal == 7 && s.a.penalty == b.least && s.a.gap == 0, "refusal %u, penalty %u of %lld", s.a.refusal, s.a.penalty, b.least);
+        CHECK(s.a.refusal == 7 && s.a.penalty == b.least && s.a.gap == 0,
+              "refusal %u, penalty %u of %lld", s.a.refusal, s.a.penalty, b.least);
         return;
     }
-    CHECK(s.a.refusal == 0 && s.a.penalty == b.least && s.a.gap == b.next - b.least, "refusal %u, penalty %u of %lld, gap %u of %lld",
-          s.a.refusal, s.a.penalty, b.least, s.a.gap, b.next - b.least);
-    CHECK(memcmp(s.bits, b.bits, (size_t)k) == 0 && memcmp(s.word, b.word, (size_t)n) == 0, "another word");
+    CHECK(s.a.refusal == 0 && s.a.penalty == b.least && s.a.gap == b.next - b.least,
+          "refusal %u, penalty %u of %lld, gap %u of %lld", s.a.refusal, s.a.penalty, b.least,
+          s.a.gap, b.next - b.least);
+    CHECK(memcmp(s.bits, b.bits, (size_t)k) == 0 && memcmp(s.word, b.word, (size_t)n) == 0,
+          "another word");
 }
 
 /* visits, allowance exact and one less; the word that the walk by the text holds */
@@ -64,21 +70,25 @@ static void against_walk(int r, int m, const int16_t *l, unsigned long long limi
     ref_walk(&w, r, m, l, limit);
     if (w.out) {
         answered s = run(r, m, (uint32_t)limit, l);
-        CHECK(s.a.refusal == 6 && s.a.visits == limit && s.a.penalty == 0 && s.a.gap == 0, "refusal %u", s.a.refusal);
+        CHECK(s.a.refusal == 6 && s.a.visits == limit && s.a.penalty == 0 && s.a.gap == 0,
+              "refusal %u", s.a.refusal);
         return;
     }
     answered s = run(r, m, (uint32_t)w.visits, l), t = run(r, m, (uint32_t)w.visits - 1, l);
     CHECK(t.a.refusal == 6 && t.a.visits == w.visits - 1, "one less: refusal %u", t.a.refusal);
     if (w.best_penalty == w.second_penalty) {
-        CHECK(s.a.refusal == 7 && s.a.penalty == w.best_penalty && s.a.visits == w.visits, "refusal %u", s.a.refusal);
+        CHECK(s.a.refusal == 7 && s.a.penalty == w.best_penalty && s.a.visits == w.visits,
+              "refusal %u", s.a.refusal);
         return;
     }
     uint8_t x[256], bits[256];
     ref_word(m, w.best, x);
     ref_pick(r, m, w.best, bits);
-    CHECK(s.a.refusal == 0 && s.a.visits == w.visits && s.a.penalty == w.best_penalty && s.a.gap == w.second_penalty - w.best_penalty,
+    CHECK(s.a.refusal == 0 && s.a.visits == w.visits && s.a.penalty == w.best_penalty &&
+              s.a.gap == w.second_penalty - w.best_penalty,
           "refusal %u, visits %u of %llu", s.a.refusal, s.a.visits, w.visits);
-    CHECK(memcmp(s.word, x, (size_t)n) == 0 && memcmp(s.bits, bits, (size_t)ref_k(r, m)) == 0, "another word");
+    CHECK(memcmp(s.word, x, (size_t)n) == 0 && memcmp(s.bits, bits, (size_t)ref_k(r, m)) == 0,
+          "another word");
 }
 
 static void quick_and_encode(int r, int m, const int16_t *l) {
@@ -90,14 +100,18 @@ static void quick_and_encode(int r, int m, const int16_t *l) {
     arm(&back);
     answer a = quick((uint32_t)r, (uint32_t)m, l, n, contents(&gb), k, contents(&gw), n);
     ref_quick(r, m, l, bits, word);
-    CHECK(a.refusal == 0 && a.penalty == ref_penalty((int)n, l, word) && a.gap == 0 && a.visits == 0, "refusal %u", a.refusal);
-    CHECK(memcmp(contents(&gb), bits, k) == 0 && memcmp(contents(&gw), word, n) == 0, "another word");
+    CHECK(a.refusal == 0 && a.penalty == ref_penalty((int)n, l, word) && a.gap == 0 &&
+              a.visits == 0,
+          "refusal %u", a.refusal);
+    CHECK(memcmp(contents(&gb), bits, k) == 0 && memcmp(contents(&gw), word, n) == 0,
+          "another word");
     CHECK(only_first(&gb, k) && only_first(&gw, n), "wrote outside");
     arm(&gw);
     a = encode((uint32_t)r, (uint32_t)m, bits, k, contents(&gw), n);
     CHECK(a.refusal == 0 && memcmp(contents(&gw), word, n) == 0 && only_first(&gw, n), "encode");
     a = inverse((uint32_t)r, (uint32_t)m, word, n, contents(&back), k);
-    CHECK(a.refusal == 0 && memcmp(contents(&back), bits, k) == 0 && only_first(&back, k), "inverse");
+    CHECK(a.refusal == 0 && memcmp(contents(&back), bits, k) == 0 && only_first(&back, k),
+          "inverse");
     /* any row of bits: refused as 5 at the lowest frozen index that is 1 */
     uint8_t u[256], x[256];
     for (size_t i = 0; i < n; i++) u[i] = (uint8_t)(random_below(8) == 0);
@@ -108,7 +122,8 @@ static void quick_and_encode(int r, int m, const int16_t *l) {
     arm(&back);
     a = inverse((uint32_t)r, (uint32_t)m, x, n, contents(&back), k);
     if (frozen < n)
-        CHECK(a.refusal == 5 && a.place == frozen && untouched(&back), "refusal %u at %u", a.refusal, a.place);
+        CHECK(a.refusal == 5 && a.place == frozen && untouched(&back), "refusal %u at %u",
+              a.refusal, a.place);
     else
         CHECK(a.refusal == 0, "refusal %u", a.refusal);
 }
@@ -125,16 +140,20 @@ static void negated(int r, int m, const int16_t *l) {
     for (int j = 0; j < n; j++) turned[j] = (int16_t)(c[j] ? -l[j] : l[j]);
     answered s = run(r, m, 200000, l), t = run(r, m, 200000, turned);
     if (s.a.refusal != 6 && t.a.refusal != 6) {
-        CHECK(s.a.refusal == t.a.refusal && s.a.penalty == t.a.penalty && s.a.gap == t.a.gap, "%u, %u", s.a.refusal, t.a.refusal);
+        CHECK(s.a.refusal == t.a.refusal && s.a.penalty == t.a.penalty && s.a.gap == t.a.gap,
+              "%u, %u", s.a.refusal, t.a.refusal);
         if (s.a.refusal == 0) {
             for (int j = 0; j < n; j++) CHECK(t.word[j] == (s.word[j] ^ c[j]), "word");
             for (int i = 0; i < k; i++) CHECK(t.bits[i] == (s.bits[i] ^ bits[i]), "bits");
         }
     }
-    if (all_ones) CHECK(s.a.visits == t.a.visits && s.a.refusal == t.a.refusal, "all ones: %u visits, %u", s.a.visits, t.a.visits);
+    if (all_ones)
+        CHECK(s.a.visits == t.a.visits && s.a.refusal == t.a.refusal, "all ones: %u visits, %u",
+              s.a.visits, t.a.visits);
     if (n <= 32) {
         ref_walk(&w, r, m, l, 200000);
-        if (!w.out && !w.met_zero) CHECK(s.a.visits == t.a.visits, "%u visits, %u", s.a.visits, t.a.visits);
+        if (!w.out && !w.met_zero)
+            CHECK(s.a.visits == t.a.visits, "%u visits, %u", s.a.visits, t.a.visits);
     }
 }
 
@@ -156,15 +175,18 @@ static void exhaustive(int r, int m, int size) {
     end();
 }
 
-/* 256 readings of the largest size: the sums reach 256 * 32,767 = 8,388,352, and a sum or a size of fewer bits would show */
+/* 256 readings of the largest size: the sums reach 256 * 32,767 = 8,388,352, and a sum or a size of
+ * fewer bits would show */
 static void largest_sums(void) {
     int16_t l[256];
     answered s;
     begin("RM(8,8), 256 readings of the largest size, any signs");
     for (int t = 0; t < 40; t++) {
-        for (int j = 0; j < 256; j++) l[j] = t == 0 ? LARGEST : t == 1 ? -LARGEST : random_below(2) ? LARGEST : -LARGEST;
+        for (int j = 0; j < 256; j++)
+            l[j] = t == 0 ? LARGEST : t == 1 ? -LARGEST : random_below(2) ? LARGEST : -LARGEST;
         s = run(8, 8, UINT32_MAX, l);
-        CHECK(s.a.refusal == 0 && s.a.penalty == 0 && s.a.gap == LARGEST, "%u, penalty %u, gap %u", s.a.refusal, s.a.penalty, s.a.gap);
+        CHECK(s.a.refusal == 0 && s.a.penalty == 0 && s.a.gap == LARGEST, "%u, penalty %u, gap %u",
+              s.a.refusal, s.a.penalty, s.a.gap);
         for (int j = 0; j < 256; j++) CHECK(s.word[j] == (l[j] < 0), "bit %d", j);
         if (t < 4) against_walk(8, 8, l, 5000);
         quick_and_encode(8, 8, l);
@@ -175,7 +197,8 @@ static void largest_sums(void) {
         int less = plus < 128 ? plus : 256 - plus;
         for (int j = 0; j < 256; j++) l[j] = j < plus ? LARGEST : -LARGEST;
         s = run(0, 8, UINT32_MAX, l);
-        CHECK(s.a.refusal == (plus == 128 ? 7u : 0u) && s.a.penalty == (uint32_t)less * LARGEST && s.a.gap == (uint32_t)(256 - 2 * less) * LARGEST,
+        CHECK(s.a.refusal == (plus == 128 ? 7u : 0u) && s.a.penalty == (uint32_t)less * LARGEST &&
+                  s.a.gap == (uint32_t)(256 - 2 * less) * LARGEST,
               "%d: %u, penalty %u, gap %u", plus, s.a.refusal, s.a.penalty, s.a.gap);
         quick_and_encode(0, 8, l);
     }
@@ -185,7 +208,8 @@ static void largest_sums(void) {
 /* an allowance as large as the whole tree is never too small */
 static void whole_tree(int r, int m, const int16_t *l) {
     if (ref_tree(r, m) <= UINT32_MAX && ref_k(r, m) <= 16)
-        CHECK(run(r, m, (uint32_t)ref_tree(r, m), l).a.refusal != 6, "whole tree of %llu", ref_tree(r, m));
+        CHECK(run(r, m, (uint32_t)ref_tree(r, m), l).a.refusal != 6, "whole tree of %llu",
+              ref_tree(r, m));
 }
 
 int main(void) {

@@ -1,5 +1,7 @@
-/* The early answer against the rules: the quick reading's word tried by the sum of C-14, with the largest size as M; where that fails, the walk by its
- * text. All codes, allowances from none to all, readings clean and noisy, at the bound itself and with no size at all; refusals with several faults. */
+/* The early answer against the rules: the quick reading's word tried by the sum of C-14, with the
+ * largest size as M; where that fails, the walk by its text. All codes, allowances from none to
+ * all, readings clean and noisy, at the bound itself and with no size at all; refusals with several
+ * faults. */
 #include "call.h"
 #include "check.h"
 #include "reference.h"
@@ -20,7 +22,8 @@ static int surely_right(int r, int m, const int16_t *l, const uint8_t *x) {
 static unsigned long at_once, searched, out_of_visits, tied;
 
 /* one call beside the rules; the walk by its text is not run further than `limit` */
-static void against_rules(int r, int m, uint32_t allowed, const int16_t *l, unsigned long long limit) {
+static void against_rules(int r, int m, uint32_t allowed, const int16_t *l,
+                          unsigned long long limit) {
     static ref_walk_t w;
     size_t n = (size_t)1 << m, k = (size_t)ref_k(r, m);
     uint8_t bits[256], word[256];
@@ -29,19 +32,22 @@ static void against_rules(int r, int m, uint32_t allowed, const int16_t *l, unsi
     if (!sure && allowed > limit) return;
     arm(&gb);
     arm(&gw);
-    answer a = early_within((uint32_t)r, (uint32_t)m, allowed, l, n, contents(&gb), k, contents(&gw), n);
+    answer a =
+        early_within((uint32_t)r, (uint32_t)m, allowed, l, n, contents(&gb), k, contents(&gw), n);
     CHECK(a.gap == 0 && a.place == 0, "gap %u, place %u", a.gap, a.place);
     if (!sure) {
         ref_walk(&w, r, m, l, allowed);
         if (w.out) {
             out_of_visits++;
-            CHECK(a.refusal == 6 && a.visits == allowed && a.penalty == 0, "refusal %u, visits %u", a.refusal, a.visits);
+            CHECK(a.refusal == 6 && a.visits == allowed && a.penalty == 0, "refusal %u, visits %u",
+                  a.refusal, a.visits);
             CHECK(untouched(&gb) && untouched(&gw), "a refusal wrote");
             return;
         }
         if (w.best_penalty == w.second_penalty) {
             tied++;
-            CHECK(a.refusal == 7 && a.visits == w.visits && a.penalty == w.best_penalty, "refusal %u, visits %u", a.refusal, a.visits);
+            CHECK(a.refusal == 7 && a.visits == w.visits && a.penalty == w.best_penalty,
+                  "refusal %u, visits %u", a.refusal, a.visits);
             CHECK(untouched(&gb) && untouched(&gw), "a refusal wrote");
             return;
         }
@@ -51,9 +57,10 @@ static void against_rules(int r, int m, uint32_t allowed, const int16_t *l, unsi
     } else {
         at_once++;
     }
-    CHECK(a.refusal == 0 && a.visits == 0 && a.penalty == ref_penalty((int)n, l, word), "refusal %u, visits %u, penalty %u", a.refusal, a.visits,
-          a.penalty);
-    CHECK(memcmp(contents(&gb), bits, k) == 0 && memcmp(contents(&gw), word, n) == 0, "another word");
+    CHECK(a.refusal == 0 && a.visits == 0 && a.penalty == ref_penalty((int)n, l, word),
+          "refusal %u, visits %u, penalty %u", a.refusal, a.visits, a.penalty);
+    CHECK(memcmp(contents(&gb), bits, k) == 0 && memcmp(contents(&gw), word, n) == 0,
+          "another word");
     CHECK(only_first(&gb, k) && only_first(&gw, n), "wrote outside");
 }
 
@@ -61,12 +68,17 @@ static void against_rules(int r, int m, uint32_t allowed, const int16_t *l, unsi
 static void against_brute_force(int r, int m, const int16_t *l) {
     size_t n = (size_t)1 << m, k = (size_t)ref_k(r, m);
     ref_best_t b = ref_best(r, m, l);
-    answer a = early_within((uint32_t)r, (uint32_t)m, UINT32_MAX, l, n, contents(&gb), k, contents(&gw), n);
-    CHECK(a.refusal == (b.least == b.next ? 7u : 0u) && a.penalty == b.least, "refusal %u, penalty %u of %lld", a.refusal, a.penalty, b.least);
-    if (a.refusal == 0) CHECK(memcmp(contents(&gb), b.bits, k) == 0 && memcmp(contents(&gw), b.word, n) == 0, "another word");
+    answer a = early_within((uint32_t)r, (uint32_t)m, UINT32_MAX, l, n, contents(&gb), k,
+                            contents(&gw), n);
+    CHECK(a.refusal == (b.least == b.next ? 7u : 0u) && a.penalty == b.least,
+          "refusal %u, penalty %u of %lld", a.refusal, a.penalty, b.least);
+    if (a.refusal == 0)
+        CHECK(memcmp(contents(&gb), b.bits, k) == 0 && memcmp(contents(&gw), b.word, n) == 0,
+              "another word");
 }
 
-/* a word's signs: of one size with some bits wrong; with noise, clipped at the word's size; with noise, not clipped; small; all rims; zeros */
+/* a word's signs: of one size with some bits wrong; with noise, clipped at the word's size; with
+ * noise, not clipped; small; all rims; zeros */
 static void make_readings(int r, int m, int kind, int16_t *l) {
     int n = 1 << m, size = random_between(1, random_below(2) ? 300 : LARGEST / 3 * 2);
     uint8_t x[256];
@@ -102,27 +114,34 @@ static void all_codes(void) {
             end();
         }
     begin("both ways, both refusals");
-    CHECK(at_once > 500 && searched > 500 && out_of_visits > 500 && tied > 50, "%lu at once, %lu searched, %lu out of visits, %lu tied", at_once,
-          searched, out_of_visits, tied);
+    CHECK(at_once > 500 && searched > 500 && out_of_visits > 500 && tied > 50,
+          "%lu at once, %lu searched, %lu out of visits, %lu tied", at_once, searched,
+          out_of_visits, tied);
     end();
 }
 
-/* RM(1,2), readings -1 1 1 1: the sum of 0000 is the bound itself, so the search is asked, and finds a tie */
+/* RM(1,2), readings -1 1 1 1: the sum of 0000 is the bound itself, so the search is asked, and
+ * finds a tie */
 static void at_the_bound(void) {
     static const int16_t bound[4] = {-1, 1, 1, 1}, below[4] = {-1, 2, 2, 2}, none[4] = {0, 0, 0, 0};
     begin("the bound itself, just below it, and no size at all");
     arm(&gb);
     arm(&gw);
     answer a = early_within(1, 2, 0, bound, 4, contents(&gb), 3, contents(&gw), 4);
-    CHECK(a.refusal == 6 && a.visits == 0 && untouched(&gb) && untouched(&gw), "refusal %u", a.refusal);
+    CHECK(a.refusal == 6 && a.visits == 0 && untouched(&gb) && untouched(&gw), "refusal %u",
+          a.refusal);
     a = early(1, 2, bound, 4, contents(&gb), 3, contents(&gw), 4);
-    CHECK(a.refusal == 7 && a.penalty == 1 && a.visits == 9 && untouched(&gb) && untouched(&gw), "refusal %u", a.refusal);
+    CHECK(a.refusal == 7 && a.penalty == 1 && a.visits == 9 && untouched(&gb) && untouched(&gw),
+          "refusal %u", a.refusal);
     a = early_within(1, 2, 6, none, 4, contents(&gb), 3, contents(&gw), 4);
-    CHECK(a.refusal == 6 && a.visits == 6 && a.penalty == 0 && untouched(&gb) && untouched(&gw), "refusal %u", a.refusal);
+    CHECK(a.refusal == 6 && a.visits == 6 && a.penalty == 0 && untouched(&gb) && untouched(&gw),
+          "refusal %u", a.refusal);
     a = early_within(1, 2, 7, none, 4, contents(&gb), 3, contents(&gw), 4);
-    CHECK(a.refusal == 7 && a.visits == 7 && a.penalty == 0 && untouched(&gb) && untouched(&gw), "refusal %u", a.refusal);
+    CHECK(a.refusal == 7 && a.visits == 7 && a.penalty == 0 && untouched(&gb) && untouched(&gw),
+          "refusal %u", a.refusal);
     a = early_within(1, 2, 0, below, 4, contents(&gb), 3, contents(&gw), 4);
-    CHECK(a.refusal == 0 && a.penalty == 1 && a.gap == 0 && a.visits == 0, "refusal %u, penalty %u", a.refusal, a.penalty);
+    CHECK(a.refusal == 0 && a.penalty == 1 && a.gap == 0 && a.visits == 0, "refusal %u, penalty %u",
+          a.refusal, a.penalty);
     end();
 }
 
@@ -135,13 +154,14 @@ static void short_call(void) {
         for (int j = 0; j < 256; j++) l[j] = random_below(2) ? 1 : -1;
         a = early(3, 8, l, 256, contents(&gb), 93, contents(&gw), 256);
     }
-    CHECK(a.refusal == 6 && a.visits == CINORBIS_DEFAULT_ALLOWANCE, "refusal %u, visits %u", a.refusal, a.visits);
+    CHECK(a.refusal == 6 && a.visits == CINORBIS_DEFAULT_ALLOWANCE, "refusal %u, visits %u",
+          a.refusal, a.visits);
     end();
 }
 
 static void refused(answer a, uint32_t number, uint32_t place) {
-    CHECK(a.refusal == number && a.place == place && a.penalty == 0 && a.gap == 0 && a.visits == 0, "%u at %u, not %u at %u", a.refusal, a.place,
-          number, place);
+    CHECK(a.refusal == number && a.place == place && a.penalty == 0 && a.gap == 0 && a.visits == 0,
+          "%u at %u, not %u at %u", a.refusal, a.place, number, place);
     CHECK(untouched(&gb) && untouched(&gw), "wrote");
 }
 
@@ -151,19 +171,24 @@ static void faults(void) {
     for (int m = 0; m <= 4; m++)
         for (int r = 0; r <= m; r++)
             for (int mixture = 1; mixture < 2 * 4 * 4 * 4 * 2; mixture++) {
-                int code = mixture & 1, entry = mixture >> 7, in = off[mixture >> 1 & 3], ob = off[mixture >> 3 & 3], ow = off[mixture >> 5 & 3];
+                int code = mixture & 1, entry = mixture >> 7, in = off[mixture >> 1 & 3],
+                    ob = off[mixture >> 3 & 3], ow = off[mixture >> 5 & 3];
                 int n = 1 << m, k = ref_k(r, m), at = random_below(n);
                 int16_t l[32];
                 for (int j = 0; j < 32; j++) l[j] = random_reading();
                 if (entry) l[at] = l[31] = INT16_MIN;
                 uint32_t expected = code ? 1 : in ? 2 : ob || ow ? 3 : entry ? 4 : 0;
                 if (expected == 0) continue;
-                uint32_t R = code ? (uint32_t)m + 1 + (uint32_t)random_below(9) : (uint32_t)r, place = expected == 4 ? (uint32_t)at : 0;
+                uint32_t R = code ? (uint32_t)m + 1 + (uint32_t)random_below(9) : (uint32_t)r,
+                         place = expected == 4 ? (uint32_t)at : 0;
                 arm(&gb);
                 arm(&gw);
-                refused(early_within(R, (uint32_t)m, UINT32_MAX, l, (size_t)(n + in), contents(&gb), (size_t)(k + ob), contents(&gw), (size_t)(n + ow)),
+                refused(early_within(R, (uint32_t)m, UINT32_MAX, l, (size_t)(n + in), contents(&gb),
+                                     (size_t)(k + ob), contents(&gw), (size_t)(n + ow)),
                         expected, place);
-                refused(early(R, (uint32_t)m, l, (size_t)(n + in), contents(&gb), (size_t)(k + ob), contents(&gw), (size_t)(n + ow)), expected, place);
+                refused(early(R, (uint32_t)m, l, (size_t)(n + in), contents(&gb), (size_t)(k + ob),
+                              contents(&gw), (size_t)(n + ow)),
+                        expected, place);
             }
     refused(early(0, 9, (int16_t[1]){0}, 1, contents(&gb), 1, contents(&gw), 1), 1, 0);
     end();

@@ -22,7 +22,8 @@ static void to_row(const char *text, uint8_t *row) {
 
 static answer run(uint32_t r, uint32_t m, uint32_t allowed, const int16_t *l) {
     wipe();
-    return search_within(r, m, allowed, l, 1u << m, bits, (size_t)ref_k((int)r, (int)m), word, 1u << m);
+    return search_within(r, m, allowed, l, 1u << m, bits, (size_t)ref_k((int)r, (int)m), word,
+                         1u << m);
 }
 
 static void encodes(uint32_t r, uint32_t m, const char *information, const char *expected) {
@@ -48,7 +49,8 @@ static void dimension(uint32_t r, uint32_t m, size_t k) {
 }
 
 int main(void) {
-    const int16_t sample[4] = {5, -2, 3, 1}, negated[4] = {-5, 2, -3, -1}, three[1] = {3}, zero[1] = {0};
+    const int16_t sample[4] = {5, -2, 3, 1}, negated[4] = {-5, 2, -3, -1}, three[1] = {3},
+                  zero[1] = {0};
     answer a;
 
     dimension(0, 0, 1);
@@ -68,24 +70,28 @@ int main(void) {
         ref_word(3, u, x);
         a = inverse(1, 3, x, 8, bits, 4);
         int information = i == 3 || i == 5 || i == 6 || i == 7;
-        CHECK(information ? a.refusal == 0 : a.refusal == 5 && a.place == (uint64_t)i, "index %d", i);
+        CHECK(information ? a.refusal == 0 : a.refusal == 5 && a.place == (uint64_t)i, "index %d",
+              i);
     }
     end();
 
     begin("RM(1,2), word 1000 is refused as 5 at index 0");
     to_row("1000", word);
     a = inverse(1, 2, word, 4, bits, 3);
-    CHECK(a.refusal == 5 && a.place == 0 && a.penalty == 0 && a.gap == 0 && a.visits == 0, "%u", a.refusal);
+    CHECK(a.refusal == 5 && a.place == 0 && a.penalty == 0 && a.gap == 0 && a.visits == 0, "%u",
+          a.refusal);
     end();
 
     begin("RM(1,2), readings 5 -2 3 1");
     a = run(1, 2, 1000000, sample);
     CHECK(a.refusal == 0 && is(bits, "011") && is(word, "0101"), "%u", a.refusal);
-    CHECK(a.penalty == 1 && a.gap == 1 && a.visits == 9 && a.place == 0, "%u %u %u", a.penalty, a.gap, a.visits);
+    CHECK(a.penalty == 1 && a.gap == 1 && a.visits == 9 && a.place == 0, "%u %u %u", a.penalty,
+          a.gap, a.visits);
     a = run(1, 2, 9, sample);
     CHECK(a.refusal == 0 && a.visits == 9, "allowance 9: %u", a.refusal);
     a = run(1, 2, 8, sample);
-    CHECK(a.refusal == 6 && a.visits == 8 && a.penalty == 0 && a.gap == 0, "allowance 8: %u", a.refusal);
+    CHECK(a.refusal == 6 && a.visits == 8 && a.penalty == 0 && a.gap == 0, "allowance 8: %u",
+          a.refusal);
     CHECK(bits[0] == 7 && word[0] == 7, "written under 6");
     a = run(1, 2, 0, sample);
     CHECK(a.refusal == 6 && a.visits == 0, "allowance 0: %u", a.refusal);
@@ -95,14 +101,19 @@ int main(void) {
 
     begin("the same negated");
     a = run(1, 2, 1000000, negated);
-    CHECK(a.refusal == 0 && is(bits, "010") && is(word, "1010") && a.penalty == 1 && a.gap == 1, "%u", a.refusal);
+    CHECK(a.refusal == 0 && is(bits, "010") && is(word, "1010") && a.penalty == 1 && a.gap == 1,
+          "%u", a.refusal);
     end();
 
     begin("RM(0,0), reading 3 and reading 0");
     a = run(0, 0, 2, three);
-    CHECK(a.refusal == 0 && bits[0] == 0 && word[0] == 0 && a.penalty == 0 && a.gap == 3 && a.visits == 2, "%u", a.refusal);
+    CHECK(a.refusal == 0 && bits[0] == 0 && word[0] == 0 && a.penalty == 0 && a.gap == 3 &&
+              a.visits == 2,
+          "%u", a.refusal);
     a = run(0, 0, 2, zero);
-    CHECK(a.refusal == 7 && a.penalty == 0 && a.gap == 0 && a.visits == 2 && bits[0] == 7 && word[0] == 7, "%u", a.refusal);
+    CHECK(a.refusal == 7 && a.penalty == 0 && a.gap == 0 && a.visits == 2 && bits[0] == 7 &&
+              word[0] == 7,
+          "%u", a.refusal);
     a = run(0, 0, 1, zero);
     CHECK(a.refusal == 6 && a.visits == 1, "%u", a.refusal);
     end();
@@ -112,7 +123,9 @@ int main(void) {
         for (uint32_t r = 0; r <= m; r++) {
             int16_t l[256] = {0};
             a = run(r, m, 1000000, l);
-            CHECK(a.refusal == 7 && a.penalty == 0 && a.visits == (1u << m) + (unsigned)ref_k((int)r, (int)m), "RM(%u,%u)", r, m);
+            CHECK(a.refusal == 7 && a.penalty == 0 &&
+                      a.visits == (1u << m) + (unsigned)ref_k((int)r, (int)m),
+                  "RM(%u,%u)", r, m);
         }
     end();
 
@@ -134,7 +147,8 @@ int main(void) {
     CHECK(search(8, 8, many, 256, bits, 256, word, 256).refusal == 0, "m = 8, r = 8");
     CHECK(search(8, 9, many, 512, bits, 256, word, 256).refusal == 1, "m = 9");
     CHECK(search(3, 2, many, 4, bits, 4, word, 4).refusal == 1, "r = m + 1");
-    CHECK(search(UINT32_MAX, UINT32_MAX, many, 4, bits, 4, word, 4).refusal == 1, "largest r and m");
+    CHECK(search(UINT32_MAX, UINT32_MAX, many, 4, bits, 4, word, 4).refusal == 1,
+          "largest r and m");
     CHECK(search(0, UINT32_MAX, many, 4, bits, 4, word, 4).refusal == 1, "largest m");
     end();
 
@@ -146,12 +160,14 @@ int main(void) {
     CHECK(a.refusal == 0 && is(word, "10"), "the quick reading too");
     const int16_t pair[8] = {1, 1, 0, -1, 0, 0, 1, 0};
     a = run(1, 3, 1000, pair);
-    CHECK(a.refusal == 0 && is(bits, "1100") && a.penalty == 0 && a.gap == 1 && a.visits == 21, "a better one after the first equal pair");
+    CHECK(a.refusal == 0 && is(bits, "1100") && a.penalty == 0 && a.gap == 1 && a.visits == 21,
+          "a better one after the first equal pair");
     const int16_t missed[8] = {0, 0, 0, -1, 1, 1, 1, 0};
     a = quick(1, 3, missed, 8, bits, 4, word, 8);
     CHECK(a.refusal == 0 && is(word, "00000000") && a.penalty == 1, "the quick reading may miss");
     a = run(1, 3, 1000, missed);
-    CHECK(a.refusal == 0 && is(word, "11110000") && a.penalty == 0 && a.gap == 1 && a.visits == 21, "the search does not");
+    CHECK(a.refusal == 0 && is(word, "11110000") && a.penalty == 0 && a.gap == 1 && a.visits == 21,
+          "the search does not");
     end();
 
     begin("the premise of demand 3 is needed: 25 visits against 21");

@@ -1,15 +1,19 @@
-/* First-order words: the call against all 2^(m+1) words by their definition as polynomials of degree at most one, and against the search. */
+/* First-order words: the call against all 2^(m+1) words by their definition as polynomials of
+ * degree at most one, and against the search. */
 #include "call.h"
 #include "check.h"
 
 static guarded gb, gw;
 
-static answer first_order(uint32_t r, uint32_t m, const int16_t *l, size_t n_, uint8_t *bits, size_t k, uint8_t *word, size_t w) {
+static answer first_order(uint32_t r, uint32_t m, const int16_t *l, size_t n_, uint8_t *bits,
+                          size_t k, uint8_t *word, size_t w) {
     CALL(cinorbis_first_order, r, m, l, n_, bits, k, word, w);
 }
 
 /* bit j of the word a_0 + a_1 j_0 + .. + a_m j_(m-1), with a_i as bit i of name */
-static int value(unsigned name, unsigned j) { return (__builtin_parity((name >> 1) & j) + (int)(name & 1)) % 2; }
+static int value(unsigned name, unsigned j) {
+    return (__builtin_parity((name >> 1) & j) + (int)(name & 1)) % 2;
+}
 
 /* least and next penalty of all words, and the name of one with the least */
 static unsigned brute(int m, const int16_t *l, uint32_t *least, uint32_t *next) {
@@ -18,7 +22,8 @@ static unsigned brute(int m, const int16_t *l, uint32_t *least, uint32_t *next) 
     for (unsigned name = 0; name < 2u << m; name++) {
         uint32_t p = 0;
         for (unsigned j = 0; j < 1u << m; j++)
-            if ((l[j] > 0 && value(name, j)) || (l[j] < 0 && !value(name, j))) p += (uint32_t)(l[j] < 0 ? -l[j] : l[j]);
+            if ((l[j] > 0 && value(name, j)) || (l[j] < 0 && !value(name, j)))
+                p += (uint32_t)(l[j] < 0 ? -l[j] : l[j]);
         if (p < *least) {
             *next = *least;
             *least = p;
@@ -44,17 +49,23 @@ static void compared(int m, int largest, int rounds) {
         arm(&gw);
         answer a = first_order(1, (uint32_t)m, l, n, contents(&gb), k, contents(&gw), n);
         answer s = search_within(1, (uint32_t)m, UINT32_MAX, l, n, bits, k, word, n);
-        CHECK(a.refusal == s.refusal && a.penalty == s.penalty && a.gap == s.gap, "%u %u %u", a.refusal, a.penalty, a.gap);
-        CHECK(a.penalty == least && a.visits == 0 && a.place == 0, "penalty %u of %u, visits %u", a.penalty, least, a.visits);
+        CHECK(a.refusal == s.refusal && a.penalty == s.penalty && a.gap == s.gap, "%u %u %u",
+              a.refusal, a.penalty, a.gap);
+        CHECK(a.penalty == least && a.visits == 0 && a.place == 0, "penalty %u of %u, visits %u",
+              a.penalty, least, a.visits);
         if (least == next) {
             tied++;
-            CHECK(a.refusal == CINORBIS_TIED && a.gap == 0 && untouched(&gb) && untouched(&gw), "a tie");
+            CHECK(a.refusal == CINORBIS_TIED && a.gap == 0 && untouched(&gb) && untouched(&gw),
+                  "a tie");
             continue;
         }
         found++;
-        CHECK(a.refusal == CINORBIS_DONE && a.gap == next - least, "gap %u of %u", a.gap, next - least);
-        for (size_t j = 0; j < n; j++) CHECK(contents(&gw)[j] == value(best, (unsigned)j), "word bit %zu", j);
-        CHECK(memcmp(contents(&gb), bits, k) == 0 && memcmp(contents(&gw), word, n) == 0, "not as the search");
+        CHECK(a.refusal == CINORBIS_DONE && a.gap == next - least, "gap %u of %u", a.gap,
+              next - least);
+        for (size_t j = 0; j < n; j++)
+            CHECK(contents(&gw)[j] == value(best, (unsigned)j), "word bit %zu", j);
+        CHECK(memcmp(contents(&gb), bits, k) == 0 && memcmp(contents(&gw), word, n) == 0,
+              "not as the search");
         CHECK(only_first(&gb, k) && only_first(&gw, n), "wrote beyond the buffers");
     }
     CHECK(found > 0 && (largest > 1 || tied > 0), "%d found, %d tied", found, tied);
@@ -63,7 +74,8 @@ static void compared(int m, int largest, int rounds) {
 
 static void refused(const char *what, answer a, uint32_t number, uint32_t place) {
     begin("refused: %s", what);
-    CHECK(a.refusal == number && a.place == place && a.penalty == 0 && a.gap == 0 && a.visits == 0, "%u at %u", a.refusal, a.place);
+    CHECK(a.refusal == number && a.place == place && a.penalty == 0 && a.gap == 0 && a.visits == 0,
+          "%u at %u", a.refusal, a.place);
     CHECK(untouched(&gb) && untouched(&gw), "wrote");
     end();
 }

@@ -1,17 +1,20 @@
-/* The search of floats beside the search of the whole numbers that they are: all codes, minus zeros among them, allowances from none to all, every number and
- * every byte compared. What is no reading, at chosen places and several at once; the order of several faults. An entry by its bits: `floats all` tries every
- * one of the 2^32 (by hand: some minutes), else one in some thousands. */
+/* The search of floats beside the search of the whole numbers that they are: all codes, minus zeros
+ * among them, allowances from none to all, every number and every byte compared. What is no
+ * reading, at chosen places and several at once; the order of several faults. An entry by its bits:
+ * `floats all` tries every one of the 2^32 (by hand: some minutes), else one in some thousands. */
 #include "call.h"
 #include "check.h"
 #include "reference.h"
 
 static guarded gb, gw, gs, hb, hw, hs;
 
-static answer search_float(uint32_t r, uint32_t m, const float *l, size_t n_, uint8_t *bits, size_t k, uint8_t *word, size_t w, uint8_t *second) {
+static answer search_float(uint32_t r, uint32_t m, const float *l, size_t n_, uint8_t *bits,
+                           size_t k, uint8_t *word, size_t w, uint8_t *second) {
     CALL(cinorbis_search_float, r, m, l, n_, bits, k, word, w, second);
 }
 
-static answer search_float_within(uint32_t r, uint32_t m, uint32_t allowed, const float *l, size_t n_, uint8_t *bits, size_t k, uint8_t *word, size_t w,
+static answer search_float_within(uint32_t r, uint32_t m, uint32_t allowed, const float *l,
+                                  size_t n_, uint8_t *bits, size_t k, uint8_t *word, size_t w,
                                   uint8_t *second) {
     CALL(cinorbis_search_float_within, r, m, allowed, l, n_, bits, k, word, w, second);
 }
@@ -33,11 +36,13 @@ static int is_reading(uint32_t bits) {
 
 /* the same numbers; minus zero for some of the zeros */
 static void as_floats(int n, const int16_t *l, float *f) {
-    for (int j = 0; j < n; j++) f[j] = l[j] == 0 && random_below(2) ? by_bits(0x80000000) : (float)l[j];
+    for (int j = 0; j < n; j++)
+        f[j] = l[j] == 0 && random_below(2) ? by_bits(0x80000000) : (float)l[j];
 }
 
 static int same(answer a, answer b) {
-    return a.refusal == b.refusal && a.penalty == b.penalty && a.gap == b.gap && a.visits == b.visits && a.place == b.place;
+    return a.refusal == b.refusal && a.penalty == b.penalty && a.gap == b.gap &&
+           a.visits == b.visits && a.place == b.place;
 }
 
 static unsigned long found, out_of_visits, tied;
@@ -53,8 +58,8 @@ static void arm_both(void) {
 }
 
 static void compare_buffers(answer a, answer b) {
-    CHECK(same(a, b), "floats %u %u %u %u %u, whole numbers %u %u %u %u %u", a.refusal, a.penalty, a.gap, a.visits, a.place, b.refusal, b.penalty, b.gap, b.visits,
-          b.place);
+    CHECK(same(a, b), "floats %u %u %u %u %u, whole numbers %u %u %u %u %u", a.refusal, a.penalty,
+          a.gap, a.visits, a.place, b.refusal, b.penalty, b.gap, b.visits, b.place);
     CHECK(memcmp(gb.all, hb.all, sizeof gb.all) == 0, "other bits");
     CHECK(memcmp(gw.all, hw.all, sizeof gw.all) == 0, "another word");
     CHECK(memcmp(gs.all, hs.all, sizeof gs.all) == 0, "another runner-up");
@@ -65,13 +70,17 @@ static answer beside(int r, int m, uint32_t allowed, const int16_t *l) {
     float f[256];
     as_floats((int)n, l, f);
     arm_both();
-    answer a = search_float_within((uint32_t)r, (uint32_t)m, allowed, f, n, contents(&gb), k, contents(&gw), n, contents(&gs));
-    answer b = search_within_second((uint32_t)r, (uint32_t)m, allowed, l, n, contents(&hb), k, contents(&hw), n, contents(&hs));
+    answer a = search_float_within((uint32_t)r, (uint32_t)m, allowed, f, n, contents(&gb), k,
+                                   contents(&gw), n, contents(&gs));
+    answer b = search_within_second((uint32_t)r, (uint32_t)m, allowed, l, n, contents(&hb), k,
+                                    contents(&hw), n, contents(&hs));
     compare_buffers(a, b);
     if (allowed == CINORBIS_DEFAULT_ALLOWANCE) {
         arm_both();
-        a = search_float((uint32_t)r, (uint32_t)m, f, n, contents(&gb), k, contents(&gw), n, contents(&gs));
-        b = search_second((uint32_t)r, (uint32_t)m, l, n, contents(&hb), k, contents(&hw), n, contents(&hs));
+        a = search_float((uint32_t)r, (uint32_t)m, f, n, contents(&gb), k, contents(&gw), n,
+                         contents(&gs));
+        b = search_second((uint32_t)r, (uint32_t)m, l, n, contents(&hb), k, contents(&hw), n,
+                          contents(&hs));
         compare_buffers(a, b);
     }
     found += a.refusal == 0;
@@ -113,14 +122,17 @@ static void all_codes(void) {
             end();
         }
     begin("found, both refusals");
-    CHECK(found > 1000 && out_of_visits > 1000 && tied > 50, "%lu found, %lu out of visits, %lu tied", found, out_of_visits, tied);
+    CHECK(found > 1000 && out_of_visits > 1000 && tied > 50,
+          "%lu found, %lu out of visits, %lu tied", found, out_of_visits, tied);
     end();
 }
 
 /* fractions, subnormals, beyond either end, halves near 2^23, infinities, NaNs */
-static const uint32_t bad[] = {0x3f000000, 0xbf000000, 0x00000001, 0x80000001, 0x007fffff, 0x00800000, 0x3dcccccd, 0x3f800001, 0xbf7fffff, 0x46fffeff,
-                               0x46ffff00, 0x47000000, 0xc7000000, 0xc6ffff00, 0x4b000000, 0xcafffffe, 0x4b400000, 0x4b800000, 0xcb800000, 0x5f000000,
-                               0x7f7fffff, 0xff7fffff, 0x7f800000, 0xff800000, 0x7fc00000, 0xffc00000, 0x7f800001, 0xff800001, 0x7fffffff, 0xffffffff};
+static const uint32_t bad[] = {
+    0x3f000000, 0xbf000000, 0x00000001, 0x80000001, 0x007fffff, 0x00800000, 0x3dcccccd, 0x3f800001,
+    0xbf7fffff, 0x46fffeff, 0x46ffff00, 0x47000000, 0xc7000000, 0xc6ffff00, 0x4b000000, 0xcafffffe,
+    0x4b400000, 0x4b800000, 0xcb800000, 0x5f000000, 0x7f7fffff, 0xff7fffff, 0x7f800000, 0xff800000,
+    0x7fc00000, 0xffc00000, 0x7f800001, 0xff800001, 0x7fffffff, 0xffffffff};
 #define BAD (sizeof bad / sizeof bad[0])
 
 /* refused as 4 at this place, all else as it was */
@@ -129,8 +141,10 @@ static void refused_at(int r, int m, uint32_t allowed, const float *f, size_t pl
     arm(&gb);
     arm(&gw);
     arm(&gs);
-    answer a = search_float_within((uint32_t)r, (uint32_t)m, allowed, f, n, contents(&gb), k, contents(&gw), n, contents(&gs));
-    CHECK(a.refusal == 4 && a.place == place && a.penalty == 0 && a.gap == 0 && a.visits == 0, "refusal %u, place %u of %zu", a.refusal, a.place, place);
+    answer a = search_float_within((uint32_t)r, (uint32_t)m, allowed, f, n, contents(&gb), k,
+                                   contents(&gw), n, contents(&gs));
+    CHECK(a.refusal == 4 && a.place == place && a.penalty == 0 && a.gap == 0 && a.visits == 0,
+          "refusal %u, place %u of %zu", a.refusal, a.place, place);
     CHECK(untouched(&gb) && untouched(&gw) && only_first(&gs, 256), "a refusal wrote");
     for (size_t i = 0; i < 256; i++) CHECK(contents(&gs)[i] == 0, "a runner-up under a refusal");
 }
@@ -164,14 +178,22 @@ static void several_faults(void) {
         uint32_t r = 2, m = faults & 1 ? 9 : 5;
         size_t n = faults & 2 ? 31 : 32, k = faults & 4 ? 17 : 16;
         f[3] = faults & 8 ? by_bits(0x7fc00000) : 1;
-        uint32_t expected = faults & 1 ? 1 : faults & 2 ? 2 : faults & 4 ? 3 : faults & 8 ? 4 : faults & 16 ? 6 : 0;
+        uint32_t expected = faults & 1    ? 1
+                            : faults & 2  ? 2
+                            : faults & 4  ? 3
+                            : faults & 8  ? 4
+                            : faults & 16 ? 6
+                                          : 0;
         arm(&gb);
         arm(&gw);
         arm(&gs);
-        answer a = search_float_within(r, m, faults & 16 ? 0 : UINT32_MAX, f, n, contents(&gb), k, contents(&gw), 32, contents(&gs));
-        CHECK(a.refusal == expected || (expected == 0 && a.refusal == 7), "faults %d: refusal %u, not %u", faults, a.refusal, expected);
+        answer a = search_float_within(r, m, faults & 16 ? 0 : UINT32_MAX, f, n, contents(&gb), k,
+                                       contents(&gw), 32, contents(&gs));
+        CHECK(a.refusal == expected || (expected == 0 && a.refusal == 7),
+              "faults %d: refusal %u, not %u", faults, a.refusal, expected);
         CHECK(a.place == (expected == 4 ? 3u : 0u), "faults %d: place %u", faults, a.place);
-        if (a.refusal) CHECK(untouched(&gb) && untouched(&gw), "faults %d: a refusal wrote", faults);
+        if (a.refusal)
+            CHECK(untouched(&gb) && untouched(&gw), "faults %d: a refusal wrote", faults);
     }
     end();
 }
@@ -189,7 +211,8 @@ static unsigned long entry(uint32_t bits) {
 static void entries(int all) {
     begin("%s entry by its bits", all ? "every" : "an");
     unsigned long passed = 0;
-    for (uint64_t bits = 0; bits < (uint64_t)1 << 32; bits += all ? 1 : 4093) passed += entry((uint32_t)bits);
+    for (uint64_t bits = 0; bits < (uint64_t)1 << 32; bits += all ? 1 : 4093)
+        passed += entry((uint32_t)bits);
     for (int z = -LARGEST - 1; z <= LARGEST + 1 && !all; z++) {
         float x = (float)z;
         uint32_t bits;

@@ -1,5 +1,5 @@
-/* Words and nearest words made by GAP's package GUAVA (tests/golden/guava.txt): encode, inverse, and the search of hard readings.
- * golden FILE LINES: the file must have just so many lines. */
+/* Words and nearest words made by GAP's package GUAVA (tests/golden/guava.txt): encode, inverse,
+ * and the search of hard readings. golden FILE LINES: the file must have just so many lines. */
 #include "call.h"
 #include "check.h"
 #include "reference.h"
@@ -36,12 +36,14 @@ int main(int argc, char **argv) {
                 errors += x[j] != y[j];
             }
             answer s = search_within(r, m, UINT32_MAX, l, n, bits, k, word, n);
-            CHECK(s.refusal == 0 && memcmp(word, y, n) == 0 && s.penalty == errors, "search: %u, penalty %u of %u", s.refusal, s.penalty, errors);
+            CHECK(s.refusal == 0 && memcmp(word, y, n) == 0 && s.penalty == errors,
+                  "search: %u, penalty %u of %u", s.refusal, s.penalty, errors);
         }
         end();
     }
     begin("every line is read");
-    CHECK(feof(f) && cases_passed + cases_failed == strtoul(argv[2], NULL, 10), "%lu lines", cases_passed + cases_failed);
+    CHECK(feof(f) && cases_passed + cases_failed == strtoul(argv[2], NULL, 10), "%lu lines",
+          cases_passed + cases_failed);
     end();
     fclose(f);
     return finish();

@@ -1,6 +1,7 @@
-/* The index of a capture against a reference that shares nothing with the library: a list of starts made by the text of the rules, captures that are
- * whole, torn or damaged, own and foreign tables, every record's number and far beyond, several faults at once, appends one after another; the front of
- * any bytes at all, and every longer part of them. */
+/* The index of a capture against a reference that shares nothing with the library: a list of starts
+ * made by the text of the rules, captures that are whole, torn or damaged, own and foreign tables,
+ * every record's number and far beyond, several faults at once, appends one after another; the
+ * front of any bytes at all, and every longer part of them. */
 #include "call.h"
 #include "check.h"
 
@@ -9,7 +10,8 @@
 #define ENTRIES 200
 #define EDGE 8
 
-/* ---- the reference: a first byte's upper half is m, its lower half r; 12 bits for each reading, to a whole byte */
+/* ---- the reference: a first byte's upper half is m, its lower half r; 12 bits for each reading,
+ * to a whole byte */
 static cinorbis_size bytes_of(uint8_t first) {
     unsigned m = first / 16, r = first % 16;
     return m > 8 || r > m ? 0 : 1 + ((12u << m) + 7) / 8;
@@ -26,7 +28,8 @@ static uint32_t one_step(const uint8_t *s, cinorbis_size n, cinorbis_size at, ci
 }
 
 /* all starts, or the first refusal */
-static uint32_t all_starts(const uint8_t *s, cinorbis_size n, cinorbis_size *starts, cinorbis_size *count) {
+static uint32_t all_starts(const uint8_t *s, cinorbis_size n, cinorbis_size *starts,
+                           cinorbis_size *count) {
     cinorbis_size at = 0;
     for (*count = 0; at < n; ++*count) {
         cinorbis_size next = 0;
@@ -38,7 +41,8 @@ static uint32_t all_starts(const uint8_t *s, cinorbis_size n, cinorbis_size *sta
     return 0;
 }
 
-/* the whole records at the front: their starts, the bytes that they use, and the refusal that ends them */
+/* the whole records at the front: their starts, the bytes that they use, and the refusal that ends
+ * them */
 static uint32_t at_front(const uint8_t *s, size_t n, size_t *starts, size_t *count, size_t *used) {
     uint32_t why = 0;
     size_t next = 0;
@@ -50,7 +54,8 @@ static uint32_t at_front(const uint8_t *s, size_t n, size_t *starts, size_t *cou
 }
 
 /* record w by a table */
-static uint32_t by_table(const uint8_t *s, cinorbis_size n, const cinorbis_size *t, cinorbis_size entries, cinorbis_size w, cinorbis_size *start) {
+static uint32_t by_table(const uint8_t *s, cinorbis_size n, const cinorbis_size *t,
+                         cinorbis_size entries, cinorbis_size w, cinorbis_size *start) {
     if (w / 16 >= entries) return 10;
     cinorbis_size at = t[w / 16];
     if (at >= n) return 8;
@@ -68,7 +73,8 @@ static uint32_t by_table(const uint8_t *s, cinorbis_size n, const cinorbis_size 
 }
 
 /* record w from the beginning */
-static uint32_t from_beginning(const uint8_t *s, cinorbis_size n, cinorbis_size w, cinorbis_size *start) {
+static uint32_t from_beginning(const uint8_t *s, cinorbis_size n, cinorbis_size w,
+                               cinorbis_size *start) {
     cinorbis_size zero = 0, at = 0;
     for (cinorbis_size j = w; j > 0; j--) {
         uint32_t why = one_step(s, n, at, &at);
@@ -81,16 +87,21 @@ static uint32_t from_beginning(const uint8_t *s, cinorbis_size n, cinorbis_size 
 
 /* ---- buffers with guards */
 static uint8_t capture[EDGE + BYTES + EDGE], capture_before[EDGE + BYTES + EDGE];
-static cinorbis_size table[EDGE + ENTRIES + EDGE], table_before[EDGE + ENTRIES + EDGE], starts[STARTS];
+static cinorbis_size table[EDGE + ENTRIES + EDGE], table_before[EDGE + ENTRIES + EDGE],
+    starts[STARTS];
 
 static void keep(void) {
     memcpy(capture_before, capture, sizeof capture);
     memcpy(table_before, table, sizeof table);
 }
 
-static int kept(void) { return memcmp(capture_before, capture, sizeof capture) == 0 && memcmp(table_before, table, sizeof table) == 0; }
+static int kept(void) {
+    return memcmp(capture_before, capture, sizeof capture) == 0 &&
+           memcmp(table_before, table, sizeof table) == 0;
+}
 
-/* a record of k bytes and its entry were added to what was kept, and nothing else; both are taken off again */
+/* a record of k bytes and its entry were added to what was kept, and nothing else; both are taken
+ * off again */
 static void only_appended(cinorbis_index before, cinorbis_size k) {
     memcpy(capture + EDGE + before.used, capture_before + EDGE + before.used, k);
     if (before.records % 16 == 0) {
@@ -102,7 +113,8 @@ static void only_appended(cinorbis_index before, cinorbis_size k) {
 
 static void scramble(void) {
     for (cinorbis_size i = 0; i < sizeof capture; i++) capture[i] = (uint8_t)random64();
-    for (cinorbis_size i = 0; i < sizeof table / sizeof table[0]; i++) table[i] = (cinorbis_size)random64();
+    for (cinorbis_size i = 0; i < sizeof table / sizeof table[0]; i++)
+        table[i] = (cinorbis_size)random64();
 }
 
 /* so many whole records of small codes; pads are arbitrary. Gives the bytes. */
@@ -117,16 +129,20 @@ static cinorbis_size fill(cinorbis_size records) {
     return at;
 }
 
-static void found(const uint8_t *s, cinorbis_size n, const cinorbis_size *t, cinorbis_size entries, cinorbis_size w) {
+static void found(const uint8_t *s, cinorbis_size n, const cinorbis_size *t, cinorbis_size entries,
+                  cinorbis_size w) {
     cinorbis_entry e;
     cinorbis_size start = 0;
     memset(&e, 0xA5, sizeof e);
-    uint32_t expected = by_table(s, n, t, entries, w, &start), given = cinorbis_index_find(w, s, n, t, entries, &e);
+    uint32_t expected = by_table(s, n, t, entries, w, &start),
+             given = cinorbis_index_find(w, s, n, t, entries, &e);
     CHECK(given == expected, "record %" PRI_SIZE ": %u, not %u", w, given, expected);
     if (expected)
-        CHECK(e.r == 0 && e.m == 0 && e.start == 0 && e.length == 0 && e.place == 0, "numbers under %u", expected);
+        CHECK(e.r == 0 && e.m == 0 && e.start == 0 && e.length == 0 && e.place == 0,
+              "numbers under %u", expected);
     else
-        CHECK(e.r == s[start] % 16u && e.m == s[start] / 16u && e.start == start + 1 && e.length == bytes_of(s[start]) - 1 && e.place == 0,
+        CHECK(e.r == s[start] % 16u && e.m == s[start] / 16u && e.start == start + 1 &&
+                  e.length == bytes_of(s[start]) - 1 && e.place == 0,
               "record %" PRI_SIZE ": start %" PRIu64 ", length %" PRIu64, w, e.start, e.length);
     if (!expected) CHECK(e.start + e.length <= n, "outside of the capture");
 }
@@ -137,11 +153,15 @@ static void whole_captures(void) {
         for (int t = 0; t < 4; t++) {
             cinorbis_size n = fill(records), count, entries = (records + 15) / 16;
             cinorbis_index index;
-            CHECK(all_starts(capture + EDGE, n, starts, &count) == 0 && count == records, "the reference counts %" PRI_SIZE, count);
+            CHECK(all_starts(capture + EDGE, n, starts, &count) == 0 && count == records,
+                  "the reference counts %" PRI_SIZE, count);
             keep();
             memset(&index, 0xA5, sizeof index);
-            CHECK(cinorbis_index_make(capture + EDGE, n, table + EDGE, entries + (cinorbis_size)t, &index) == 0, "refused");
-            CHECK(index.records == records && index.used == n, "%" PRIu64 " records, %" PRIu64 " bytes", index.records, index.used);
+            CHECK(cinorbis_index_make(capture + EDGE, n, table + EDGE, entries + (cinorbis_size)t,
+                                      &index) == 0,
+                  "refused");
+            CHECK(index.records == records && index.used == n,
+                  "%" PRIu64 " records, %" PRIu64 " bytes", index.records, index.used);
             for (cinorbis_size q = 0; q < entries; q++) {
                 CHECK(table[EDGE + q] == starts[16 * q], "entry %" PRI_SIZE, q);
                 table[EDGE + q] = table_before[EDGE + q];
@@ -151,11 +171,14 @@ static void whole_captures(void) {
             for (cinorbis_size w = 0; w < records + 40; w++) {
                 cinorbis_size a = 0, b = 0;
                 found(capture + EDGE, n, table + EDGE, entries, w);
-                uint32_t x = by_table(capture + EDGE, n, table + EDGE, entries, w, &a), y = from_beginning(capture + EDGE, n, w, &b);
+                uint32_t x = by_table(capture + EDGE, n, table + EDGE, entries, w, &a),
+                         y = from_beginning(capture + EDGE, n, w, &b);
                 if (w / 16 < entries)
-                    CHECK(x == y && a == b, "record %" PRI_SIZE ": %u by the table, %u from the beginning", w, x, y);
+                    CHECK(x == y && a == b,
+                          "record %" PRI_SIZE ": %u by the table, %u from the beginning", w, x, y);
                 else
-                    CHECK(x == 10 && y == (w == records ? 10u : 8u), "past the table: %u and %u", x, y);
+                    CHECK(x == 10 && y == (w == records ? 10u : 8u), "past the table: %u and %u", x,
+                          y);
             }
         }
     end();
@@ -164,17 +187,23 @@ static void whole_captures(void) {
 static void refused(void) {
     begin("making: 1 or 8, whichever is met first, then 3; nothing is written");
     for (int t = 0; t < 3000; t++) {
-        cinorbis_size records = (cinorbis_size)random_below(60), n = fill(records), count, room = (cinorbis_size)random_below(6);
-        if (t % 3 == 1 && n) capture[EDGE + (cinorbis_size)random_below((int)n)] = (uint8_t)random64();
+        cinorbis_size records = (cinorbis_size)random_below(60), n = fill(records), count,
+                      room = (cinorbis_size)random_below(6);
+        if (t % 3 == 1 && n)
+            capture[EDGE + (cinorbis_size)random_below((int)n)] = (uint8_t)random64();
         if (t % 3 == 2 && n) n -= (cinorbis_size)random_below((int)(n < 9 ? n : 9));
         if (t % 5 == 0) n += (cinorbis_size)random_below(4);
-        uint32_t why = all_starts(capture + EDGE, n, starts, &count), expected = why ? why : room < (count + 15) / 16 ? 3 : 0;
+        uint32_t why = all_starts(capture + EDGE, n, starts, &count),
+                 expected = why                        ? why
+                            : room < (count + 15) / 16 ? 3
+                                                       : 0;
         cinorbis_index index;
         memset(&index, 0xA5, sizeof index);
         keep();
         uint32_t given = cinorbis_index_make(capture + EDGE, n, table + EDGE, room, &index);
         CHECK(given == expected, "%u, not %u", given, expected);
-        if (expected) CHECK(kept() && index.records == 0 && index.used == 0, "written under %u", expected);
+        if (expected)
+            CHECK(kept() && index.records == 0 && index.used == 0, "written under %u", expected);
     }
     end();
 }
@@ -189,17 +218,21 @@ static size_t any_bytes(int kind) {
     return n;
 }
 
-/* making refuses longer parts with the number that ended the front, also where it has no entry to write into */
+/* making refuses longer parts with the number that ended the front, also where it has no entry to
+ * write into */
 static void longer_parts(size_t n, size_t used, uint32_t ended) {
     for (size_t k = used + 1; k <= n; k += 1 + (k - used) / 8) {
         cinorbis_index index;
-        CHECK(cinorbis_index_make(capture + EDGE, k, table + EDGE, k % 2 ? ENTRIES : 0, &index) == ended, "%zu bytes of %zu", k, n);
+        CHECK(cinorbis_index_make(capture + EDGE, k, table + EDGE, k % 2 ? ENTRIES : 0, &index) ==
+                  ended,
+              "%zu bytes of %zu", k, n);
     }
 }
 
 static void fronts(void) {
     unsigned long met[9] = {0};
-    begin("the front of any bytes: its index and table as made of it, what ended it, and no longer part");
+    begin("the front of any bytes: its index and table as made of it, what ended it, and no longer "
+          "part");
     for (int t = 0; t < 1000; t++) {
         size_t n = any_bytes(t % 5), count, used, room = (n / 3 + 15) / 16;
         uint32_t ended = at_front(capture + EDGE, n, starts, &count, &used);
@@ -207,19 +240,23 @@ static void fronts(void) {
         cinorbis_index index;
         memset(&front, 0xA5, sizeof front);
         keep();
-        CHECK(cinorbis_index_front(capture + EDGE, n, table + EDGE, room, &front) == 0, "no room in %zu entries for %zu bytes", room, n);
+        CHECK(cinorbis_index_front(capture + EDGE, n, table + EDGE, room, &front) == 0,
+              "no room in %zu entries for %zu bytes", room, n);
         CHECK(front.index.records == count && front.index.used == used && front.ended == ended,
-              "%" PRIu64 " records, %" PRIu64 " bytes, ended by %" PRIu64, front.index.records, front.index.used, front.ended);
+              "%" PRIu64 " records, %" PRIu64 " bytes, ended by %" PRIu64, front.index.records,
+              front.index.used, front.ended);
         for (size_t q = 0; 16 * q < count; q++) {
             CHECK(table[EDGE + q] == starts[16 * q], "entry %zu", q);
             table[EDGE + q] = table_before[EDGE + q];
         }
         CHECK(kept(), "an entry past those made, or a byte of the capture");
-        CHECK(cinorbis_index_make(capture + EDGE, used, table + EDGE, room, &index) == 0, "the front is not made");
+        CHECK(cinorbis_index_make(capture + EDGE, used, table + EDGE, room, &index) == 0,
+              "the front is not made");
         CHECK(memcmp(&index, &front.index, sizeof index) == 0, "another index of the front");
         for (size_t w = 0; w < count; w++) found(capture + EDGE, used, table + EDGE, room, w);
         longer_parts(n, used, ended);
-        CHECK(ended == 0 ? used == n : used < n, "ended by %u after %zu of %zu bytes", ended, used, n);
+        CHECK(ended == 0 ? used == n : used < n, "ended by %u after %zu of %zu bytes", ended, used,
+              n);
         met[ended]++;
     }
     CHECK(met[0] && met[1] && met[8], "not met: %lu %lu %lu", met[0], met[1], met[8]);
@@ -233,11 +270,16 @@ static void fronts(void) {
         for (size_t room = 0; room <= due; room++) {
             memset(&front, 0xA5, sizeof front);
             keep();
-            CHECK(cinorbis_index_front(capture + EDGE, n, table + EDGE, room, &front) == (room < due ? 3u : 0u), "%zu entries of %zu", room, due);
+            CHECK(cinorbis_index_front(capture + EDGE, n, table + EDGE, room, &front) ==
+                      (room < due ? 3u : 0u),
+                  "%zu entries of %zu", room, due);
             if (room < due)
-                CHECK(kept() && front.index.records == 0 && front.index.used == 0 && front.ended == 0, "written under 3");
+                CHECK(kept() && front.index.records == 0 && front.index.used == 0 &&
+                          front.ended == 0,
+                      "written under 3");
             else
-                CHECK(front.index.records == count && front.ended == ended, "%" PRIu64 " records", front.index.records);
+                CHECK(front.index.records == count && front.ended == ended, "%" PRIu64 " records",
+                      front.index.records);
         }
     }
     end();
@@ -251,27 +293,41 @@ static void carried_on(void) {
         cinorbis_front front;
         cinorbis_index afresh;
         cinorbis_written w;
-        CHECK(cinorbis_index_front(capture + EDGE, n, table + EDGE, ENTRIES, &front) == 0, "refused");
+        CHECK(cinorbis_index_front(capture + EDGE, n, table + EDGE, ENTRIES, &front) == 0,
+              "refused");
         for (int j = 0; j < 20; j++) {
-            int16_t l[2] = {(int16_t)random_between(-2047, 2047), (int16_t)random_between(-2047, 2047)};
-            CHECK(cinorbis_index_append(1, 1, l, 2, capture + EDGE, BYTES, table + EDGE, ENTRIES, &front.index, &w) == 0, "not appended");
+            int16_t l[2] = {(int16_t)random_between(-2047, 2047),
+                            (int16_t)random_between(-2047, 2047)};
+            CHECK(cinorbis_index_append(1, 1, l, 2, capture + EDGE, BYTES, table + EDGE, ENTRIES,
+                                        &front.index, &w) == 0,
+                  "not appended");
         }
         keep();
-        CHECK(cinorbis_index_make(capture + EDGE, front.index.used, table + EDGE, ENTRIES, &afresh) == 0, "not made afresh");
-        CHECK(kept() && memcmp(&afresh, &front.index, sizeof afresh) == 0, "another index or table afresh");
+        CHECK(cinorbis_index_make(capture + EDGE, front.index.used, table + EDGE, ENTRIES,
+                                  &afresh) == 0,
+              "not made afresh");
+        CHECK(kept() && memcmp(&afresh, &front.index, sizeof afresh) == 0,
+              "another index or table afresh");
     }
     end();
 }
 
 static void foreign_tables(void) {
-    static const cinorbis_size far_off[] = {UINT64_MAX, UINT64_MAX - 1, UINT64_MAX - 15, UINT64_MAX - 16, UINT64_MAX / 2, UINT64_MAX / 16, (cinorbis_size)1 << 60};
+    static const cinorbis_size far_off[] = {
+        UINT64_MAX,     UINT64_MAX - 1,  UINT64_MAX - 15,       UINT64_MAX - 16,
+        UINT64_MAX / 2, UINT64_MAX / 16, (cinorbis_size)1 << 60};
     begin("any table and any number: refused, or a part of the capture; nothing is written");
     for (int t = 0; t < 3000; t++) {
-        cinorbis_size n = fill((cinorbis_size)random_below(40)), entries = (cinorbis_size)random_below(5);
+        cinorbis_size n = fill((cinorbis_size)random_below(40)),
+                      entries = (cinorbis_size)random_below(5);
         if (t % 3 == 0 && n) n -= (cinorbis_size)random_below((int)(n < 30 ? n : 30));
         for (cinorbis_size q = 0; q < entries; q++) {
             int kind = random_below(6);
-            table[EDGE + q] = kind == 0 ? far_off[random_below(7)] : kind == 1 ? n : kind == 2 ? n + 1 : n ? (cinorbis_size)random64() % n : 0;
+            table[EDGE + q] = kind == 0   ? far_off[random_below(7)]
+                              : kind == 1 ? n
+                              : kind == 2 ? n + 1
+                              : n         ? (cinorbis_size)random64() % n
+                                          : 0;
         }
         keep();
         for (int j = 0; j < 40; j++) {
@@ -286,15 +342,24 @@ static void foreign_tables(void) {
 static void pads(void) {
     begin("a pad bit is refused as 9 in the record asked for, not in one stepped over");
     for (int t = 0; t < 200; t++) {
-        cinorbis_size records = 20, n = 3 * records, bad = (cinorbis_size)random_below((int)records), zero = 0;
+        cinorbis_size records = 20, n = 3 * records,
+                      bad = (cinorbis_size)random_below((int)records), zero = 0;
         cinorbis_entry e;
         cinorbis_index index;
         scramble();
-        for (cinorbis_size w = 0; w < records; w++) capture[EDGE + 3 * w] = 0, capture[EDGE + 3 * w + 2] = (uint8_t)(16 * random_below(16));
+        for (cinorbis_size w = 0; w < records; w++)
+            capture[EDGE + 3 * w] = 0, capture[EDGE + 3 * w + 2] = (uint8_t)(16 * random_below(16));
         capture[EDGE + 3 * bad + 2] |= (uint8_t)(1 << random_below(4));
-        CHECK(cinorbis_index_make(capture + EDGE, n, table + EDGE, 2, &index) == 0 && index.records == records, "not made");
-        for (cinorbis_size w = 0; w < records; w++) CHECK(cinorbis_index_find(w, capture + EDGE, n, table + EDGE, 2, &e) == (w == bad ? 9u : 0u), "record %" PRI_SIZE, w);
-        CHECK(cinorbis_index_find(bad % 16, capture + EDGE, n, &zero, 1, &e) == (bad < 16 ? 9u : 0u), "by a table of one entry");
+        CHECK(cinorbis_index_make(capture + EDGE, n, table + EDGE, 2, &index) == 0 &&
+                  index.records == records,
+              "not made");
+        for (cinorbis_size w = 0; w < records; w++)
+            CHECK(cinorbis_index_find(w, capture + EDGE, n, table + EDGE, 2, &e) ==
+                      (w == bad ? 9u : 0u),
+                  "record %" PRI_SIZE, w);
+        CHECK(cinorbis_index_find(bad % 16, capture + EDGE, n, &zero, 1, &e) ==
+                  (bad < 16 ? 9u : 0u),
+              "by a table of one entry");
     }
     end();
 }
@@ -304,7 +369,8 @@ static void appends(void) {
     for (int t = 0; t < 12; t++) {
         scramble();
         cinorbis_index index = {0, 0};
-        cinorbis_size room = 1200 + (cinorbis_size)random_below(300), entries = (cinorbis_size)random_between(1, 6);
+        cinorbis_size room = 1200 + (cinorbis_size)random_below(300),
+                      entries = (cinorbis_size)random_between(1, 6);
         for (int j = 0; j < 120; j++) {
             uint32_t m = (uint32_t)random_below(3), r = (uint32_t)random_below((int)m + 1);
             int16_t l[4];
@@ -314,37 +380,54 @@ static void appends(void) {
             cinorbis_written w;
             memset(&w, 0xA5, sizeof w);
             keep();
-            int no_bytes = room - index.used < k, no_entry = index.records % 16 == 0 && index.records / 16 >= entries;
-            uint32_t given = cinorbis_index_append(r, m, l, n, capture + EDGE, room, table + EDGE, entries, &index, &w);
+            int no_bytes = room - index.used < k,
+                no_entry = index.records % 16 == 0 && index.records / 16 >= entries;
+            uint32_t given = cinorbis_index_append(r, m, l, n, capture + EDGE, room, table + EDGE,
+                                                   entries, &index, &w);
             CHECK(given == (no_bytes || no_entry ? 3u : 0u), "%u", given);
             if (given) {
-                CHECK(kept() && memcmp(&before, &index, sizeof index) == 0 && w.next == 0 && w.place == 0, "written, and then refused");
+                CHECK(kept() && memcmp(&before, &index, sizeof index) == 0 && w.next == 0 &&
+                          w.place == 0,
+                      "written, and then refused");
                 continue;
             }
-            CHECK(index.records == before.records + 1 && index.used == before.used + k && w.next == index.used && w.place == 0, "another index");
+            CHECK(index.records == before.records + 1 && index.used == before.used + k &&
+                      w.next == index.used && w.place == 0,
+                  "another index");
             cinorbis_written plain;
             uint8_t record[400];
-            CHECK(cinorbis_write_record(r, m, 0, l, n, record, k, &plain) == 0 && memcmp(record, capture + EDGE + before.used, k) == 0, "other bytes");
+            CHECK(cinorbis_write_record(r, m, 0, l, n, record, k, &plain) == 0 &&
+                      memcmp(record, capture + EDGE + before.used, k) == 0,
+                  "other bytes");
             only_appended(before, k);
             memcpy(capture + EDGE + before.used, record, k);
             if (before.records % 16 == 0) table[EDGE + before.records / 16] = before.used;
             keep();
-            CHECK(cinorbis_index_make(capture + EDGE, index.used, table + EDGE, entries, &afresh) == 0, "not made afresh");
-            CHECK(kept() && afresh.records == index.records && afresh.used == index.used, "another index or table afresh");
+            CHECK(cinorbis_index_make(capture + EDGE, index.used, table + EDGE, entries, &afresh) ==
+                      0,
+                  "not made afresh");
+            CHECK(kept() && afresh.records == index.records && afresh.used == index.used,
+                  "another index or table afresh");
         }
     }
     end();
 }
 
 static void append_refused(void) {
-    static const uint64_t far_off[] = {UINT64_MAX, UINT64_MAX - 1, UINT64_MAX - 15, UINT64_MAX / 2, 1u << 20};
-    begin("appending: 1, 2, 4 with its place, then 3 for either buffer; an index that belongs to nothing");
+    static const uint64_t far_off[] = {UINT64_MAX, UINT64_MAX - 1, UINT64_MAX - 15, UINT64_MAX / 2,
+                                       1u << 20};
+    begin("appending: 1, 2, 4 with its place, then 3 for either buffer; an index that belongs to "
+          "nothing");
     for (int t = 0; t < 20000; t++) {
-        uint32_t m = (uint32_t)random_below(4), r = (uint32_t)random_below((int)m + 1), R = r, M = m;
-        cinorbis_size n = (cinorbis_size)1 << m, given_n = n, k = bytes_of((uint8_t)(16 * m + r)), at = (cinorbis_size)random_below((int)n), room = 60, entries = 3;
+        uint32_t m = (uint32_t)random_below(4), r = (uint32_t)random_below((int)m + 1), R = r,
+                 M = m;
+        cinorbis_size n = (cinorbis_size)1 << m, given_n = n, k = bytes_of((uint8_t)(16 * m + r)),
+                      at = (cinorbis_size)random_below((int)n), room = 60, entries = 3;
         int16_t l[16] = {0};
-        if (random_below(4) == 0) R = random_below(2) ? M + 1 : UINT32_MAX;
-        else if (random_below(6) == 0) M = 9;
+        if (random_below(4) == 0)
+            R = random_below(2) ? M + 1 : UINT32_MAX;
+        else if (random_below(6) == 0)
+            M = 9;
         if (random_below(4) == 0) given_n = n + 1;
         int bad = random_below(3) == 0;
         if (bad) l[at] = random_below(2) ? 2048 : -2048;
@@ -358,15 +441,20 @@ static void append_refused(void) {
         memset(&w, 0xA5, sizeof w);
         int parameters = M > 8 || R > M, length = given_n != ((cinorbis_size)1 << (M > 8 ? 0 : M));
         int space = index.used > room || room - index.used < k;
-        int no_entry = index.records == UINT64_MAX || (index.records % 16 == 0 && index.records / 16 >= entries);
+        int no_entry = index.records == UINT64_MAX ||
+                       (index.records % 16 == 0 && index.records / 16 >= entries);
         uint32_t e = parameters ? 1 : length ? 2 : bad ? 4 : space || no_entry ? 3 : 0;
-        uint32_t given = cinorbis_index_append(R, M, l, given_n, capture + EDGE, room, table + EDGE, entries, &index, &w);
+        uint32_t given = cinorbis_index_append(R, M, l, given_n, capture + EDGE, room, table + EDGE,
+                                               entries, &index, &w);
         CHECK(given == e, "%u, not %u", given, e);
         if (e) {
-            CHECK(kept() && memcmp(&before, &index, sizeof index) == 0, "written, and then refused %u", e);
+            CHECK(kept() && memcmp(&before, &index, sizeof index) == 0,
+                  "written, and then refused %u", e);
             CHECK(w.next == 0 && w.place == (e == 4 ? at : 0), "numbers under %u", e);
         } else {
-            CHECK(index.records == before.records + 1 && index.used == before.used + k && w.next == index.used, "another index");
+            CHECK(index.records == before.records + 1 && index.used == before.used + k &&
+                      w.next == index.used,
+                  "another index");
             only_appended(before, k);
         }
     }

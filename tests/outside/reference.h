@@ -1,5 +1,6 @@
-/* docs/RULES.md written down as plainly as C allows, for comparing: brute force over all words, and the walk by its text.
- * It shares nothing with the library. Values are computed anew from the readings for every visit, which is slow and simple. */
+/* docs/RULES.md written down as plainly as C allows, for comparing: brute force over all words, and
+ * the walk by its text. It shares nothing with the library. Values are computed anew from the
+ * readings for every visit, which is slow and simple. */
 #ifndef REFERENCE_H
 #define REFERENCE_H
 
@@ -15,7 +16,8 @@ static inline int ref_ones(unsigned i) {
     return c;
 }
 
-/* a row of n bytes that names information indices which are to be 0 as well, where it is not null: all below then speaks of the smaller set */
+/* a row of n bytes that names information indices which are to be 0 as well, where it is not null:
+ * all below then speaks of the smaller set */
 static const uint8_t *ref_named;
 
 static inline int ref_is_information(int r, int m, int i) {
@@ -180,7 +182,8 @@ static inline void ref_walk_from(ref_walk_t *w, int i, long long p) {
 }
 
 /* the walk within a limit of visits; the best word is ref_word of `best` */
-static inline void ref_walk(ref_walk_t *w, int r, int m, const int16_t *readings, unsigned long long limit) {
+static inline void ref_walk(ref_walk_t *w, int r, int m, const int16_t *readings,
+                            unsigned long long limit) {
     memset(w, 0, sizeof *w);
     w->r = r;
     w->m = m;
@@ -189,7 +192,8 @@ static inline void ref_walk(ref_walk_t *w, int r, int m, const int16_t *readings
     ref_walk_from(w, 0, 0);
 }
 
-/* the whole tree: the sum over i of 2 to the number of information indices up to i; at most 2^62, else that */
+/* the whole tree: the sum over i of 2 to the number of information indices up to i; at most 2^62,
+ * else that */
 static inline unsigned long long ref_tree(int r, int m) {
     unsigned long long t = 0, paths = 1;
     for (int i = 0; i < 1 << m; i++) {

@@ -1,5 +1,6 @@
-/* Position orders: all tables of m = 3 with all rows, random maps for every m, products, undo maps, the search on both sides, and refusals
- * with several faults at once. The reference works position by position and undoes a table by elimination; the library does neither. */
+/* Position orders: all tables of m = 3 with all rows, random maps for every m, products, undo maps,
+ * the search on both sides, and refusals with several faults at once. The reference works position
+ * by position and undoes a table by elimination; the library does neither. */
 #include "call.h"
 #include "check.h"
 #include "reference.h"
@@ -66,7 +67,9 @@ static int undone(const map *a, map *u) {
         }
         for (int p = 0; p < m; p++)
             if (p != c && left[p * m + c])
-                for (int q = 0; q < m; q++) left[p * m + q] ^= left[c * m + q], right.table[p * m + q] ^= right.table[c * m + q];
+                for (int q = 0; q < m; q++)
+                    left[p * m + q] ^= left[c * m + q],
+                        right.table[p * m + q] ^= right.table[c * m + q];
     }
     *u = right;
     for (int p = 0; p < m; p++) {
@@ -95,32 +98,38 @@ static map good_map(int m) {
 /* ---- the calls */
 static size_t square(const map *a) { return (size_t)(a->m * a->m); }
 
-static answer reorder(uint32_t m, const uint8_t *t, size_t tn, const uint8_t *r, size_t rn, const int16_t *l, size_t n_, int16_t *to, size_t on) {
+static answer reorder(uint32_t m, const uint8_t *t, size_t tn, const uint8_t *r, size_t rn,
+                      const int16_t *l, size_t n_, int16_t *to, size_t on) {
     CALL(cinorbis_reorder, m, t, tn, r, rn, l, n_, to, on);
 }
 
-static answer reorder_word(uint32_t m, const uint8_t *t, size_t tn, const uint8_t *r, size_t rn, const uint8_t *x, size_t n_, uint8_t *to, size_t on) {
+static answer reorder_word(uint32_t m, const uint8_t *t, size_t tn, const uint8_t *r, size_t rn,
+                           const uint8_t *x, size_t n_, uint8_t *to, size_t on) {
     CALL(cinorbis_reorder_word, m, t, tn, r, rn, x, n_, to, on);
 }
 
-static answer undo_map(uint32_t m, const uint8_t *t, size_t tn, const uint8_t *r, size_t rn, uint8_t *to, size_t ton, uint8_t *ro, size_t ron) {
+static answer undo_map(uint32_t m, const uint8_t *t, size_t tn, const uint8_t *r, size_t rn,
+                       uint8_t *to, size_t ton, uint8_t *ro, size_t ron) {
     CALL(cinorbis_undo_map, m, t, tn, r, rn, to, ton, ro, ron);
 }
 
-static answer product_map(uint32_t m, const map *a, size_t tn, size_t rn, const map *b, size_t tn2, size_t rn2, uint8_t *to, size_t ton, uint8_t *ro,
-                          size_t ron) {
-    CALL(cinorbis_product_map, m, a->table, tn, a->row, rn, b->table, tn2, b->row, rn2, to, ton, ro, ron);
+static answer product_map(uint32_t m, const map *a, size_t tn, size_t rn, const map *b, size_t tn2,
+                          size_t rn2, uint8_t *to, size_t ton, uint8_t *ro, size_t ron) {
+    CALL(cinorbis_product_map, m, a->table, tn, a->row, rn, b->table, tn2, b->row, rn2, to, ton, ro,
+         ron);
 }
 
 /* nothing but a refusal's number and place is told, and nothing is written */
 static void refused(answer a, uint32_t number, size_t place) {
-    CHECK(a.refusal == number && a.place == place, "%u at %u, not %u at %zu", a.refusal, a.place, number, place);
+    CHECK(a.refusal == number && a.place == place, "%u at %u, not %u at %zu", a.refusal, a.place,
+          number, place);
     CHECK(a.penalty == 0 && a.gap == 0 && a.visits == 0, "%u %u %u", a.penalty, a.gap, a.visits);
     CHECK(untouched(&first) && untouched(&second), "wrote");
 }
 
 static void done(answer a) {
-    CHECK(a.refusal == 0 && a.place == 0 && a.penalty == 0 && a.gap == 0 && a.visits == 0, "%u %u", a.refusal, a.place);
+    CHECK(a.refusal == 0 && a.place == 0 && a.penalty == 0 && a.gap == 0 && a.visits == 0, "%u %u",
+          a.refusal, a.place);
 }
 
 static void both_armed(void) {
@@ -141,7 +150,8 @@ static void reorders(const map *a) {
     answer r = reorder(m, a->table, square(a), a->row, m, l, n, to, n);
     if (!good) {
         refused(r, CINORBIS_MAP, 0);
-        refused(reorder_word(m, a->table, square(a), a->row, m, x, n, contents(&second), n), CINORBIS_MAP, 0);
+        refused(reorder_word(m, a->table, square(a), a->row, m, x, n, contents(&second), n),
+                CINORBIS_MAP, 0);
         return;
     }
     done(r);
@@ -161,13 +171,16 @@ static void undoes(const map *a) {
     map u;
     int good = undone(a, &u);
     both_armed();
-    answer r = undo_map(m, a->table, square(a), a->row, m, contents(&first), square(a), contents(&second), m);
+    answer r = undo_map(m, a->table, square(a), a->row, m, contents(&first), square(a),
+                        contents(&second), m);
     if (!good) {
         refused(r, CINORBIS_MAP, 0);
         return;
     }
     done(r);
-    CHECK(memcmp(contents(&first), u.table, square(a)) == 0 && memcmp(contents(&second), u.row, m) == 0, "another undo map");
+    CHECK(memcmp(contents(&first), u.table, square(a)) == 0 &&
+              memcmp(contents(&second), u.row, m) == 0,
+          "another undo map");
     CHECK(only_first(&first, square(a)) && only_first(&second, m), "wrote outside");
 }
 
@@ -176,13 +189,16 @@ static void multiplies(const map *a, const map *b) {
     map u, v, c = product(a, b);
     int good = undone(a, &u) && undone(b, &v);
     both_armed();
-    answer r = product_map(m, a, square(a), m, b, square(b), m, contents(&first), square(a), contents(&second), m);
+    answer r = product_map(m, a, square(a), m, b, square(b), m, contents(&first), square(a),
+                           contents(&second), m);
     if (!good) {
         refused(r, CINORBIS_MAP, 0);
         return;
     }
     done(r);
-    CHECK(memcmp(contents(&first), c.table, square(a)) == 0 && memcmp(contents(&second), c.row, m) == 0, "another product");
+    CHECK(memcmp(contents(&first), c.table, square(a)) == 0 &&
+              memcmp(contents(&second), c.row, m) == 0,
+          "another product");
     CHECK(only_first(&first, square(a)) && only_first(&second, m), "wrote outside");
 }
 
@@ -246,10 +262,12 @@ static void one_then_another(void) {
         for (size_t j = 0; j < n; j++) l[j] = random_reading();
         done(reorder((uint32_t)m, a.table, square(&a), a.row, (size_t)m, l, n, x, n));
         done(reorder((uint32_t)m, b.table, square(&b), b.row, (size_t)m, x, n, y, n));
-        done(product_map((uint32_t)m, &a, square(&a), (size_t)m, &b, square(&b), (size_t)m, c.table, square(&c), c.row, (size_t)m));
+        done(product_map((uint32_t)m, &a, square(&a), (size_t)m, &b, square(&b), (size_t)m, c.table,
+                         square(&c), c.row, (size_t)m));
         done(reorder((uint32_t)m, c.table, square(&c), c.row, (size_t)m, l, n, z, n));
         CHECK(memcmp(y, z, 2 * n) == 0, "the product reorders otherwise");
-        done(undo_map((uint32_t)m, a.table, square(&a), a.row, (size_t)m, u.table, square(&u), u.row, (size_t)m));
+        done(undo_map((uint32_t)m, a.table, square(&a), a.row, (size_t)m, u.table, square(&u),
+                      u.row, (size_t)m));
         done(reorder((uint32_t)m, u.table, square(&u), u.row, (size_t)m, x, n, z, n));
         CHECK(memcmp(l, z, 2 * n) == 0, "not restored");
     }
@@ -270,19 +288,25 @@ static void both_searches(void) {
         for (size_t j = 0; j < k; j++) bits[j] = (uint8_t)random_below(2);
         CHECK(encode((uint32_t)r, (uint32_t)m, bits, k, word, n).refusal == 0, "encode");
         done(reorder_word((uint32_t)m, a.table, square(&a), a.row, (size_t)m, word, n, moved, n));
-        CHECK(inverse((uint32_t)r, (uint32_t)m, moved, n, bits2, k).refusal == 0, "a reordered word is no word");
+        CHECK(inverse((uint32_t)r, (uint32_t)m, moved, n, bits2, k).refusal == 0,
+              "a reordered word is no word");
         done(reorder((uint32_t)m, a.table, square(&a), a.row, (size_t)m, l, n, turned, n));
         answer x = search_within((uint32_t)r, (uint32_t)m, UINT32_MAX, l, n, bits, k, word, n);
-        answer y = search_within((uint32_t)r, (uint32_t)m, UINT32_MAX, turned, n, bits2, k, word2, n);
-        CHECK(x.refusal == y.refusal && (x.refusal == 0 || x.refusal == 7), "%u and %u", x.refusal, y.refusal);
-        CHECK(x.penalty == y.penalty && x.gap == y.gap, "%u %u and %u %u", x.penalty, x.gap, y.penalty, y.gap);
+        answer y =
+            search_within((uint32_t)r, (uint32_t)m, UINT32_MAX, turned, n, bits2, k, word2, n);
+        CHECK(x.refusal == y.refusal && (x.refusal == 0 || x.refusal == 7), "%u and %u", x.refusal,
+              y.refusal);
+        CHECK(x.penalty == y.penalty && x.gap == y.gap, "%u %u and %u %u", x.penalty, x.gap,
+              y.penalty, y.gap);
         if (x.refusal == 0)
-            for (size_t j = 0; j < n; j++) CHECK(word2[j] == word[image(&a, (int)j)], "another word at %zu", j);
+            for (size_t j = 0; j < n; j++)
+                CHECK(word2[j] == word[image(&a, (int)j)], "another word at %zu", j);
     }
     end();
 }
 
-/* the number that the faults ask for: m, an input's length, an output's length, the map, an entry */
+/* the number that the faults ask for: m, an input's length, an output's length, the map, an entry
+ */
 static uint32_t expected(int m, int input, int output, int bad_map, int entry) {
     if (m) return 1;
     if (input) return 2;
@@ -305,12 +329,14 @@ static void faults(void) {
     for (int m = 1; m <= 8; m++)
         for (int mix = 0; mix < 3 * 3 * 3 * 3 * 2 * 4 * 2; mix++) {
             int i = mix;
-            int dt = i % 3 - 1, dr = (i /= 3) % 3 - 1, dn = (i /= 3) % 3 - 1, dout = (i /= 3) % 3 - 1, code = (i /= 3) % 2;
+            int dt = i % 3 - 1, dr = (i /= 3) % 3 - 1, dn = (i /= 3) % 3 - 1,
+                dout = (i /= 3) % 3 - 1, code = (i /= 3) % 2;
             int bad = (i /= 2) % 4, entry = i / 4 % 2;
             size_t n = (size_t)1 << m, at = (size_t)random_below((int)n);
             uint32_t M = code ? large[random_below(10)] : (uint32_t)m;
             map a = spoilt(good_map(m), bad), b = good_map(m);
-            size_t tn = square(&a) + (size_t)dt, rn = (size_t)(m + dr), in = n + (size_t)dn, on = n + (size_t)dout;
+            size_t tn = square(&a) + (size_t)dt, rn = (size_t)(m + dr), in = n + (size_t)dn,
+                   on = n + (size_t)dout;
             int16_t l[257] = {0};
             uint8_t x[257] = {0};
             if (entry) {
@@ -321,7 +347,8 @@ static void faults(void) {
             }
             uint32_t e = expected(code, dt || dr || dn, dout, bad, entry);
             both_armed();
-            answer p = reorder(M, a.table, tn, a.row, rn, l, in, (int16_t *)(void *)contents(&first), on);
+            answer p =
+                reorder(M, a.table, tn, a.row, rn, l, in, (int16_t *)(void *)contents(&first), on);
             answer q = reorder_word(M, a.table, tn, a.row, rn, x, in, contents(&second), on);
             if (e) {
                 refused(p, e, e == 4 ? at : 0);
@@ -335,13 +362,24 @@ static void faults(void) {
             e = expected(code, dt || dr, dn || dout, bad, 0);
             both_armed();
             p = undo_map(M, a.table, tn, a.row, rn, contents(&first), ton, contents(&second), ron);
-            if (e) refused(p, e, 0); else done(p);
+            if (e)
+                refused(p, e, 0);
+            else
+                done(p);
             both_armed();
-            p = product_map(M, &a, tn, rn, &b, square(&b), (size_t)m, contents(&first), ton, contents(&second), ron);
-            if (e) refused(p, e, 0); else done(p);
+            p = product_map(M, &a, tn, rn, &b, square(&b), (size_t)m, contents(&first), ton,
+                            contents(&second), ron);
+            if (e)
+                refused(p, e, 0);
+            else
+                done(p);
             both_armed();
-            p = product_map(M, &b, square(&b), (size_t)m, &a, tn, rn, contents(&first), ton, contents(&second), ron);
-            if (e) refused(p, e, 0); else done(p);
+            p = product_map(M, &b, square(&b), (size_t)m, &a, tn, rn, contents(&first), ton,
+                            contents(&second), ron);
+            if (e)
+                refused(p, e, 0);
+            else
+                done(p);
         }
     end();
 }

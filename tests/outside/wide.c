@@ -35,9 +35,11 @@ static void expect(const char *call, uint32_t refusal, uint32_t expected) {
 
 static void searches(void) {
     is(cinorbis_search(2, 5, readings, N, bits, K, word, W, second, &numbers), 2, 3, 3, 0);
-    is(cinorbis_search_within(2, 5, 9999, readings, N, bits, K, word, W, second, &numbers), 2, 3, 3, 0);
+    is(cinorbis_search_within(2, 5, 9999, readings, N, bits, K, word, W, second, &numbers), 2, 3, 3,
+       0);
     is(cinorbis_search_float(2, 5, floats, N, bits, K, word, W, second, &numbers), 2, 3, 3, 0);
-    is(cinorbis_search_float_within(2, 5, 9999, floats, N, bits, K, word, W, second, &numbers), 2, 3, 3, 0);
+    is(cinorbis_search_float_within(2, 5, 9999, floats, N, bits, K, word, W, second, &numbers), 2,
+       3, 3, 0);
     is(cinorbis_early(2, 5, readings, N, bits, K, word, W, &numbers), 2, 3, 3, 0);
     is(cinorbis_early_within(2, 5, 9999, readings, N, bits, K, word, W, &numbers), 2, 3, 3, 0);
     is(cinorbis_quick(2, 5, readings, N, bits, K, word, W, &numbers), 2, 3, 3, 0);
@@ -50,9 +52,13 @@ static void searches(void) {
 }
 
 static void shortened(void) {
-    is(cinorbis_search_shortened(2, 5, named, M, readings, N, bits, K, word, W, second, &numbers), 2, 3, 3, 12);
-    is(cinorbis_search_within_shortened(2, 5, 9999, named, M, readings, N, bits, K, word, W, second, &numbers), 2, 3, 3, 12);
-    is(cinorbis_quick_shortened(2, 5, named, M, readings, N, bits, K, word, W, &numbers), 2, 3, 3, 12);
+    is(cinorbis_search_shortened(2, 5, named, M, readings, N, bits, K, word, W, second, &numbers),
+       2, 3, 3, 12);
+    is(cinorbis_search_within_shortened(2, 5, 9999, named, M, readings, N, bits, K, word, W, second,
+                                        &numbers),
+       2, 3, 3, 12);
+    is(cinorbis_quick_shortened(2, 5, named, M, readings, N, bits, K, word, W, &numbers), 2, 3, 3,
+       12);
     is(cinorbis_encode_shortened(2, 5, named, M, bits, K, word, W, &numbers), 0, 2, 3, 12);
     is(cinorbis_inverse_shortened(2, 5, named, M, word, W, bits, K, &numbers), 0, 3, 2, 12);
 }
@@ -61,9 +67,14 @@ static void shortened(void) {
 static void maps(void) {
     is(cinorbis_reorder(5, table, K + 9, row, M - 27, readings, N, moved, W, &numbers), 2, 2, 3, 2);
     is(cinorbis_reorder_word(5, table, K + 9, row, M - 27, word, N, out, W, &numbers), 2, 2, 3, 2);
-    is(cinorbis_undo_map(5, table, K + 9, row, M - 27, out, N - 7, second, W - 27, &numbers), 3, 2, 3, 2);
-    is(cinorbis_product_map(5, table, K + 9, row, M - 27, table, 25, row, 5, out, N - 7, second, W - 27, &numbers), 3, 2, 3, 2);
-    is(cinorbis_product_map(5, table, 25, row, 5, table, K + 9, row, M - 27, out, N - 7, second, W - 27, &numbers), 3, 2, 3, 2);
+    is(cinorbis_undo_map(5, table, K + 9, row, M - 27, out, N - 7, second, W - 27, &numbers), 3, 2,
+       3, 2);
+    is(cinorbis_product_map(5, table, K + 9, row, M - 27, table, 25, row, 5, out, N - 7, second,
+                            W - 27, &numbers),
+       3, 2, 3, 2);
+    is(cinorbis_product_map(5, table, 25, row, 5, table, K + 9, row, M - 27, out, N - 7, second,
+                            W - 27, &numbers),
+       3, 2, 3, 2);
 }
 
 /* a record of RM(2,5) has 49 bytes; K, W and M stand for places and entries here */
@@ -72,7 +83,8 @@ static void records(void) {
     is(cinorbis_write_record(2, 5, place, readings, N, record, 49, &written), 2, 3, 0, 0);
     is(cinorbis_unpack(record + 1, N + 16, moved, W, &numbers), 2, 0, 3, 0);
     made.records = 0, made.used = place;
-    is(cinorbis_index_append(2, 5, readings, N, record, 49, entries, 1, &made, &written), 2, 3, 0, 0);
+    is(cinorbis_index_append(2, 5, readings, N, record, 49, entries, 1, &made, &written), 2, 3, 0,
+       0);
     entries[0] = start;
     is(cinorbis_index_find(place, record, 49, entries, 1, &entry), 0, 10, 8, 0);
     entries[0] = 0;
@@ -80,7 +92,8 @@ static void records(void) {
 }
 
 int main(void) {
-    static const cinorbis_size highs[] = {0, (cinorbis_size)1 << 32, (cinorbis_size)1 << 63, (cinorbis_size)0xffffffff << 32};
+    static const cinorbis_size highs[] = {0, (cinorbis_size)1 << 32, (cinorbis_size)1 << 63,
+                                          (cinorbis_size)0xffffffff << 32};
     for (int j = 0; j < 32; j++) readings[j] = 100, floats[j] = 100;
     for (int p = 0; p < 5; p++) table[6 * p] = 1;
     for (int h = 0; h < 4; h++)
