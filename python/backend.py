@@ -52,20 +52,11 @@ def shared_object(cpu: str, name: str) -> bytes:
     made.parent.mkdir(parents=True, exist_ok=True)
     archive = Path(os.environ.get("ARCHIVE") or made.with_name("libcinorbis.a")).absolute()
     if not os.environ.get("ARCHIVE"):
-        subprocess.run([TOP / "tools" / "archive", cpu, archive], cwd=TOP, check=True)
+        made_first = [TOP / "tools" / "archive", cpu, archive]
+        subprocess.run(made_first, cwd=TOP, stdout=sys.stderr, check=True)
     own = "cc" if cpu == platform.machine() else f"{cpu}-linux-gnu-gcc"
     compiler = os.environ.get("CC", own).split()
-    flags = [
-        "-std=c99",
-        "-O2",
-        "-Wall",
-        "-Wextra",
-        "-Werror",
-        "-fPIC",
-        "-shared",
-        "-nostdlib",
-        "-s",
-    ]
+    flags = "-std=c99 -O2 -Wall -Wextra -Werror -fPIC -shared -nostdlib -s".split()
     linked = ["-Bsymbolic", "-z,noexecstack", "--build-id=none", f"-soname,{name}"]
     whole = ["-Wl,--whole-archive", archive, "-Wl,--no-whole-archive"]
     command = [*compiler, *flags, *(f"-Wl,{one}" for one in linked), "-I", TOP / "include"]
