@@ -2,3 +2,4 @@
 pub mod Runs
 pub mod RunsLaws
 pub mod EndLaws
+pub mod UnfailedLaws

@@ -15,17 +15,13 @@ fn flush(output: &[u8], s: Situation) -> Situation
     requires { ⌜ s .text ≤ length (now output) ⌝ }
     ensures { λ t. ⌜ Flushed s t ⌝ }
 {
-    if io::write_all(STDOUT_FILENO, rounds::text_of(output, s)) {
-        return rounds::after_write(true, s);
-    }
-    io::write_all(STDERR_FILENO, b"cinorbis: cannot write\n");
-    rounds::after_write(false, s)
-}
-
-fn report(got: isize) {
-    if got < 0 {
-        io::write_all(STDERR_FILENO, b"cinorbis: cannot read\n");
-    }
+    let done = io::write_all(STDOUT_FILENO, rounds::text_of(output, s));
+    let t = rounds::after_write(done, s);
+    io::write_all(
+        STDERR_FILENO,
+        rounds::complaint(b"cinorbis: cannot write\n", t),
+    );
+    t
 }
 
 // Reads behind the bytes that are not yet used.
@@ -37,8 +33,12 @@ fn refill(input: &mut [u8], s: Situation) -> Situation
     let k = s.end - s.at;
     rounds::move_to_front(input, s.at, s.end);
     let got = libc::read(STDIN_FILENO, &mut input[k..]);
-    report(got);
-    rounds::after_read(got, &input[k..], s)
+    let t = rounds::after_read(got, &input[k..], s);
+    io::write_all(
+        STDERR_FILENO,
+        rounds::complaint(b"cinorbis: cannot read\n", t),
+    );
+    t
 }
 
 fn round(input: &mut [u8], output: &mut [u8], s: Situation) -> Situation

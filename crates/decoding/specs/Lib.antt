@@ -38,3 +38,4 @@ pub mod CleanLaws
 pub mod Demands
 pub mod DemandsMet
 pub mod Examples
+pub mod NeverZeroExamples

@@ -1,6 +1,6 @@
 -- The program's state between two rounds, and what each kind of round does to it. The functions of the code are equal to these.
 use mathlib.Core.Path.{_≡_}
-use mathlib.Core.List.{List}
+use mathlib.Core.List.{List, []}
 use mathlib.Core.Bool.{Bool, true, false, cond, not}
 use Prim.Native.Nat.{ℕ, zero, suc, _+_, _-_, _≤_, min}
 use lib.IntN.{ℤ, pos, negsuc}
@@ -139,3 +139,7 @@ pub record Refilled (s : Situation) (input : List ℕ) (t : Situation) (input′
   pub got : ℤ
   pub kept : take (s .«end» - s .at) input′ ≡ unread s input
   pub is : t ≡ afterRead got (length input - (s .«end» - s .at)) s
+
+-- what is said of an error on standard error: this text where one was met, else nothing
+abbrev pub complaintOf : List ℕ → Situation → List ℕ
+complaintOf text s = cond (s .failed) text []

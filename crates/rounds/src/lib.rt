@@ -7,7 +7,7 @@ ghost use Prim.Native.Nat.{_+_, _-_, _^_, _≤_, _<_};
 ghost use lib.ListN.{length, take, drop};
 ghost use Rattle.rounds.specs.Situation.{starting, room, isThere, nextOf, countedBy};
 ghost use Rattle.rounds.specs.Situation.{Took, Finished, afterRead};
-ghost use Rattle.rounds.specs.Situation.{textOf, afterWrite};
+ghost use Rattle.rounds.specs.Situation.{textOf, afterWrite, complaintOf};
 
 // The longest line fits, and so does the total.
 const ROOM: usize = 512;
@@ -221,4 +221,14 @@ pub fn after_write(done: bool, s: Situation) -> Situation
         failed: true,
         ..s
     }
+}
+
+// What is said of an error on standard error: the text where one was reported, else nothing.
+pub fn complaint(text: &[u8], s: Situation) -> &[u8]
+    ensures { λ r. ⌜ now r ≡ complaintOf (now (text .entry)) s ⌝ }
+{
+    if s.failed {
+        return text;
+    }
+    &text[0..0]
 }
