@@ -16,7 +16,7 @@ const KEPT = 600;
 const CLOSEST = 12;
 
 const plainState = () => ({
-    name: '', size: 0, records: 0, rows: 0, ended: 0, used: 0, done: 0, loaded: false,
+    turn: 0, name: '', size: 0, records: 0, rows: 0, ended: 0, used: 0, done: 0, loaded: false,
     finished: false,
     swept: emptySweep(0), counts: { refused: 0, doubtful: 0, turned: 0 },
     chosen: -1, show: 'all', order: false, zoom: { from: 0, to: 0 },
@@ -52,7 +52,7 @@ export class Capture {
         this.list.chosen = -1;
         this.list.setCount(0, 0);
         const keep = { show: 'all', order: byId('order').checked };
-        const file = { name, size: bytes.length, head: bytes.slice(0, 4) };
+        const file = { turn: this.turn, name, size: bytes.length, head: bytes.slice(0, 4) };
         this.state = { ...plainState(), ...keep, ...file };
         byId('show-all').checked = true;
         this.notice('');
@@ -410,7 +410,8 @@ export class Capture {
     draw() {
         const { state, limit } = this;
         this.frame = 0;
-        if (state.records === 0) return;
+        /* nothing is open, or another view is shown */
+        if (state.records === 0 || byId('strip').clientWidth === 0) return;
         const begun = performance.now();
         this.drawCounts();
         drawStrip(byId('strip'), state, state.telegrams ? limit : Infinity);

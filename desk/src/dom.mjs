@@ -23,6 +23,8 @@ export function save(blob, name) {
 /* ---- canvas */
 
 const colors = new Map();
+let themes = 0;
+const layers = new WeakMap();
 
 /* a color of the style sheet by its name */
 export function color(name) {
@@ -34,10 +36,13 @@ export function color(name) {
 }
 
 /* light and dark have other colors under the same names */
-export const forgetColors = () => colors.clear();
+export function forgetColors() {
+    colors.clear();
+    themes++;
+}
 
 /* a clean canvas at the screen's own resolution */
-export function fitted(canvas) {
+function fitted(canvas) {
     const ratio = window.devicePixelRatio || 1;
     const wide = canvas.clientWidth;
     const tall = canvas.clientHeight;
@@ -46,4 +51,21 @@ export function fitted(canvas) {
     const pen = canvas.getContext('2d');
     pen.setTransform(ratio, 0, 0, ratio, 0, 0);
     return { pen, wide, tall };
+}
+
+/* A canvas in two layers. `below` draws what goes through many records, and only where `key` or the
+ * window has changed; what it gives is kept with it. What changes often is drawn on top of it. */
+export function layered(canvas, key, below) {
+    const { pen, wide, tall } = fitted(canvas);
+    const whole = [key, canvas.width, canvas.height, themes].join();
+    const kept = layers.get(canvas);
+    if (kept && kept.whole === whole) {
+        pen.drawImage(kept.copy, 0, 0, wide, tall);
+        return { pen, wide, tall, found: kept.found };
+    }
+    const found = below(pen, wide, tall);
+    const copy = make('canvas', { width: canvas.width, height: canvas.height });
+    copy.getContext('2d').drawImage(canvas, 0, 0);
+    layers.set(canvas, { whole, copy, found });
+    return { pen, wide, tall, found };
 }

@@ -1,6 +1,6 @@
 /* The strip: the whole capture at a glance. Each column is a stretch of records: how sure they are
  * on average, how sure the least sure one is, and whether one is refused or turned over. */
-import { color, fitted } from './dom.mjs';
+import { color, layered } from './dom.mjs';
 import { turnedOver } from './sure.mjs';
 
 const TOP = 9;
@@ -30,9 +30,7 @@ function drawZoom(pen, wide, tall, { zoom, rows, records }) {
     pen.strokeRect(left + 0.5, 0.5, Math.max(2, right - left - 1), tall - 1);
 }
 
-export function drawStrip(canvas, state, limit) {
-    const { pen, wide, tall } = fitted(canvas);
-    const { swept, done, rows, chosen } = state;
+function drawColumns(pen, wide, tall, { swept, done, rows, ended }, limit) {
     const low = tall - 2;
     const columns = Math.max(1, Math.min(rows, Math.floor(wide)));
     const step = wide / columns;
@@ -56,10 +54,15 @@ export function drawStrip(canvas, state, limit) {
         pen.fillStyle = color(found.refused ? '--bad' : '--warn');
         pen.fillRect(b * step, 0, Math.max(2, inner), 6);
     }
-    if (state.ended) {
-        pen.fillStyle = color('--bad');
-        pen.fillRect(wide - Math.max(2, inner), 0, Math.max(2, inner), 6);
-    }
+    if (!ended) return;
+    pen.fillStyle = color('--bad');
+    pen.fillRect(wide - Math.max(2, inner), 0, Math.max(2, inner), 6);
+}
+
+export function drawStrip(canvas, state, limit) {
+    const { turn, done, rows, chosen } = state;
+    const { pen, wide, tall } = layered(canvas, [turn, done, limit].join(),
+        (...place) => drawColumns(...place, state, limit));
     drawZoom(pen, wide, tall, state);
     if (chosen < 0) return;
     pen.fillStyle = color('--ink');

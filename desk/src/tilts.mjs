@@ -1,7 +1,7 @@
 /* Telegrams over the capture: tilt by cylinder, port upwards and starboard downwards. Doubtful ones
  * are rings off the lines; a stretch where the link is turned over, or all noise, is shaded. */
 import { REFUSAL } from './library.mjs';
-import { color, fitted } from './dom.mjs';
+import { color, layered } from './dom.mjs';
 import { turnedOver } from './sure.mjs';
 import { group } from './words.mjs';
 
@@ -149,21 +149,27 @@ function placed(wide, tall, zoom, scale) {
     };
 }
 
-/* draws, and says what its key needs and which record is where; `drag` is what the mouse selects */
-export function drawTilts(canvas, state, limit, drag) {
-    const { pen, wide, tall } = fitted(canvas);
-    const { swept, done, zoom, chosen } = state;
+/* lines, rings and shades; gives where things are, and what the key needs */
+function drawPlot(pen, wide, tall, { swept, done, zoom }, limit) {
     const scale = scaleOf(swept, zoom.from, Math.min(zoom.to, done), limit);
     const plot = placed(wide, tall, zoom, scale);
     const found = columnsOf(swept, zoom, done, plot.columns, limit);
     /* with too many records for rings a stretch of doubtful ones is shaded, without lines */
-    const dense = (zoom.to - zoom.from) / plot.columns > 60;
-    const noisy = (b) => dense && found.doubtful[b] * 4 > found.all[b];
+    plot.dense = (zoom.to - zoom.from) / plot.columns > 60;
+    const noisy = (b) => plot.dense && found.doubtful[b] * 4 > found.all[b];
     drawGrid(pen, plot);
     shade(pen, plot, '--turned', (b) => found.turned[b] * 3 > found.all[b]);
     shade(pen, plot, '--line', noisy);
     CYLINDERS.forEach((cylinder) => drawLine(pen, plot, found, cylinder, noisy));
-    if (!dense) drawRings(pen, plot, swept, done, limit);
+    if (!plot.dense) drawRings(pen, plot, swept, done, limit);
+    return plot;
+}
+
+/* `drag` is what the mouse selects */
+export function drawTilts(canvas, state, limit, drag) {
+    const { turn, done, zoom, chosen } = state;
+    const { pen, found: plot } = layered(canvas, [turn, done, limit, zoom.from, zoom.to].join(),
+        (...place) => drawPlot(...place, state, limit));
     if (drag) {
         pen.fillStyle = color('--select');
         const left = Math.min(drag.from, drag.to);
@@ -173,5 +179,5 @@ export function drawTilts(canvas, state, limit, drag) {
         pen.fillStyle = color('--ink');
         pen.fillRect(plot.x(chosen) - 0.75, TOP, 1.5, plot.low - TOP);
     }
-    return { seen: scale.seen, dense, record: plot.record };
+    return plot;
 }
