@@ -46,8 +46,8 @@ pub record RunnerUpLeft (r m allowed : ℕ) (named : List ℕ) (l : List ℤ) (b
   pub refused : (searchingShortened r m allowed named l bits word .outcome .number ≡ 0 → ⊥)
       → searchingShortened r m allowed named l bits word .runnerUp ≡ replicate 256 0
 
--- a turned-over link: where the plain search of the readings finds a word of the smaller set, the search on the set gives the negated readings a penalty that is
--- larger by the plain search's gap at least, if it is not refused as 6
+-- a turned-over link: where the plain search of the readings finds a word of the smaller set, the search on the set gives the negated readings a penalty
+-- that is larger by the plain search's gap at least, if it is not refused as 6
 pub record DearerTurnedOver (r m : ℕ) (named : List ℕ) (l : List ℤ) (bits word bits′ word′ : List ℕ) : Type 0 where
   pub dearer : (allowed allowed′ : ℕ) → let o = searching r m allowed l bits word in
       let o′ = searchingShortened r m allowed′ named (map negℤ l) bits′ word′ .outcome in
