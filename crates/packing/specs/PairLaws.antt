@@ -35,6 +35,12 @@ module _ {A : Type 0} (d x : List A) (z : A) where
       ∙ store (3 * k + 2) (3 * k + 2) (omega arith) h g
       ∙ ap (front d x) f
 
+  -- three entries that are those of x
+  pub front-three-by : (k : ℕ) (a b c : A) → a ≡ getD x (3 * k) z → b ≡ getD x (3 * k + 1) z → c ≡ getD x (3 * k + 2) z
+      → 3 * k + 2 < length d → 3 * k + 2 < length x
+      → set (set (set (front d x (3 * k)) (3 * k) a) (3 * k + 1) b) (3 * k + 2) c ≡ front d x (3 * (k + 1))
+  front-three-by k a b c e f i h g = rw (e, f, i) (front-three k h g)
+
   -- two bytes after all of the pairs
   pub front-last-two : (k : ℕ) → 3 * k + 2 ≡ length d → length x ≡ length d
       → set (set (front d x (3 * k)) (3 * k) (getD x (3 * k) z)) (3 * k + 1) (getD x (3 * k + 1) z) ≡ x

@@ -8,7 +8,7 @@ use mir.Facts.{toZ-ofZ}
 use Rattle.numbers.specs.Front.{front}
 use Rattle.packing.specs.Layout.{field, packed}
 use Rattle.packing.specs.LayoutLaws.{length-packed-any, byte-first, byte-middle, byte-last}
-use Rattle.packing.specs.PairLaws.{front-three}
+use Rattle.packing.specs.PairLaws.{front-three-by}
 use Rattle.packing.proofs.put_packed_pairs.Statement.{statement}
 use Rattle.packing.proofs.put_packed_pairs.Tie as tie
 
@@ -57,9 +57,7 @@ mul-part : tie.Need-mul-part Inv-loop μ-loop
 mul-part c = omega arith
 
 slice-write-part : tie.Need-slice-write-part Inv-loop μ-loop
-slice-write-part c =
-    let o = c .before .before .before .before .before .loop in
-    omega (arith, length-packed-any (c .before .before .before .before .before .before .before .args .readings .now))
+slice-write-part c = omega (arith, length-packed-any (c .before .before .before .before .before .before .before .args .readings .now))
 
 mul-part-2 : tie.Need-mul-part-2 Inv-loop μ-loop
 mul-part-2 c = omega arith
@@ -77,13 +75,7 @@ add-part-2 : tie.Need-add-part-2 Inv-loop μ-loop
 add-part-2 c = omega arith
 
 slice-write-part-2 : tie.Need-slice-write-part-2 Inv-loop μ-loop
-slice-write-part-2 c =
-    let o = c .before .before .before .before .before .loop in
-    omega (
-      arith,
-      length-packed-any (c .before .before .before .before .before .before .before .args .readings .now),
-      length-set (o .part) (3 * o .j) (c .before .before .field-of .result / 16),
-    )
+slice-write-part-2 c = simp length-set (omega (arith, length-packed-any (c .before .before .before .before .before .before .before .args .readings .now)))
 
 cast-part-3 : tie.Need-cast-part-3 Inv-loop μ-loop
 cast-part-3 c = omega arith
@@ -95,15 +87,7 @@ add-part-3 : tie.Need-add-part-3 Inv-loop μ-loop
 add-part-3 c = omega arith
 
 slice-write-part-3 : tie.Need-slice-write-part-3 Inv-loop μ-loop
-slice-write-part-3 c =
-    let o = c .before .before .before .before .before .loop in
-    omega (
-      arith,
-      length-packed-any (c .before .before .before .before .before .before .before .args .readings .now),
-      length-set (o .part) (3 * o .j) (c .before .before .field-of .result / 16),
-      length-set (set (o .part) (3 * o .j) (c .before .before .field-of .result / 16)) (3 * o .j + 1)
-          (16 * (c .before .before .field-of .result % 16) + c .field-of2 .result / 256),
-    )
+slice-write-part-3 c = simp length-set (omega (arith, length-packed-any (c .before .before .before .before .before .before .before .args .readings .now)))
 
 add-j : tie.Need-add-j Inv-loop μ-loop
 add-j c = omega arith
@@ -129,7 +113,7 @@ loop-again c =
     let last : c .field-of2 .result % 256 ≡ getD x (3 * o .j + 2) 0 = rw b (sym (byte-last (o .j) l more)) in (
       refl,
       omega arith,
-      rw (first, middle, last, o .inv .2) (front-three (g .part .now) x 0 (o .j) (omega arith) long),
+      rw (o .inv .2) (front-three-by (g .part .now) x 0 (o .j) _ _ _ first middle last (omega arith) long),
       simp length-set (o .inv .3),
     )
 

@@ -36,7 +36,7 @@ returns c =
     let most = c .before .before .greater in
     let least = c .before .lesser in
     let is-most : most .result ≡ greater x y = rw (toZ-ofZ (s .fits .x), toZ-ofZ (s .fits .y)) at (most .ensures) in
-    let is-least : least .result ≡ lesser x y = rw (toZ-ofZ (s .fits .x), toZ-ofZ (s .fits .y)) at (least .ensures) in
+    let is-least : least .result ≡ lesser x y = least .ensures ∙ ap₂ lesser (toZ-ofZ (s .fits .x)) (toZ-ofZ (s .fits .y)) in
     let turned = toZ-ofZ (sub-turned (c .before .before)) ∙ ap (λ (z : ℤ). pos 0 -ℤ z) (toZ-ofZ (record { sfits = most .ok }) ∙ is-most) in
     toZ-ofZ (record { sfits = c .greater2 .ok })
     ∙ c .greater2 .ensures
