@@ -4,10 +4,8 @@
 // extensions and hands each on to the frozen step at the next index. So the number of indices
 // still to choose never grows, and falls from one information step to the next.
 //
-// What the walk holds and counts stands in state, by place, and is changed where it stands:
-// 0 how many full paths are held, 1 the penalty of best, 2 that of second, 3 the visits, 4 whether
-// a visit was wanted that is not allowed, 5 the index that the rows stand for, 6 m, 7 the
-// allowance. Nothing is handed back, so that the last call of a step takes no stack of its own.
+// What the walk holds and counts is in state, by place, and is changed there. Nothing is handed
+// back, so that the last call of a step takes no stack of its own.
 ghost use mathlib.Core.Path.{_≡_};
 ghost use Prim.Native.Nat.{_+_, _^_, _≤_, _<_};
 ghost use lib.ListN.{length, getD, take, set, replicate};
@@ -16,6 +14,25 @@ ghost use Rattle.decoding.specs.Quick.{hard};
 ghost use Rattle.walk.specs.Progress.{drops, seen, standing};
 ghost use Rattle.walk.specs.Progress.{Finished, Shows, StepAsked, StepGiven, Visited};
 ghost use Rattle.walk.specs.Progress.{ValueAsked, ValueGiven, Walkable, Walked};
+
+// The places in state: how many full paths are held, the penalty of best and that of second, the
+// visits, whether a visit was wanted that is not allowed, the index that the rows stand for, m, and
+// the allowance.
+pub const HELD: usize = 0;
+
+pub const BEST_PENALTY: usize = 1;
+
+pub const SECOND_PENALTY: usize = 2;
+
+pub const VISITS: usize = 3;
+
+pub const OUT_OF_VISITS: usize = 4;
+
+pub const ROWS_INDEX: usize = 5;
+
+pub const EXPONENT: usize = 6;
+
+pub const ALLOWANCE: usize = 7;
 
 pub fn wide(x: u32) -> usize
     ensures { λ r. ⌜ r ≡ x ⌝ }
@@ -35,13 +52,13 @@ pub fn visit(state: &mut [u32; 8]) -> bool
     requires { ⌜ length (now state) ≡ 8 ⌝ }
     ensures { λ r. ⌜ Visited (now (state .entry)) r (now (state .exit)) ⌝ }
 {
-    let visits = state[3];
-    let allowed = state[7];
+    let visits = state[VISITS];
+    let allowed = state[ALLOWANCE];
     if visits < allowed {
-        state[3] = next(visits, allowed);
+        state[VISITS] = next(visits, allowed);
         return true;
     }
-    state[4] = 1;
+    state[OUT_OF_VISITS] = 1;
     false
 }
 
@@ -49,7 +66,7 @@ pub fn visit(state: &mut [u32; 8]) -> bool
 fn dropped(state: &[u32; 8], penalty: u32) -> bool
     ensures { λ r. ⌜ r ≡ drops (seen (now (state .entry))) penalty ⌝ }
 {
-    state[2] <= penalty
+    state[SECOND_PENALTY] <= penalty
 }
 
 // The rows are made for index i now.
@@ -58,8 +75,8 @@ pub fn stands(state: &mut [u32; 8], i: usize) -> usize
     ensures { λ r. ⌜ (r ≡ getD (now (state .entry)) 5 0)
         × Shows (now (state .exit)) (standing i (seen (now (state .entry)))) ⌝ }
 {
-    let was = state[5];
-    state[5] = i as u32;
+    let was = state[ROWS_INDEX];
+    state[ROWS_INDEX] = i as u32;
     wide(was)
 }
 
@@ -68,7 +85,7 @@ pub fn full(state: &[u32; 8], i: usize) -> bool
     requires { ⌜ 2 ^ getD (now state) 6 0 ≤ 256 ⌝ }
     ensures { λ r. ⌜ r ≡ eqb i (2 ^ getD (now (state .entry)) 6 0) ⌝ }
 {
-    let m = state[6];
+    let m = state[EXPONENT];
     i == 1usize << m
 }
 
@@ -116,23 +133,23 @@ fn finish(
         (now (path .entry)) (now (best .entry)) (now (second .entry))
         (seen (now (state .exit))) (now (best .exit)) (now (second .exit)) ⌝ }
 {
-    if state[0] == 0 {
+    if state[HELD] == 0 {
         copy(path, best, n);
-        state[0] = 1;
-        state[1] = penalty;
+        state[HELD] = 1;
+        state[BEST_PENALTY] = penalty;
         return;
     }
-    let old = state[1];
-    state[0] = 2;
+    let old = state[BEST_PENALTY];
+    state[HELD] = 2;
     if penalty < old {
         copy(best, second, n);
         copy(path, best, n);
-        state[2] = old;
-        state[1] = penalty;
+        state[SECOND_PENALTY] = old;
+        state[BEST_PENALTY] = penalty;
         return;
     }
     copy(path, second, n);
-    state[2] = penalty;
+    state[SECOND_PENALTY] = penalty;
 }
 
 // The value at index i of the path.
@@ -148,7 +165,7 @@ fn value_at(
     ensures { λ r. ⌜ ValueGiven (now (readings .entry)) (now (path .entry)) (now (state .entry)) i
         r (now (rows .exit)) (now (state .exit)) ⌝ }
 {
-    let m = state[6];
+    let m = state[EXPONENT];
     let was = stands(state, i);
     memory::value(readings, rows, path, word, wide(m), was, i)
 }
@@ -292,10 +309,10 @@ pub fn walk(
     let mut rows = [0i32; 256];
     let mut path = [0u8; 256];
     let mut word = [0u8; 256];
-    state[2] = 4294967295;
-    state[5] = (1u32 << m) - 1;
-    state[6] = m;
-    state[7] = allowed;
+    state[SECOND_PENALTY] = 4294967295;
+    state[ROWS_INDEX] = (1u32 << m) - 1;
+    state[EXPONENT] = m;
+    state[ALLOWANCE] = allowed;
     frozen_step(
         readings,
         kinds,
