@@ -49,6 +49,7 @@ static void searches(void) {
     is(cinorbis_telegram_read(readings, N, &telegram, &numbers), 2, 0, 0, 0);
     is(cinorbis_telegram_read_within(9999, readings, N, &telegram, &numbers), 2, 0, 0, 0);
     is(cinorbis_telegram_write(1, 1, 7, out, W, &numbers), 0, 0, 3, 0);
+    is(cinorbis_telegram_of_bits(bits, K, &telegram, &numbers), 0, 2, 0, 0);
 }
 
 static void shortened(void) {
