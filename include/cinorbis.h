@@ -443,7 +443,7 @@ CINORBIS_CALL uint32_t cinorbis_index_front(const uint8_t *capture, cinorbis_siz
  * at or past the end, 1 and 8 as met in stepping, 10 if the capture ends right before w, then 1,
  * 8, 9 of the record itself. With a table of another capture it still only refuses or gives some
  * part of the capture.
- * Promise: index::header_of, index::find, index::part_start. */
+ * Promise: index::locate. */
 CINORBIS_CALL uint32_t cinorbis_index_find(cinorbis_size w, const uint8_t *capture,
                                            cinorbis_size capture_length, const cinorbis_size *table,
                                            cinorbis_size entries, cinorbis_entry *entry);

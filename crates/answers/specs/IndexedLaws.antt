@@ -8,7 +8,7 @@ use borrow.Author.Tests.{ne-eqb}
 use Rattle.code.specs.Sound.{carried}
 use Rattle.code.specs.RefusalLaws.{number-above}
 use Rattle.record.specs.declared.Header.{Header}
-use Rattle.record.specs.Reader as Reader
+use Rattle.index.specs.declared.Located.{Located}
 use Rattle.index.specs.declared.Indexed.{Indexed}
 use Rattle.index.specs.declared.Indexed.the-variants.{Done, Refused}
 use Rattle.index.specs.declared.Fronted.{Fronted}
@@ -52,20 +52,13 @@ reported-appended before a d t o returned out after e f g h =
     ∙ by-appended before a d t
     ∙ ap (shownAppended before) e
 
-pub reported-entry : (answer header : Header) (start first : ℕ) (given part out : List ℕ) (returned : ℕ) → Reader.outcomeOf answer ≡ Reader.outcomeOf header
-    → start ≡ first → given ≡ part → returned ≡ headerNumber answer → out ≡ entryNumbers answer start (length given)
-    → reported returned out [] ≡ shownEntry header first part
-reported-entry answer header start first given part out returned e s f n o =
-    cc (
-      o,
-      s,
-      ap length f,
-      n,
-      ap (λ (t : Reader.HeaderOutcome). t .carry .number) e,
-      ap (λ (t : Reader.HeaderOutcome). t .carry .place) e,
-      ap (λ (t : Reader.HeaderOutcome). t .r) e,
-      ap (λ (t : Reader.HeaderOutcome). t .m) e,
-    )
+pub reported-entry : (answer : Located) (header : Header) (start : ℕ) (part out : List ℕ) (returned : ℕ)
+    → answer ≡ record { header = header; start = start; length = length part }
+    → returned ≡ headerNumber (answer .header) → out ≡ entryNumbers (answer .header) (answer .start) (answer .length)
+    → reported returned out [] ≡ shownEntry header start part
+reported-entry answer header start part out returned e f g =
+    ap₂ (λ (n : ℕ) (l : List ℕ). reported n l []) f g
+    ∙ ap (λ (k : Located). reported (headerNumber (k .header)) (entryNumbers (k .header) (k .start) (k .length)) []) e
 
 -- what is handed over of an append, by the variant that it is
 pub handed-append : (before : List ℕ) (answer a : Indexed) (returned : ℕ) (after out : List ℕ) → answer ≡ a

@@ -18,16 +18,17 @@ use Rattle.packing.specs.LayoutLaws.{length-record}
 use Rattle.record.specs.Reader.{codeOf, lengthBy}
 use Rattle.record.specs.Writing.{WrittenOutcome, writable, writing}
 use Rattle.record.specs.WrittenRead.{Asked, asked-writes, writes-asked, ReadBack, written-read}
+use Rattle.index.specs.Finding.{block}
 use Rattle.index.specs.declared.Index.{Index}
 use Rattle.index.specs.declared.Indexed.the-variants.{Done}
 use Rattle.index.specs.declared.Place.the-variants.{At}
 use Rattle.index.specs.Steps.{bytesAt, stepped, Starts, these, andThese, startsAt, startsOf}
 use Rattle.index.specs.Making.{every, entriesOf, indexOf, outcomeOf, madeBy, making, Room, withEntry, listOf}
-use Rattle.index.specs.Appending.{AppendOutcome, full, appended, appending, Fitting}
+use Rattle.index.specs.Appending.{AppendOutcome, full, appended, appending}
 use Rattle.index.specs.Own.{Belongs, MadeAfresh}
 use Rattle.index.specs.StepsLaws.{Goes, step-next, starts-end, starts-next, starts-begin, starts-none}
 use Rattle.index.specs.MakingLaws.{length-entries, made-whole}
-use Rattle.index.specs.AppendingLaws.{free-room, append-refused, append-full, append-fits, append-done}
+use Rattle.index.specs.AppendingLaws.{Fitting, free-room, append-refused, append-full, append-fits, append-done}
 
 -- ---- bytes behind a capture of whole records change none of its steps
 module _ (s rest : List ℕ) where
@@ -50,16 +51,16 @@ module _ (s rest : List ℕ) where
       ∙ ap (λ (y : ℕ). these (y ∷ (l ++ (length s ∷ [])))) (sym (b .first))
 
 -- ---- one start more is an entry more exactly where the number of records is a multiple of 16; k are passed over first
-every-hit : (k : ℕ) (l : List ℕ) (u : ℕ) → k < 16 → (length l + (16 - k)) % 16 ≡ 0 → every k (l ++ (u ∷ [])) ≡ every k l ++ (u ∷ [])
+every-hit : (k : ℕ) (l : List ℕ) (u : ℕ) → k < block → (length l + (block - k)) % block ≡ 0 → every k (l ++ (u ∷ [])) ≡ every k l ++ (u ∷ [])
 every-hit zero [] u h e = refl
 every-hit (suc k) [] u h e = absurd (omega arith)
-every-hit zero (x ∷ l) u h e = ap (λ (y : List ℕ). x ∷ y) (every-hit 15 l u (omega arith) (omega arith))
+every-hit zero (x ∷ l) u h e = ap (λ (y : List ℕ). x ∷ y) (every-hit (block - 1) l u (omega arith) (omega arith))
 every-hit (suc k) (x ∷ l) u h e = every-hit k l u (omega arith) (omega arith)
 
-every-miss : (k : ℕ) (l : List ℕ) (u : ℕ) → k < 16 → ((length l + (16 - k)) % 16 ≡ 0 → ⊥) → every k (l ++ (u ∷ [])) ≡ every k l
+every-miss : (k : ℕ) (l : List ℕ) (u : ℕ) → k < block → ((length l + (block - k)) % block ≡ 0 → ⊥) → every k (l ++ (u ∷ [])) ≡ every k l
 every-miss zero [] u h e = absurd (e (omega arith))
 every-miss (suc k) [] u h e = refl
-every-miss zero (x ∷ l) u h e = ap (λ (y : List ℕ). x ∷ y) (every-miss 15 l u (omega arith) (λ z. e (omega arith)))
+every-miss zero (x ∷ l) u h e = ap (λ (y : List ℕ). x ∷ y) (every-miss (block - 1) l u (omega arith) (λ z. e (omega arith)))
 every-miss (suc k) (x ∷ l) u h e = every-miss k l u (omega arith) (λ z. e (omega arith))
 
 -- an entry behind those at the front of the table
@@ -90,21 +91,21 @@ module _ (all : List ℕ) (u : ℕ) (t : List ℕ) (stands : take (length (entri
   pub one-more : Room (length t) (length all) → Entered
   one-more room =
       let count = length-entries all in
-      elim (ℕ-discrete (length all % 16) 0) [
+      elim (ℕ-discrete (length all % block) 0) [
         | yes z ↦
             let hit : longer ≡ own ++ (u ∷ []) = every-hit 0 all u (omega arith) (omega arith) in
-            let place : length all / 16 ≡ length own = omega (arith, count) in
+            let place : length all / block ≡ length own = omega (arith, count) in
             let long : length longer ≡ length own + 1 = ap length hit ∙ length-append own (u ∷ []) in
             let free : length own < length t = omega (arith, room z, place) in
             record {
               enough = omega arith;
-              same = rw (long, hit, eq-eqb (length all % 16) 0 z, place) (set-behind own t u stands free);
+              same = rw (long, hit, eq-eqb (length all % block) 0 z, place) (set-behind own t u stands free);
             }
         | no n ↦
             let miss : longer ≡ own = every-miss 0 all u (omega arith) (λ z. n (omega arith)) in
             record {
               enough = omega (arith, ap length miss, fits);
-              same = rw (miss, ne-eqb (length all % 16) 0 n) (ap (λ (x : List ℕ). x ++ drop (length own) t) (sym stands) ∙ take-append-drop (length own) t);
+              same = rw (miss, ne-eqb (length all % block) 0 n) (ap (λ (x : List ℕ). x ++ drop (length own) t) (sym stands) ∙ take-append-drop (length own) t);
             }
       ]
 

@@ -1,5 +1,4 @@
 -- What an append reports and leaves, for every input: 1, 2, 4, then 3 for either buffer (docs/RULES.md, §14).
-use mathlib.Core.Path.{_≡_}
 use mathlib.Core.List.{List}
 use mathlib.Core.Bool.{Bool, true, false, cond}
 use Prim.Native.Nat.{ℕ, suc, _/_, _%_}
@@ -55,7 +54,8 @@ appendedBy (admission.Allowed c) index r m l capture table =
 unfoldable pub appending : Index → ℕ → ℕ → List ℤ → List ℕ → List ℕ → AppendOutcome
 appending index r m l capture table = appendedBy (writable r m l (length capture) (index .used)) index r m l capture table
 
--- none of the tests applies
-pub record Fitting (index : Index) (r m : ℕ) (l : List ℤ) (capture : List ℕ) (entries : ℕ) : Type 0 where
-  pub writes : writing r m l capture (index .used) .carry .number ≡ 0
-  pub room : full index entries ≡ false
+-- ---- in steps, as code makes it
+-- with no room for the entry: the writer's own refusal, or 3
+abbrev pub notAppended : Admitted → Indexed
+notAppended (admission.Allowed c) = Refused OutputLength
+notAppended (admission.Refused why) = Refused why

@@ -8,6 +8,7 @@ use Rattle.code.specs.declared.Refusal.the-variants.{Torn, NoEntry}
 use Rattle.record.specs.declared.Header.{Header}
 use Rattle.record.specs.declared.Header.the-variants as header
 use Rattle.record.specs.Reader.{headerOf, partBy}
+use Rattle.index.specs.declared.Located.{Located}
 use Rattle.index.specs.declared.Place.{Place}
 use Rattle.index.specs.declared.Place.the-variants.{At, Refused}
 use Rattle.index.specs.Steps.{passed}
@@ -59,3 +60,10 @@ partStartAt s (At start) = partAfter (headerOf (drop start s)) start
 
 abbrev pub partStart : List ℕ → List ℕ → ℕ → ℕ
 partStart s table w = partStartAt s (startIn s table w)
+
+-- all of it: what the record says, where its packed part starts in the capture, and how long that is
+abbrev pub locatedAt : List ℕ → Place → Located
+locatedAt s p = record { header = headerAt s p; start = partStartAt s p; length = length (partAt s p) }
+
+abbrev pub locatedIn : List ℕ → List ℕ → ℕ → Located
+locatedIn s table w = locatedAt s (startIn s table w)

@@ -13,35 +13,35 @@ use Rattle.code.specs.declared.Refusal.the-variants.{Torn, NoEntry}
 use Rattle.index.specs.declared.Place.{Place}
 use Rattle.index.specs.declared.Place.the-variants.{At, Refused}
 use Rattle.index.specs.Steps.{stepped, onward, passed}
-use Rattle.index.specs.Finding.{asStart, startIn}
+use Rattle.index.specs.Finding.{asStart, startIn, block}
 use Rattle.index.specs.StepsLaws.{step-goes}
 
 module _ (s table : List ℕ) (w : ℕ) where
   abbrev entry : ℕ
-  entry = getD table (w / 16) 0
+  entry = getD table (w / block) 0
 
-  pub start-none : length table ≤ w / 16 → Refused NoEntry ≡ startIn s table w
+  pub start-none : length table ≤ w / block → Refused NoEntry ≡ startIn s table w
   unfolding startIn
-  start-none h = rw (le-leb (length table) (w / 16) h)
+  start-none h = rw (le-leb (length table) (w / block) h)
 
-  module _ (there : w / 16 < length table) where
+  module _ (there : w / block < length table) where
     pub start-past : length s ≤ entry → Refused Torn ≡ startIn s table w
     unfolding startIn
-    start-past h = rw (lt-leb (length table) (w / 16) there, le-leb (length s) entry h)
+    start-past h = rw (lt-leb (length table) (w / block) there, le-leb (length s) entry h)
 
     module _ (inside : entry < length s) where
       -- then by stepping
-      pub start-by : startIn s table w ≡ asStart s (passed s (w % 16) entry)
+      pub start-by : startIn s table w ≡ asStart s (passed s (w % block) entry)
       unfolding startIn
-      start-by = rw (lt-leb (length table) (w / 16) there, lt-leb (length s) entry inside)
+      start-by = rw (lt-leb (length table) (w / block) there, lt-leb (length s) entry inside)
 
-      pub start-end : (p : ℕ) → passed s (w % 16) entry ≡ At p → p ≡ length s → Refused NoEntry ≡ startIn s table w
+      pub start-end : (p : ℕ) → passed s (w % block) entry ≡ At p → p ≡ length s → Refused NoEntry ≡ startIn s table w
       start-end p e f = sym (start-by ∙ ap (asStart s) e ∙ rw (eq-eqb p (length s) f))
 
-      pub start-found : (p : ℕ) → passed s (w % 16) entry ≡ At p → (p ≡ length s → ⊥) → At p ≡ startIn s table w
+      pub start-found : (p : ℕ) → passed s (w % block) entry ≡ At p → (p ≡ length s → ⊥) → At p ≡ startIn s table w
       start-found p e f = sym (start-by ∙ ap (asStart s) e ∙ rw (ne-eqb p (length s) f))
 
-      pub start-refused : (why : Refusal) → passed s (w % 16) entry ≡ Refused why → Refused why ≡ startIn s table w
+      pub start-refused : (why : Refusal) → passed s (w % block) entry ≡ Refused why → Refused why ≡ startIn s table w
       start-refused why e = sym (start-by ∙ ap (asStart s) e)
 
 -- ---- a start lies inside the capture
@@ -69,9 +69,9 @@ start-inside s table w p e =
     (λ there.
     ⊎-elim
     (λ inside.
-    as-inside s (passed s (w % 16) (entry s table w)) p (λ q f. passed-inside s (w % 16) (entry s table w) q (omega arith) f)
+    as-inside s (passed s (w % block) (entry s table w)) p (λ q f. passed-inside s (w % block) (entry s table w) q (omega arith) f)
     (sym (start-by s table w there inside) ∙ e))
     (λ past. let z : _≡_ {A = ℕ} 0 1 = cc (start-past s table w there past) in absurd (omega arith))
     (lt-or-le (entry s table w) (length s)))
     (λ none. let z : _≡_ {A = ℕ} 0 1 = cc (start-none s table w none) in absurd (omega arith))
-    (lt-or-le (w / 16) (length table))
+    (lt-or-le (w / block) (length table))

@@ -14,7 +14,7 @@ use Rattle.index.specs.declared.Index.{Index}
 use Rattle.index.specs.declared.Place.{Place}
 use Rattle.index.specs.declared.Place.the-variants.{At, Refused}
 use Rattle.index.specs.Steps.{startsOf}
-use Rattle.index.specs.Finding.{startIn, headerAt, partAt, partIn, partAfter, partStartAt, partStart}
+use Rattle.index.specs.Finding.{startIn, headerAt, partAt, partIn, partAfter, partStartAt, partStart, block}
 use Rattle.index.specs.Making.{entriesOf, listOf}
 use Rattle.index.specs.MakingLaws.{length-entries}
 use Rattle.index.specs.Own.{Own, Belongs, FoundInUse}
@@ -22,20 +22,20 @@ use Rattle.index.specs.OwnMet.{own-start}
 use Rattle.index.specs.BelongsMet.{take-taken}
 
 -- an entry of its own is read alike
-same-start : (s own table : List ℕ) (w : ℕ) → take (length own) table ≡ own → w / 16 < length own → startIn s table w ≡ startIn s own w
+same-start : (s own table : List ℕ) (w : ℕ) → take (length own) table ≡ own → w / block < length own → startIn s table w ≡ startIn s own w
 unfolding startIn
 same-start s own table w front there =
     let long : length own ≤ length table = omega (arith, ap length front, length-take (length own) table) in
-    let entry : getD table (w / 16) 0 ≡ getD own (w / 16) 0 =
-    sym (getD-take (length own) table (w / 16) 0 there) ∙ ap (λ (t : List ℕ). getD t (w / 16) 0) front in
-    rw (lt-leb (length table) (w / 16) (omega arith), lt-leb (length own) (w / 16) there, entry)
+    let entry : getD table (w / block) 0 ≡ getD own (w / block) 0 =
+    sym (getD-take (length own) table (w / block) 0 there) ∙ ap (λ (t : List ℕ). getD t (w / block) 0) front in
+    rw (lt-leb (length table) (w / block) (omega arith), lt-leb (length own) (w / block) there, entry)
 
 pub found-in-use : (index : Index) (capture table : List ℕ) → Belongs index capture table → (w : ℕ) → w < index .records → FoundInUse index capture table w
 found-in-use index capture table b w h =
     let s = take (index .used) capture in
     let all = listOf (startsOf s) in
     let own = entriesOf all in
-    let there : w / 16 < length own = omega (arith, b .count, length-entries all) in
+    let there : w / block < length own = omega (arith, b .count, length-entries all) in
     let is = same-start s own table w (b .entries) there ∙ own-start s own (record { whole = b .whole; own = refl }) w there in
     record { header = ap (headerAt s) is; part = ap (partAt s) is }
 

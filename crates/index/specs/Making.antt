@@ -2,7 +2,7 @@
 use mathlib.Core.Path.{_≡_}
 use mathlib.Core.List.{List, [], _∷_, _++_}
 use mathlib.Core.Bool.{cond}
-use Prim.Native.Nat.{ℕ, zero, suc, _+_, _/_, _%_, _≤_, _<_}
+use Prim.Native.Nat.{ℕ, zero, suc, _+_, _-_, _/_, _%_, _≤_, _<_}
 use lib.ListN.{length, drop, set}
 use lib.Dec.{ltb, eqb}
 use Rattle.code.specs.Sound.{Carried, carrying, carried}
@@ -18,7 +18,7 @@ use Rattle.index.specs.Finding.{block}
 -- of all starts, the first and every 16th after it; k are passed over before
 abbrev pub every : ℕ → List ℕ → List ℕ
 every k [] = []
-every zero (at ∷ l) = at ∷ every 15 l
+every zero (at ∷ l) = at ∷ every (block - 1) l
 every (suc k) (at ∷ l) = every k l
 
 abbrev pub entriesOf : List ℕ → List ℕ
@@ -58,7 +58,7 @@ counted n (these l) = count.Records (n + length l)
 counted n (refused why) = count.Refused why
 
 abbrev pub entriesFor : ℕ → ℕ
-entriesFor records = records / block + (records % block + 15) / block
+entriesFor records = records / block + (records % block + (block - 1)) / block
 
 -- the entry of record w, if it has one, and a table with room for it
 abbrev pub Room : ℕ → ℕ → Type 0

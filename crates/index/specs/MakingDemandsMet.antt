@@ -19,6 +19,7 @@ use Rattle.code.specs.Demand1.{refusedAs}
 use Rattle.code.specs.Demand1Laws.{Decides, demand-1}
 use Rattle.record.specs.Writing.{writable}
 use Rattle.record.specs.WritingDemandMet.{decides-writing}
+use Rattle.index.specs.Finding.{block}
 use Rattle.index.specs.declared.Index.{Index}
 use Rattle.index.specs.declared.Place.{Place}
 use Rattle.index.specs.declared.Place.the-variants.{At, Refused}
@@ -128,21 +129,21 @@ module _ (index : Index) (table : List ℕ) where
   full-decided =
       elim (ℕ-discrete records largestCount) [
         | yes most ↦ inl (inl most, rw (eq-eqb records largestCount most))
-        | no fewer ↦ elim (ℕ-discrete (records % 16) 0) [
+        | no fewer ↦ elim (ℕ-discrete (records % block) 0) [
           | no other ↦ inr (
             λ x. ⊎-elim fewer (λ y. other (y .0)) x,
-            rw (ne-eqb records largestCount fewer, ne-eqb (records % 16) 0 other),
+            rw (ne-eqb records largestCount fewer, ne-eqb (records % block) 0 other),
           )
           | yes first ↦ ⊎-elim
               (λ room. inr (
                 λ x. ⊎-elim fewer (λ y. omega (arith, y .1)) x,
-                rw (ne-eqb records largestCount fewer, eq-eqb (records % 16) 0 first, lt-leb (length table) (records / 16) room),
+                rw (ne-eqb records largestCount fewer, eq-eqb (records % block) 0 first, lt-leb (length table) (records / block) room),
               ))
               (λ none. inl (
                 inr (first, none),
-                rw (ne-eqb records largestCount fewer, eq-eqb (records % 16) 0 first, le-leb (length table) (records / 16) none),
+                rw (ne-eqb records largestCount fewer, eq-eqb (records % block) 0 first, le-leb (length table) (records / block) none),
               ))
-              (lt-or-le (records / 16) (length table))
+              (lt-or-le (records / block) (length table))
         ]
       ]
 

@@ -12,6 +12,7 @@ use Rattle.numbers.specs.Choice.{lt-or-le}
 use Rattle.numbers.specs.Front.{front, front-suc}
 use Rattle.code.specs.declared.Refusal.{Refusal}
 use Rattle.code.specs.declared.Refusal.the-variants.{OutputLength}
+use Rattle.index.specs.Finding.{block}
 use Rattle.index.specs.declared.Indexed.the-variants.{Done, Refused}
 use Rattle.index.specs.declared.Counted.the-variants as count
 use Rattle.index.specs.declared.Place.the-variants as place
@@ -35,26 +36,26 @@ module _ (s : List ℕ) (n at : ℕ) where
   count-end e = ap (counted n) (starts-end s at e) ∙ ap count.Records (omega arith)
 
 -- ---- every 16th
-length-every : (k : ℕ) (l : List ℕ) → k < 16 → length (every k l) ≡ (length l + (15 - k)) / 16
+length-every : (k : ℕ) (l : List ℕ) → k < block → length (every k l) ≡ (length l + ((block - 1) - k)) / block
 length-every k [] h = omega arith
-length-every zero (x ∷ l) h = omega (arith, length-every 15 l (omega arith))
+length-every zero (x ∷ l) h = omega (arith, length-every (block - 1) l (omega arith))
 length-every (suc k) (x ∷ l) h = omega (arith, length-every k l (omega arith))
 
 pub length-entries : (l : List ℕ) → length (entriesOf l) ≡ entriesFor (length l)
 length-entries l = omega (arith, length-every 0 l (omega arith))
 
-every-at : (k : ℕ) (l : List ℕ) (q : ℕ) → getD (every k l) q 0 ≡ getD l (k + 16 * q) 0
+every-at : (k : ℕ) (l : List ℕ) (q : ℕ) → getD (every k l) q 0 ≡ getD l (k + block * q) 0
 every-at k [] q = refl
 every-at zero (x ∷ l) zero = refl
 every-at zero (x ∷ l) (suc q) =
-    let e : 0 + 16 * suc q ≡ suc (15 + 16 * q) = omega arith in
-    rw e (every-at 15 l q)
+    let e : 0 + block * suc q ≡ suc ((block - 1) + block * q) = omega arith in
+    rw e (every-at (block - 1) l q)
 every-at (suc k) (x ∷ l) q =
-    let e : suc k + 16 * q ≡ suc (k + 16 * q) = omega arith in
+    let e : suc k + block * q ≡ suc (k + block * q) = omega arith in
     rw e (every-at k l q)
 
 -- entry q is the start of record 16 q
-pub entry-at : (l : List ℕ) (q : ℕ) → getD (entriesOf l) q 0 ≡ getD l (16 * q) 0
+pub entry-at : (l : List ℕ) (q : ℕ) → getD (entriesOf l) q 0 ≡ getD l (block * q) 0
 entry-at l q = every-at 0 l q ∙ ap (λ (i : ℕ). getD l i 0) (omega arith)
 
 these-same : {l l′ : List ℕ} → these l ≡ these l′ → l ≡ l′
@@ -114,23 +115,23 @@ module _ (s before now : List ℕ) (at w : ℕ) (h : Entering s before at w now)
   next-entry : at < length s → withEntry w at now ≡ front before (entriesOf all) (entriesFor (w + 1))
   next-entry inside =
       let made = entriesOf all in
-      let q = w / 16 in
+      let q = w / block in
       let count = length-entries all in
       let one = one-left inside in
-      elim (ℕ-discrete (w % 16) 0) [
+      elim (ℕ-discrete (w % block) 0) [
         | yes z ↦
             let f : entriesFor w ≡ q = omega arith in
             let g : entriesFor (w + 1) ≡ suc q = omega arith in
-            let i : w ≡ 16 * q = omega arith in
+            let i : w ≡ block * q = omega arith in
             let v : at ≡ getD made q 0 = sym (begins inside .first) ∙ ap (λ (i : ℕ). getD all i 0) i ∙ sym (entry-at all q) in
-            rw (eq-eqb (w % 16) 0 z)
+            rw (eq-eqb (w % block) 0 z)
             (ap (λ (x : List ℕ). set x q at) (h .is ∙ ap (front before made) f)
             ∙ ap (set (front before made q) q) v
             ∙ front-suc before made q 0 (omega (arith, count, one, h .enough)) (omega (arith, count, one))
             ∙ ap (front before made) (sym g))
         | no n ↦
             let f : entriesFor w ≡ entriesFor (w + 1) = omega (arith, n) in
-            rw (ne-eqb (w % 16) 0 n) (h .is ∙ ap (front before made) f)
+            rw (ne-eqb (w % block) 0 n) (h .is ∙ ap (front before made) f)
       ]
 
   pub enter-next : at < length s → (k : ℕ) (then : List ℕ) → k ≡ bytesAt s at → then ≡ withEntry w at now → length then ≡ length now

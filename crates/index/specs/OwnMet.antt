@@ -16,7 +16,7 @@ use Rattle.record.specs.Reader.{headerOf, partBy}
 use Rattle.index.specs.declared.Place.{Place}
 use Rattle.index.specs.declared.Place.the-variants.{At, Refused}
 use Rattle.index.specs.Steps.{stepped, onward, passed, these, startsAt, startsOf}
-use Rattle.index.specs.Finding.{asStart, startIn, fromBeginning, headerAt, partAt, partIn}
+use Rattle.index.specs.Finding.{asStart, startIn, fromBeginning, headerAt, partAt, partIn, block}
 use Rattle.index.specs.Making.{entriesOf, listOf}
 use Rattle.index.specs.StepsLaws.{step-past, passed-on, passed-refused, passed-none, starts-begin, starts-none}
 use Rattle.index.specs.FindingLaws.{start-none, start-by}
@@ -79,25 +79,25 @@ module _ (s table : List ℕ) (o : Own s table) (w : ℕ) where
   long : length table ≡ length (entriesOf all)
   long = ap length (o .own)
 
-  module _ (there : w / 16 < length table) where
+  module _ (there : w / block < length table) where
     abbrev entry : ℕ
-    entry = getD table (w / 16) 0
+    entry = getD table (w / block) 0
 
-    first : 16 * (w / 16) < length all
+    first : block * (w / block) < length all
     first = omega (arith, long, length-entries all)
 
-    entry-is : entry ≡ getD all (16 * (w / 16)) 0
-    entry-is = ap (λ (t : List ℕ). getD t (w / 16) 0) (o .own) ∙ entry-at all (w / 16)
+    entry-is : entry ≡ getD all (block * (w / block)) 0
+    entry-is = ap (λ (t : List ℕ). getD t (w / block) 0) (o .own) ∙ entry-at all (w / block)
 
     pub own-start : startIn s table w ≡ fromBeginning s w
     own-start =
-        let is : w ≡ 16 * (w / 16) + w % 16 = omega arith in
-        let led : passed s (16 * (w / 16)) 0 ≡ At entry = passed-starts s all 0 (16 * (w / 16)) (omega arith) (o .whole) first ∙ ap At (sym entry-is) in
-        let same : passed s w 0 ≡ passed s (w % 16) entry =
+        let is : w ≡ block * (w / block) + w % block = omega arith in
+        let led : passed s (block * (w / block)) 0 ≡ At entry = passed-starts s all 0 (block * (w / block)) (omega arith) (o .whole) first ∙ ap At (sym entry-is) in
+        let same : passed s w 0 ≡ passed s (w % block) entry =
         ap (λ (i : ℕ). passed s i 0) is
-        ∙ passed-sum s (16 * (w / 16)) (w % 16) 0
-        ∙ ap (λ (p : Place). onward p (λ next. passed s (w % 16) next)) led in
-        start-by s table w there (omega (arith, entry-is, starts-inside s all 0 (16 * (w / 16)) (omega arith) (o .whole) first)) ∙ ap (asStart s) (sym same)
+        ∙ passed-sum s (block * (w / block)) (w % block) 0
+        ∙ ap (λ (p : Place). onward p (λ next. passed s (w % block) next)) led in
+        start-by s table w there (omega (arith, entry-is, starts-inside s all 0 (block * (w / block)) (omega arith) (o .whole) first)) ∙ ap (asStart s) (sym same)
 
   first-past : w ≡ length all → fromBeginning s w ≡ Refused NoEntry
   first-past e =
@@ -107,7 +107,7 @@ module _ (s table : List ℕ) (o : Own s table) (w : ℕ) where
   later-past h = ap (asStart s) (passed-past s all 0 w (omega arith) (o .whole) h)
 
   -- past the table both find nothing
-  nothing : length table ≤ w / 16 → partAt s (fromBeginning s w) ≡ []
+  nothing : length table ≤ w / block → partAt s (fromBeginning s w) ≡ []
   nothing h =
       elim (ℕ-discrete w (length all)) [
         | yes e ↦ ap (partAt s) (first-past e)
@@ -120,7 +120,7 @@ module _ (s table : List ℕ) (o : Own s table) (w : ℕ) where
         part = ⊎-elim
             (λ there. ap (partAt s) (own-start there))
             (λ none. ap (partAt s) (sym (start-none s table w none)) ∙ sym (nothing none))
-            (lt-or-le (w / 16) (length table));
+            (lt-or-le (w / block) (length table));
         header = λ there. ap (headerAt s) (own-start there);
         past = λ none. sym (start-none s table w none);
         first-past = first-past;

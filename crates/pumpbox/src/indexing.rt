@@ -52,10 +52,9 @@ pub extern "C" fn cinorbis_index_find(
         (partStart (now (capture .entry)) (now (table .entry)) w)
         (partIn (now (capture .entry)) (now (table .entry)) w) ⌝ }
 {
-    let header = index::header_of(capture, table, w);
-    let start = index::part_start(capture, table, w);
-    let part = index::find(capture, table, w);
-    put_entry(header, start, part.len(), out)
+    let found = index::locate(capture, table, w);
+    let header = found.header;
+    put_entry(header, found.start, found.length, out)
 }
 
 // The index that was handed in.

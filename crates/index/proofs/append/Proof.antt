@@ -1,32 +1,44 @@
--- `index::append` meets its contract: the writer's tests, then the table's room, then both are written.
-use mathlib.Core.Path.{sym, _∙_}
-use Rattle.index.specs.AppendingLaws.{append-refused, append-full, append-fits, append-done}
+-- `index::append` meets its contract: with no room for its entry a record is refused; else it is written, and its entry.
+use mathlib.Core.Path.{ap, sym, _∙_}
+use native.Mathlib.Omega.{arith}
+use Rattle.record.specs.declared.Written.{Written}
+use Rattle.record.specs.Writing.{outcomeOf}
+use Rattle.index.specs.declared.Indexed.{Indexed}
+use Rattle.index.specs.Appending.{appendOutcomeOf, notAppended}
+use Rattle.index.specs.AppendingLaws.{few-records, free-room, append-none, append-stopped, append-wrote}
 use borrow.Author.Needs.{needs}
 use Rattle.index.proofs.append.Statement.{statement}
 use Rattle.index.proofs.append.Tie as tie
 
-writable-requires : tie.Need-writable-requires
-writable-requires c κs = search needs
-
-enum-told : tie.Need-enum-told
-enum-told c = search needs
-
 full-requires : tie.Need-full-requires
 full-requires c κs = search needs
 
+writable-requires : tie.Need-writable-requires
+writable-requires c κs = search needs
+
+not-appended-requires : tie.Need-not-appended-requires
+not-appended-requires c κs = search needs
+
 returns : tie.Need-returns
 returns c =
-    let g = c .before .before .before .before .before .before .before .args in
-    append-full (g .index) (g .r) (g .m) (g .readings .now) (g .capture .now) (g .table .now) _
-    (sym (c .before .before .enum-told .given .1) ∙ c .before .before .before .before .writable .ensures)
-    (sym (c .before .full .ensures) ∙ c .if1 .taken)
+    let g = c .before .before .before .before .before .before .args in
+    ap (λ (a : Indexed). appendOutcomeOf a (g .capture .now) (g .table .now)) (c .not-appended .ensures ∙ ap notAppended (c .before .writable .ensures))
+    ∙ append-none (g .index) (g .r) (g .m) (g .readings .now) (g .capture .now) (g .table .now)
+    (sym (c .before .before .before .full .ensures) ∙ c .before .before .if1 .taken)
 
-append-fitting-requires : tie.Need-append-fitting-requires
-append-fitting-requires c κs =
-    let g = c .before .before .before .before .before .before .before .before .before .args in
-    append-fits (g .index) (g .r) (g .m) (g .readings .now) (g .capture .now) (g .table .now) _
-    (sym (c .before .before .before .before .enum-told .given .1) ∙ c .before .before .before .before .before .before .writable .ensures)
-    (sym (c .before .before .before .full .ensures) ∙ c .before .before .if1 .left)
+write-requires : tie.Need-write-requires
+write-requires c κs = search needs
+
+enum-known-next : tie.Need-enum-known-next
+enum-known-next c = search needs
+
+put-entry-requires : tie.Need-put-entry-requires
+put-entry-requires c κs =
+    free-room (c .before .before .before .before .before .before .before .before .before .before .before .before .args .index) _ (sym (c .before .before .before .before .before .before .before .before .before .full .ensures) ∙ c .before .before .before .before .before .before .before .before .if1 .left)
+
+add-t20 : tie.Need-add-t20
+add-t20 c =
+    omega (arith, few-records (c .before .before .before .before .before .before .before .before .before .before .before .before .before .before .before .before .args .index) _ (sym (c .before .before .before .before .before .before .before .before .before .before .before .before .before .full .ensures) ∙ c .before .before .before .before .before .before .before .before .before .before .before .before .if1 .left))
 
 enum-known-why : tie.Need-enum-known-why
 enum-known-why c = search needs
@@ -39,31 +51,40 @@ same-length-2 c = search needs
 
 returns-2 : tie.Need-returns-2
 returns-2 c =
-    let g = c .before .before .before .before .before .before .before .before .before .before .before .before .before .before .args in
-    let allowed = c .before .before .before .before .before .before .before .before .before .enum-told .given .1 in
-    let tested = c .before .before .before .before .before .before .before .before .before .before .before .writable .ensures in
-    let room = c .before .before .before .before .before .before .before .before .full .ensures in
-    c .before .before .before .before .append-fitting .ensures
-    ∙ append-done (g .index) (g .r) (g .m) (g .readings .now) (g .capture .now) (g .table .now) _ (sym allowed ∙ tested)
-    (sym room ∙ c .before .before .before .before .before .before .before .if1 .left)
+    let g = c .before .before .before .before .before .before .before .before .before .before .before .before .before .before .before .before .args in
+    let wrote = c .before .before .before .before .before .before .before .before .before .before .write in
+    let left = wrote .last .1 .1 .1 .0 in
+    let next = c .before .before .before .before .before .before .next .given in
+    append-wrote (g .index) (g .r) (g .m) (g .readings .now) (g .capture .now) (g .table .now) (next .0 .0) left (c .before .before .before .put-entry .last .0)
+    (sym (c .before .before .before .before .before .before .before .before .before .before .before .before .before .full .ensures) ∙ c .before .before .before .before .before .before .before .before .before .before .before .before .if1 .left) (c .before .before .before .put-entry .ensures)
+    (ap (λ (a : Written). outcomeOf a left) (sym (next .1)) ∙ wrote .ensures)
+
+same-length-3 : tie.Need-same-length-3
+same-length-3 c = search needs
 
 returns-3 : tie.Need-returns-3
 returns-3 c =
-    let g = c .before .before .before .before .before .before .args in
-    append-refused (g .index) (g .r) (g .m) (g .readings .now) (g .capture .now) (g .table .now) _
-    (sym (c .before .why .given .1) ∙ c .before .before .before .writable .ensures)
+    let g = c .before .before .before .before .before .before .before .before .before .before .before .args in
+    let wrote = c .before .before .before .before .before .write in
+    let left = wrote .last .1 .1 .1 .0 in
+    append-stopped (g .index) (g .r) (g .m) (g .readings .now) (g .capture .now) (g .table .now) (c .before .why .given .0 .0) left
+    (ap (λ (a : Written). outcomeOf a left) (sym (c .before .why .given .1)) ∙ wrote .ensures)
 
 pub append-spec : {M : Type 1} → statement M
 append-spec =
     tie.close
     (tie.spec
-    writable-requires
-    enum-told
     full-requires
+    writable-requires
+    not-appended-requires
     returns
-    append-fitting-requires
+    write-requires
+    enum-known-next
+    put-entry-requires
+    add-t20
     enum-known-why
     same-length
     same-length-2
     returns-2
+    same-length-3
     returns-3)

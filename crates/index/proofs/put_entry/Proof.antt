@@ -2,6 +2,7 @@
 use Prim.Native.Nat.{_%_}
 use borrow.Author.Tests.{eq-eqb, ne-eqb}
 use borrow.Author.Needs.{needs}
+use Rattle.index.specs.Finding.{block}
 use Rattle.index.proofs.put_entry.Statement.{statement}
 use Rattle.index.proofs.put_entry.Tie as tie
 
@@ -15,10 +16,10 @@ same-length : tie.Need-same-length
 same-length c = search needs
 
 returns : tie.Need-returns
-returns c = rw (eq-eqb (c .before .args .w % 16) 0 (c .if1 .taken))
+returns c = rw (eq-eqb (c .before .args .w % block) 0 (c .if1 .taken))
 
 returns-2 : tie.Need-returns-2
-returns-2 c = rw (ne-eqb (c .before .args .w % 16) 0 (c .if1 .left))
+returns-2 c = rw (ne-eqb (c .before .args .w % block) 0 (c .if1 .left))
 
 pub put-entry-spec : {M : Type 1} → statement M
 put-entry-spec = tie.close (tie.spec mul-table slice-write-table same-length returns returns-2)
