@@ -43,12 +43,13 @@ static uint32_t all_starts(const uint8_t *s, cinorbis_size n, cinorbis_size *sta
 
 /* the whole records at the front: their starts, the bytes that they use, and the refusal that ends
  * them */
-static uint32_t at_front(const uint8_t *s, size_t n, size_t *starts, size_t *count, size_t *used) {
+static uint32_t at_front(const uint8_t *s, size_t n, cinorbis_size *starts, size_t *count,
+                         size_t *used) {
     uint32_t why = 0;
-    size_t next = 0;
+    cinorbis_size next = 0;
     for (*count = *used = 0; *used < n && (why = one_step(s, n, *used, &next)) == 0; ++*count) {
         starts[*count] = *used;
-        *used = next;
+        *used = (size_t)next;
     }
     return why;
 }
