@@ -92,12 +92,14 @@ module _ (s table : List ℕ) (o : Own s table) (w : ℕ) where
     pub own-start : startIn s table w ≡ fromBeginning s w
     own-start =
         let is : w ≡ block * (w / block) + w % block = omega arith in
-        let led : passed s (block * (w / block)) 0 ≡ At entry = passed-starts s all 0 (block * (w / block)) (omega arith) (o .whole) first ∙ ap At (sym entry-is) in
+        let led : passed s (block * (w / block)) 0 ≡ At entry =
+        passed-starts s all 0 (block * (w / block)) (omega arith) (o .whole) first ∙ ap At (sym entry-is) in
         let same : passed s w 0 ≡ passed s (w % block) entry =
         ap (λ (i : ℕ). passed s i 0) is
         ∙ passed-sum s (block * (w / block)) (w % block) 0
         ∙ ap (λ (p : Place). onward p (λ next. passed s (w % block) next)) led in
-        start-by s table w there (omega (arith, entry-is, starts-inside s all 0 (block * (w / block)) (omega arith) (o .whole) first)) ∙ ap (asStart s) (sym same)
+        start-by s table w there (omega (arith, entry-is, starts-inside s all 0 (block * (w / block)) (omega arith) (o .whole) first))
+        ∙ ap (asStart s) (sym same)
 
   first-past : w ≡ length all → fromBeginning s w ≡ Refused NoEntry
   first-past e =

@@ -34,11 +34,15 @@ enum-known-next c = search needs
 
 put-entry-requires : tie.Need-put-entry-requires
 put-entry-requires c κs =
-    free-room (c .before .before .before .before .before .before .before .before .before .before .before .before .args .index) _ (sym (c .before .before .before .before .before .before .before .before .before .full .ensures) ∙ c .before .before .before .before .before .before .before .before .if1 .left)
+    let c8 = c .before .before .before .before .before .before .before .before in
+    let c9 = c8 .before in
+    free-room (c9 .before .before .before .args .index) _ (sym (c9 .full .ensures) ∙ c8 .if1 .left)
 
 add-t20 : tie.Need-add-t20
 add-t20 c =
-    omega (arith, few-records (c .before .before .before .before .before .before .before .before .before .before .before .before .before .before .before .before .args .index) _ (sym (c .before .before .before .before .before .before .before .before .before .before .before .before .before .full .ensures) ∙ c .before .before .before .before .before .before .before .before .before .before .before .before .if1 .left))
+    let c12 = c .before .before .before .before .before .before .before .before .before .before .before .before in
+    let c13 = c12 .before in
+    omega (arith, few-records (c13 .before .before .before .args .index) _ (sym (c13 .full .ensures) ∙ c12 .if1 .left))
 
 enum-known-why : tie.Need-enum-known-why
 enum-known-why c = search needs
@@ -51,12 +55,17 @@ same-length-2 c = search needs
 
 returns-2 : tie.Need-returns-2
 returns-2 c =
-    let g = c .before .before .before .before .before .before .before .before .before .before .before .before .before .before .before .before .args in
-    let wrote = c .before .before .before .before .before .before .before .before .before .before .write in
+    let c3 = c .before .before .before in
+    let c6 = c3 .before .before .before in
+    let c10 = c6 .before .before .before .before in
+    let c12 = c10 .before .before in
+    let c13 = c12 .before in
+    let g = c13 .before .before .before .args in
+    let wrote = c10 .write in
     let left = wrote .last .1 .1 .1 .0 in
-    let next = c .before .before .before .before .before .before .next .given in
-    append-wrote (g .index) (g .r) (g .m) (g .readings .now) (g .capture .now) (g .table .now) (next .0 .0) left (c .before .before .before .put-entry .last .0)
-    (sym (c .before .before .before .before .before .before .before .before .before .before .before .before .before .full .ensures) ∙ c .before .before .before .before .before .before .before .before .before .before .before .before .if1 .left) (c .before .before .before .put-entry .ensures)
+    let next = c6 .next .given in
+    append-wrote (g .index) (g .r) (g .m) (g .readings .now) (g .capture .now) (g .table .now) (next .0 .0) left (c3 .put-entry .last .0)
+    (sym (c13 .full .ensures) ∙ c12 .if1 .left) (c3 .put-entry .ensures)
     (ap (λ (a : Written). outcomeOf a left) (sym (next .1)) ∙ wrote .ensures)
 
 same-length-3 : tie.Need-same-length-3

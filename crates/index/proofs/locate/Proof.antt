@@ -62,18 +62,21 @@ made h start part = record { header = h; start = start; length = length part }
 
 returns : tie.Need-returns
 returns c =
-    let s = c .before .before .before .before .before .before .before .before .before .before .before .args .capture .now in
-    let at = c .before .before .before .before .before .before .at .given .0 .0 in
+    let c6 = c .before .before .before .before .before .before in
+    let c8 = c6 .before .before in
+    let s = c8 .before .before .before .args .capture .now in
+    let at = c6 .at .given .0 .0 in
     let head = c .before .before .before .header-of in
     let rest = drop at s in
-    let same : head .result ≡ headerOf rest = header-only (head .result) (headerOf rest) (head .ensures ∙ ap (λ (x : List ℕ). outcomeOf (headerOf x)) (lent-from at s)) in
+    let same : head .result ≡ headerOf rest =
+    header-only (head .result) (headerOf rest) (head .ensures ∙ ap (λ (x : List ℕ). outcomeOf (headerOf x)) (lent-from at s)) in
     let behind : c .part-after .result ≡ partAfter (headerOf rest) at = c .part-after .ensures ∙ ap (λ (h : Header). partAfter h at) same in
     let part : c .before .packed .result .now ≡ partBy (headerOf rest) rest =
     c .before .packed .ensures ∙ ap (λ (x : List ℕ). partBy (headerOf x) x) (lent-from at s) in
     ap (λ (h : Header). made h (c .part-after .result) (c .before .packed .result .now)) same
     ∙ ap (λ (k : ℕ). made (headerOf rest) k (c .before .packed .result .now)) behind
     ∙ ap (made (headerOf rest) (partAfter (headerOf rest) at)) part
-    ∙ ap (locatedAt s) (sym (c .before .before .before .before .before .before .at .given .1) ∙ c .before .before .before .before .before .before .before .before .start-of .ensures)
+    ∙ ap (locatedAt s) (sym (c6 .at .given .1) ∙ c8 .start-of .ensures)
 
 returns-2 : tie.Need-returns-2
 returns-2 c =
