@@ -15,7 +15,8 @@ static uint32_t now(void) {
 }
 #define STACK_POINTER "mv %0, sp"
 #else
-#define TIMER ((volatile uint32_t *)0x40000000u) /* 0: control, 1: value, which falls, 2: reload */
+#define TIMER ((volatile uint32_t *)0x40000000u) /* 0: control, 1: value, which falls, 2: reload   \
+                                                  */
 static uint32_t now(void) { return 40 * (UINT32_MAX - TIMER[1]); }
 #define STACK_POINTER "mov %0, sp"
 #endif

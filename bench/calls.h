@@ -62,8 +62,8 @@ static void quick(void) {
 }
 
 static void quick_shortened(void) {
-    refusal = cinorbis_quick_shortened(4, 8, named, 256, readings, 256, bits, 162, word, 256,
-                                       &numbers);
+    refusal =
+        cinorbis_quick_shortened(4, 8, named, 256, readings, 256, bits, 162, word, 256, &numbers);
 }
 
 static void first_order(void) {
@@ -76,9 +76,7 @@ static void encode(void) {
 }
 
 /* of the word that encode wrote */
-static void inverse(void) {
-    refusal = cinorbis_inverse(4, 8, word, 256, bits, 163, &numbers);
-}
+static void inverse(void) { refusal = cinorbis_inverse(4, 8, word, 256, bits, 163, &numbers); }
 
 static void encode_shortened(void) {
     memset(bits, 1, sizeof bits);
@@ -98,8 +96,8 @@ static void undo_map(void) {
 }
 
 static void product_map(void) {
-    refusal = cinorbis_product_map(8, table, 64, row, 8, table, 64, row, 8, bits, 64, word, 8,
-                                   &numbers);
+    refusal =
+        cinorbis_product_map(8, table, 64, row, 8, table, 64, row, 8, bits, 64, word, 8, &numbers);
 }
 
 static void write_record(void) {

@@ -35,6 +35,7 @@ __attribute__((section(".vectors"), naked, used)) void box_first(void) {
 __attribute__((section(".vectors"), used)) static const struct {
     uint32_t *stack;
     void (*handlers[15])(void);
-} vectors = {box_stack_top,
-             {box_start, fault, fault, fault, fault, fault, 0, 0, 0, 0, fault, fault, 0, fault, fault}};
+} vectors = {
+    box_stack_top,
+    {box_start, fault, fault, fault, fault, fault, 0, 0, 0, 0, fault, fault, 0, fault, fault}};
 #endif

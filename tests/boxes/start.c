@@ -1,5 +1,5 @@
-/* Start-up of a test program on a Cortex-M, before that of newlib, which then reads the command line
- * and opens the standard streams by semihosting: the vectors, the FPU switched on. */
+/* Start-up of a test program on a Cortex-M, before that of newlib, which then reads the command
+ * line and opens the standard streams by semihosting: the vectors, the FPU switched on. */
 #include <stdint.h>
 
 extern uint32_t boxes_stack_top[];
@@ -24,12 +24,27 @@ static void start(void) {
     *(volatile uint32_t *)0xE000ED88u |= 0xFu << 20; /* CPACR: full access to CP10 and CP11 */
 #endif
 #if defined(TRAP_UNALIGNED)
-    *(volatile uint32_t *)0xE000ED14u |= 8; /* CCR.UNALIGN_TRP: as on a Cortex-M0+, which has none */
+    *(volatile uint32_t *)0xE000ED14u |=
+        8; /* CCR.UNALIGN_TRP: as on a Cortex-M0+, which has none */
 #endif
     __asm__ volatile("dsb\n\tisb" ::: "memory");
     _start();
 }
 
 __attribute__((section(".vectors"), used)) static void (*const vectors[16])(void) = {
-    (void (*)(void))boxes_stack_top, start, fault, fault, fault, fault, fault, 0, 0, 0, 0, fault,
-    fault, 0, fault, fault};
+    (void (*)(void))boxes_stack_top,
+    start,
+    fault,
+    fault,
+    fault,
+    fault,
+    fault,
+    0,
+    0,
+    0,
+    0,
+    fault,
+    fault,
+    0,
+    fault,
+    fault};
