@@ -1,4 +1,4 @@
-"""Turned position orders: maps as objects."""
+"""Position orders: maps as objects."""
 
 from ctypes import byref
 from dataclasses import dataclass
