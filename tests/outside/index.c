@@ -43,13 +43,13 @@ static uint32_t all_starts(const uint8_t *s, cinorbis_size n, cinorbis_size *sta
 
 /* the whole records at the front: their starts, the bytes that they use, and the refusal that ends
  * them */
-static uint32_t at_front(const uint8_t *s, size_t n, cinorbis_size *starts, size_t *count,
-                         size_t *used) {
+static uint32_t at_front(const uint8_t *s, cinorbis_size n, cinorbis_size *starts,
+                         cinorbis_size *count, cinorbis_size *used) {
     uint32_t why = 0;
     cinorbis_size next = 0;
     for (*count = *used = 0; *used < n && (why = one_step(s, n, *used, &next)) == 0; ++*count) {
         starts[*count] = *used;
-        *used = (size_t)next;
+        *used = (cinorbis_size)next;
     }
     return why;
 }
@@ -210,23 +210,23 @@ static void refused(void) {
 }
 
 /* bytes that begin as a capture and go on as anything, or are anything from the start */
-static size_t any_bytes(int kind) {
-    size_t n = fill((size_t)random_below(60));
-    if (kind == 1 && n) capture[EDGE + (size_t)random_below((int)n)] = (uint8_t)random64();
-    if (kind == 2 && n) n -= (size_t)random_below((int)(n < 9 ? n : 9));
-    if (kind == 3) n += (size_t)random_below(400);
-    if (kind == 4) n = (size_t)random_below(300);
+static cinorbis_size any_bytes(int kind) {
+    cinorbis_size n = fill((cinorbis_size)random_below(60));
+    if (kind == 1 && n) capture[EDGE + (cinorbis_size)random_below((int)n)] = (uint8_t)random64();
+    if (kind == 2 && n) n -= (cinorbis_size)random_below((int)(n < 9 ? n : 9));
+    if (kind == 3) n += (cinorbis_size)random_below(400);
+    if (kind == 4) n = (cinorbis_size)random_below(300);
     return n;
 }
 
 /* making refuses longer parts with the number that ended the front, also where it has no entry to
  * write into */
-static void longer_parts(size_t n, size_t used, uint32_t ended) {
-    for (size_t k = used + 1; k <= n; k += 1 + (k - used) / 8) {
+static void longer_parts(cinorbis_size n, cinorbis_size used, uint32_t ended) {
+    for (cinorbis_size k = used + 1; k <= n; k += 1 + (k - used) / 8) {
         cinorbis_index index;
         CHECK(cinorbis_index_make(capture + EDGE, k, table + EDGE, k % 2 ? ENTRIES : 0, &index) ==
                   ended,
-              "%zu bytes of %zu", k, n);
+              "%" PRI_SIZE " bytes of %" PRI_SIZE, k, n);
     }
 }
 
@@ -235,45 +235,46 @@ static void fronts(void) {
     begin("the front of any bytes: its index and table as made of it, what ended it, and no longer "
           "part");
     for (int t = 0; t < 1000; t++) {
-        size_t n = any_bytes(t % 5), count, used, room = (n / 3 + 15) / 16;
+        cinorbis_size n = any_bytes(t % 5), count, used, room = (n / 3 + 15) / 16;
         uint32_t ended = at_front(capture + EDGE, n, starts, &count, &used);
         cinorbis_front front;
         cinorbis_index index;
         memset(&front, 0xA5, sizeof front);
         keep();
         CHECK(cinorbis_index_front(capture + EDGE, n, table + EDGE, room, &front) == 0,
-              "no room in %zu entries for %zu bytes", room, n);
+              "no room in %" PRI_SIZE " entries for %" PRI_SIZE " bytes", room, n);
         CHECK(front.index.records == count && front.index.used == used && front.ended == ended,
               "%" PRIu64 " records, %" PRIu64 " bytes, ended by %" PRIu64, front.index.records,
               front.index.used, front.ended);
-        for (size_t q = 0; 16 * q < count; q++) {
-            CHECK(table[EDGE + q] == starts[16 * q], "entry %zu", q);
+        for (cinorbis_size q = 0; 16 * q < count; q++) {
+            CHECK(table[EDGE + q] == starts[16 * q], "entry %" PRI_SIZE, q);
             table[EDGE + q] = table_before[EDGE + q];
         }
         CHECK(kept(), "an entry past those made, or a byte of the capture");
         CHECK(cinorbis_index_make(capture + EDGE, used, table + EDGE, room, &index) == 0,
               "the front is not made");
         CHECK(memcmp(&index, &front.index, sizeof index) == 0, "another index of the front");
-        for (size_t w = 0; w < count; w++) found(capture + EDGE, used, table + EDGE, room, w);
+        for (cinorbis_size w = 0; w < count; w++)
+            found(capture + EDGE, used, table + EDGE, room, w);
         longer_parts(n, used, ended);
-        CHECK(ended == 0 ? used == n : used < n, "ended by %u after %zu of %zu bytes", ended, used,
-              n);
+        CHECK(ended == 0 ? used == n : used < n,
+              "ended by %u after %" PRI_SIZE " of %" PRI_SIZE " bytes", ended, used, n);
         met[ended]++;
     }
     CHECK(met[0] && met[1] && met[8], "not met: %lu %lu %lu", met[0], met[1], met[8]);
     end();
     begin("the front: 3 where the table has too few entries, and then nothing else");
     for (int t = 0; t < 1000; t++) {
-        size_t n = any_bytes(t % 5), count, used;
+        cinorbis_size n = any_bytes(t % 5), count, used;
         uint32_t ended = at_front(capture + EDGE, n, starts, &count, &used);
-        size_t due = (count + 15) / 16;
+        cinorbis_size due = (count + 15) / 16;
         cinorbis_front front;
-        for (size_t room = 0; room <= due; room++) {
+        for (cinorbis_size room = 0; room <= due; room++) {
             memset(&front, 0xA5, sizeof front);
             keep();
             CHECK(cinorbis_index_front(capture + EDGE, n, table + EDGE, room, &front) ==
                       (room < due ? 3u : 0u),
-                  "%zu entries of %zu", room, due);
+                  "%" PRI_SIZE " entries of %" PRI_SIZE, room, due);
             if (room < due)
                 CHECK(kept() && front.index.records == 0 && front.index.used == 0 &&
                           front.ended == 0,
@@ -290,7 +291,7 @@ static void fronts(void) {
 static void carried_on(void) {
     begin("appends behind a front: index and table are those made of the longer capture");
     for (int t = 0; t < 300; t++) {
-        size_t n = any_bytes(1 + t % 4);
+        cinorbis_size n = any_bytes(1 + t % 4);
         cinorbis_front front;
         cinorbis_index afresh;
         cinorbis_written w;
