@@ -88,8 +88,8 @@ function shade(pen, plot, name, test) {
     }
 }
 
-/* a line for a cylinder; it is broken where no sure tilt is near */
-function drawLine(pen, plot, found, cylinder, noisy) {
+/* a line for a cylinder; it is broken where a stretch is shaded, and where no sure tilt is near */
+function drawLine(pen, plot, found, cylinder, shaded) {
     const few = plot.to - plot.from <= plot.columns / 2;
     pen.strokeStyle = color(`--c${cylinder}`);
     pen.fillStyle = color(`--c${cylinder}`);
@@ -99,7 +99,8 @@ function drawLine(pen, plot, found, cylinder, noisy) {
     const dots = [];
     for (let b = 0; b < plot.columns; b++) {
         const at = cylinder * plot.columns + b;
-        if (found.high[at] === -9999 || noisy(b)) continue;
+        if (shaded(b)) last = null;
+        if (found.high[at] === -9999 || shaded(b)) continue;
         const x = LEFT + (b + 0.5) * plot.step;
         const y = plot.y((found.low[at] + found.high[at]) / 2);
         const near = last !== null && (x - last < 14 || (x - last) * plot.each <= 16);
@@ -158,9 +159,11 @@ function drawPlot(pen, wide, tall, { swept, done, zoom }, limit) {
     plot.dense = (zoom.to - zoom.from) / plot.columns > 60;
     const noisy = (b) => plot.dense && found.doubtful[b] * 4 > found.all[b];
     drawGrid(pen, plot);
-    shade(pen, plot, '--turned', (b) => found.turned[b] * 3 > found.all[b]);
+    const turned = (b) => found.turned[b] * 3 > found.all[b];
+    const shaded = (b) => noisy(b) || turned(b);
+    shade(pen, plot, '--turned', turned);
     shade(pen, plot, '--line', noisy);
-    CYLINDERS.forEach((cylinder) => drawLine(pen, plot, found, cylinder, noisy));
+    CYLINDERS.forEach((cylinder) => drawLine(pen, plot, found, cylinder, shaded));
     if (!plot.dense) drawRings(pen, plot, swept, done, limit);
     return plot;
 }
