@@ -30,7 +30,10 @@ same-length : tie.Need-same-length
 same-length c = search needs
 
 returns : tie.Need-returns
-returns c = c .before .before .transform .ensures ∙ ap (transform (c .before .before .before .before .before .before .before .before .before .before .before .args .m)) (c .before .before .before .before .before .before .copy .ensures)
+returns c =
+    let copied = c .before .before .before .before .before .before in
+    let g = copied .before .before .before .before .before in
+    c .before .before .transform .ensures ∙ ap (transform (g .args .m)) (copied .copy .ensures)
 
 load-requires : tie.Need-load-requires
 load-requires c κs =
@@ -42,8 +45,9 @@ three-layers-requires c κs = search needs
 
 store-requires : tie.Need-store-requires
 store-requires c κs =
-    let power : 2 ^ c .before .before .before .before .before .before .before .args .m ≡ 8 = ap (λ (n : ℕ). 2 ^ n) (c .before .before .before .if2 .taken) in
-    let room : 8 ≤ length (c .before .before .before .before .before .before .before .args .row .now) = omega (arith, c .before .before .before .before .before .before .before .pre .1, power) in
+    let g = c .before .before .before .before .before .before .before in
+    let power : 2 ^ g .args .m ≡ 8 = ap (λ (n : ℕ). 2 ^ n) (c .before .before .before .if2 .taken) in
+    let room : 8 ≤ length (g .args .row .now) = omega (arith, g .pre .1, power) in
     room
 
 same-length-2 : tie.Need-same-length-2
@@ -54,8 +58,10 @@ returns-2 c =
     let g = c .before .before .before .before .before .before .before .before .before .before in
     let made : ℕ → ℕ = λ n. foursAdded (pairsAdded (bytesAdded n)) in
     c .before .before .store .ensures
-    ∙ ap (λ (x : ℕ). unpacked x ++ drop 8 (g .args .row .now)) (c .before .before .before .three-layers .ensures ∙ ap made (c .before .before .before .before .load .ensures))
-    ∙ eight-put (g .args .m) (g .args .word .now) (g .args .row .now) (c .before .before .before .before .before .before .if2 .taken) (g .pre .0) (g .pre .1) (g .pre .2)
+    ∙ ap (λ (x : ℕ). unpacked x ++ drop 8 (g .args .row .now))
+    (c .before .before .before .three-layers .ensures ∙ ap made (c .before .before .before .before .load .ensures))
+    ∙ eight-put (g .args .m) (g .args .word .now) (g .args .row .now) (c .before .before .before .before .before .before .if2 .taken)
+    (g .pre .0) (g .pre .1) (g .pre .2)
 
 put-sixteens-requires : tie.Need-put-sixteens-requires
 put-sixteens-requires c κs =
@@ -76,9 +82,11 @@ layers-requires c κs =
     let m = g .args .m in
     let x = g .args .word .now in
     let made = c .before .before .before .put-sixteens .ensures in
-    let left : m - 4 + 4 ≡ m = omega (arith, c .before .before .before .before .before .if2 .left, c .before .before .before .before .before .before .if1 .left) in
+    let tested = c .before .before .before .before .before in
+    let left : m - 4 + 4 ≡ m = omega (arith, tested .if2 .left, tested .before .if1 .left) in
     let power : 2 ^ m ≡ 2 ^ (m - 4) * 16 = ap (λ (n : ℕ). 2 ^ n) (sym left) ∙ pow-add 2 (m - 4) 4 in
-    let long : length (c .before .before .before .put-sixteens .last .1 .0) ≡ 2 ^ m = ap length made ∙ length-blocks (transform 4) 16 (keeps-transform 4) x ∙ g .pre .0 in
+    let long : length (c .before .before .before .put-sixteens .last .1 .0) ≡ 2 ^ m =
+    ap length made ∙ length-blocks (transform 4) 16 (keeps-transform 4) x ∙ g .pre .0 in
     let room : 16 * 2 ^ (m - 4) ≤ length (c .before .before .before .put-sixteens .last .1 .0) = omega (arith, long, power) in
     (omega arith, room, subst Bits (sym made) (bits-blocks (transform 4) 16 (keeps-transform 4) x (g .pre .2)))
 
@@ -89,8 +97,10 @@ returns-3 : tie.Need-returns-3
 returns-3 c =
     let g = c .before .before .before .before .before .before .before .before .before .before .before .before in
     let m = g .args .m in
-    let left : m - 4 + 4 ≡ m = omega (arith, c .before .before .before .before .before .before .before .before .if2 .left, c .before .before .before .before .before .before .before .before .before .if1 .left) in
-    c .before .before .layers .ensures ∙ ap (layers (m - 4) 16) (c .before .before .before .before .before .before .put-sixteens .ensures) ∙ layers-double 4 (m - 4) m left (g .args .word .now) (g .pre .0)
+    let tested = c .before .before .before .before .before .before .before .before in
+    let left : m - 4 + 4 ≡ m = omega (arith, tested .if2 .left, tested .before .if1 .left) in
+    c .before .before .layers .ensures ∙ ap (layers (m - 4) 16) (c .before .before .before .before .before .before .put-sixteens .ensures)
+    ∙ layers-double 4 (m - 4) m left (g .args .word .now) (g .pre .0)
 
 pub put-row-spec : {M : Type 1} → statement M
 put-row-spec =

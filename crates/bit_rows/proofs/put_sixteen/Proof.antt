@@ -50,13 +50,19 @@ same-length c = search needs
 
 returns : tie.Need-returns
 returns c =
-    let g = c .before .before .before .before .before .before .before .before .before .before .before .before .before .before .before in
+    let second = c .before .before in
+    let first = second .before .before .before .before in
+    let made2 = first .before .before in
+    let load2 = made2 .before in
+    let made1 = load2 .before .before in
+    let load1 = made1 .before in
+    let g = load1 .before .before .before in
     let w = g .args .word .now in
     let made : ℕ → ℕ = λ n. foursAdded (pairsAdded (bytesAdded n)) in
-    sixteen-put w (g .pre .0) (g .pre .2) (c .before .before .before .before .before .before .before .before .before .before .before .three-layers .result) (c .before .before .before .before .before .before .before .before .three-layers2 .result)
-    (ap unpacked (c .before .before .before .before .before .before .before .before .before .before .before .three-layers .ensures ∙ ap made (c .before .before .before .before .before .before .before .before .before .before .before .before .load .ensures)))
-    (ap unpacked (c .before .before .before .before .before .before .before .before .three-layers2 .ensures ∙ ap made (c .before .before .before .before .before .before .before .before .before .load2 .ensures)) ∙ ap threeLayers (lent-from 8 w))
-    (g .args .row .now) (c .before .before .before .before .before .before .store .last .0) (c .before .before .store2 .last .0) (g .pre .1) (c .before .before .before .before .before .before .store .ensures) (c .before .before .store2 .ensures)
+    sixteen-put w (g .pre .0) (g .pre .2) (made1 .three-layers .result) (made2 .three-layers2 .result)
+    (ap unpacked (made1 .three-layers .ensures ∙ ap made (load1 .load .ensures)))
+    (ap unpacked (made2 .three-layers2 .ensures ∙ ap made (load2 .load2 .ensures)) ∙ ap threeLayers (lent-from 8 w))
+    (g .args .row .now) (first .store .last .0) (second .store2 .last .0) (g .pre .1) (first .store .ensures) (second .store2 .ensures)
 
 pub put-sixteen-spec : {M : Type 1} → statement M
 put-sixteen-spec =
