@@ -7,14 +7,14 @@ import platform
 import subprocess
 import sys
 
-LEFT, TOP, WIDE, HIGH, APART = 66, 62, 240, 300, 56
+LEFT, TOP, WIDE, HIGH, APART = 76, 62, 240, 300, 56
 COLOURS = {"3": "#7b8794", "4": "#8a6d3b", "5": "#2f855a", "6": "#b7791f", "7": "#6b46c1", "8": "#2b6cb0"}  # by m
 
 
 def machine():
     """the processor's name, as lscpu has it"""
-    told = subprocess.run(["lscpu"], stdout=subprocess.PIPE, text=True, check=True, env={**os.environ, "LC_ALL": "C"}).stdout
-    names = [line.split(":", 1)[1].strip() for line in told.split("\n") if line.startswith("Model name")]
+    printed = subprocess.run(["lscpu"], stdout=subprocess.PIPE, text=True, check=True, env={**os.environ, "LC_ALL": "C"}).stdout
+    names = [line.split(":", 1)[1].strip() for line in printed.split("\n") if line.startswith("Model name")]
     return f"{names[0] if names else 'a processor without a name'} ({platform.machine()})"
 
 
