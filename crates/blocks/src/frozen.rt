@@ -1,0 +1,1 @@
+// Blocks of frozen indices, and of frozen ones before one information index.
