@@ -13,7 +13,7 @@ use Rattle.rows.specs.Rows.{rowOf}
 use Rattle.blocks.specs.Frozen.{frozenRun, runAdds}
 use Rattle.walk.specs.Progress.{seen, drops}
 
--- n visits more than the eight numbers σ count are allowed; they are counted
+-- n visits more are allowed, of the eight numbers σ; and they are counted
 abbrev pub allowsMore : ℕ → List ℕ → Bool
 allowsMore n σ = leb (getD σ 3 0 + n) (getD σ 7 0)
 
@@ -42,7 +42,6 @@ pub record BlockRoom (k₀ : List ℕ) (s : List ℤ) (y : List ℕ) (i : ℕ) :
 
 pub record ZerosAsked (k₀ : List ℕ) (s : List ℤ) (y σ : List ℕ) (i p : ℕ) : Type 0 where
   pub long : length σ ≡ 8
-  pub counted : getD σ 3 0 ≤ getD σ 7 0
   pub low : p < sumLimit
   pub block : 5 ≤ getD σ 6 0 → BlockRoom k₀ s y i
 

@@ -1,20 +1,21 @@
 -- Laws of frozen indices taken at once: what the call that takes them gives, what it is asked, and where the frozen step stands after it.
 use mathlib.Core.Path.{_≡_, refl, ap, sym, _∙_, subst}
-use mathlib.Core.Bool.{Bool, true, false, cond}
+use mathlib.Core.Bool.{true, false}
 use mathlib.Core.List.{List, _++_, append-assoc}
 use mathlib.Core.Logic.{_⊎_, ⊎-elim}
 use Prim.Native.Nat.{ℕ, _+_, _-_, _*_, _^_, _/_, _%_, _≤_, _<_}
 use native.Mathlib.Omega.{arith}
-use native.Mathlib.Nat.{mul-le-mul-right, add-mul}
+use native.Mathlib.Nat.{mul-le-mul-right}
 use lib.IntN.{ℤ}
-use lib.ListN.{length, getD, set, take, drop, length-append, length-take, length-drop, length-replicate, replicate-append-replicate}
+use lib.ListN.{length, getD, take, drop, length-append, length-take, length-drop, length-replicate, replicate-append-replicate}
+use lib.Dec.{leb}
 use lib.Seq.{paste, length-paste, length-take-le, take-all, take-at, take-take, getD-take, getD-drop}
 use lib.Pow.{pow-add}
-use borrow.Author.Tests.{lt-ltb, le-ltb, lt-leb, le-leb, ne-eqb, ltb-true, leb-true}
+use borrow.Author.Tests.{lt-ltb, le-ltb, lt-leb, le-leb, ne-eqb, leb-true}
 use Rattle.numbers.specs.Choice.{cond-by, lt-or-le}
 use Rattle.words.specs.Bits.{Bits}
 use Rattle.words.specs.TransformLaws.{bits-append, bits-take, bits-drop, bits-zeros}
-use Rattle.decoding.specs.Readings.{sizes, sumLimit}
+use Rattle.decoding.specs.Readings.{sizes}
 use Rattle.decoding.specs.Walk.{addedBy}
 use Rattle.decoding.specs.Blocks.{zeros, blockRow, Starts}
 use Rattle.decoding.specs.BlockLaws.{starts, length-block}
@@ -25,7 +26,7 @@ use Rattle.memory.specs.StandsLaws.{stands-path}
 use Rattle.blocks.specs.Frozen.{frozenRun, runAdds}
 use Rattle.blocks.specs.FrozenLaws.{run-sizes, run-frozen, run-added, adds-size}
 use Rattle.walk.specs.Progress.{Progress, seen, front, more, standing, visiting, drops, Visited, Kept, Ready, Onward, StepGiven, Reached, ValueGiven}
-use Rattle.walk.specs.ProgressLaws.{shows-counted}
+use Rattle.walk.specs.ProgressLaws.{shows-visits}
 use Rattle.walk.specs.StepLaws.{true-false, was-more, sum-small}
 use Rattle.walk.specs.RunLaws.{ran, ready-run, onward-run}
 use Rattle.walk.specs.Taken.{allowsMore, countedMore, runAt, runPenalty, takes, takenAt, BlockRoom, ZerosAsked, ZerosGiven}
@@ -37,14 +38,15 @@ run-short k₀ σ i h = rw (lt-ltb (getD σ 6 0) 5 h) refl
 run-long : (k₀ σ : List ℕ) (i : ℕ) → 5 ≤ getD σ 6 0 → runAt k₀ σ i ≡ frozenRun (drop i k₀)
 run-long k₀ σ i h = rw (le-ltb (getD σ 6 0) 5 h) refl
 
--- ---- visits: so many more are not allowed, or counted
-pub not-allowed : (n : ℕ) (σ : List ℕ) → getD σ 3 0 ≤ getD σ 7 0 → getD σ 7 0 - getD σ 3 0 < n
-    → (false ≡ allowsMore n σ) × (σ ≡ cond (allowsMore n σ) (countedMore n σ) σ)
-not-allowed n σ h e = let k = lt-leb (getD σ 3 0 + n) (getD σ 7 0) (omega arith) in (sym k, rw k refl)
+-- ---- visits
+pub too-few : (n : ℕ) (σ : List ℕ) → getD σ 7 0 < n → false ≡ allowsMore n σ
+too-few n σ h = sym (lt-leb (getD σ 3 0 + n) (getD σ 7 0) (omega (arith, h)))
 
-pub now-counted : (n : ℕ) (σ : List ℕ) → getD σ 3 0 ≤ getD σ 7 0 → n ≤ getD σ 7 0 - getD σ 3 0 → {v : ℕ} → v ≡ getD σ 3 0 + n
-    → (true ≡ allowsMore n σ) × (set σ 3 v ≡ cond (allowsMore n σ) (countedMore n σ) σ)
-now-counted n σ h e is = let k = le-leb (getD σ 3 0 + n) (getD σ 7 0) (omega arith) in (sym k, rw k (ap (set σ 3) is))
+pub compared : (v n a : ℕ) → n ≤ a → leb v (a - n) ≡ leb (v + n) a
+compared v n a h =
+    ⊎-elim (λ (k : a < v + n). lt-leb v (a - n) (omega arith) ∙ sym (lt-leb (v + n) a k))
+    (λ (k : v + n ≤ a). le-leb v (a - n) (omega arith) ∙ sym (le-leb (v + n) a k))
+    (lt-or-le a (v + n))
 
 -- ---- whether
 module _ (n q : ℕ) (σ : List ℕ) where
@@ -93,24 +95,20 @@ module _ (k₀ : List ℕ) (s : List ℤ) (y σ : List ℕ) (i p : ℕ) where
       pub given-dropped : drops (seen σ) (p + a) ≡ true → ZerosGiven k₀ s y σ i p 0 y σ
       given-dropped d = left-alone (same-taken ∙ takes-dropped n (p + a) σ some d)
 
-      module _ (undropped : drops (seen σ) (p + a) ≡ false) {r : Bool} (tells : r ≡ allowsMore (n - 1) σ) {σ′ : List ℕ}
-          (counts : σ′ ≡ cond (allowsMore (n - 1) σ) (countedMore (n - 1) σ) σ) where
-        taken-by : takenAt k₀ s σ i p ≡ r
-        taken-by = same-taken ∙ takes-allowed n (p + a) σ some undropped ∙ sym tells
+      module _ (undropped : drops (seen σ) (p + a) ≡ false) where
+        taken-by : takenAt k₀ s σ i p ≡ allowsMore (n - 1) σ
+        taken-by = same-taken ∙ takes-allowed n (p + a) σ some undropped
 
-        counts-by : σ′ ≡ cond r (countedMore (n - 1) σ) σ
-        counts-by = counts ∙ ap (λ (z : Bool). cond z (countedMore (n - 1) σ) σ) (sym tells)
+        pub given-unvisited : allowsMore (n - 1) σ ≡ false → ZerosGiven k₀ s y σ i p 0 y σ
+        given-unvisited e = left-alone (taken-by ∙ e)
 
-        pub given-unvisited : r ≡ false → ZerosGiven k₀ s y σ i p 0 y σ′
-        given-unvisited e =
-            subst (ZerosGiven k₀ s y σ i p 0 y) (sym (counts-by ∙ ap (λ (z : Bool). cond z (countedMore (n - 1) σ) σ) e)) (left-alone (taken-by ∙ e))
-
-        pub given-taken : r ≡ true → {y′ : List ℕ} → y′ ≡ paste y i (zeros 16) 16 → ZerosGiven k₀ s y σ i p ((p + a) * 256 + n) y′ σ′
-        given-taken e put =
+        pub given-taken : allowsMore (n - 1) σ ≡ true → {y′ σ′ : List ℕ} → y′ ≡ paste y i (zeros 16) 16 → σ′ ≡ countedMore (n - 1) σ
+            → ZerosGiven k₀ s y σ i p ((p + a) * 256 + n) y′ σ′
+        given-taken e put counts =
             record {
               tells = rw (taken-by, e, same-penalty, same-run) refl;
               path = rw (taken-by, e) put;
-              counts = rw (taken-by, e, same-run) (counts-by ∙ ap (λ (z : Bool). cond z (countedMore (n - 1) σ) σ) e);
+              counts = rw (taken-by, e, same-run) counts;
             }
 
 -- ---- at the start of a block of 16 in a code of more positions, where all rows of sums stand for its first index
@@ -229,7 +227,6 @@ module _ {l₀ : List ℤ} {k₀ : List ℕ} {s : List ℤ} {y best second σ y�
   zeros-asked =
       record {
         long = given .shows .long;
-        counted = omega (arith, one-more, same-allowed, ltb-true (getD σ 3 0) (getD σ 7 0) (sym (v .tells)));
         low = omega (arith, sum-small ready 0 inside (omega arith));
         block = λ h. room (omega (arith, same-m, h));
       }
@@ -277,7 +274,7 @@ module _ {l₀ : List ℤ} {k₀ : List ℕ} {s : List ℤ} {y best second σ y�
       now : seen σ′ ≡ ran n i (seen σ)
       now =
           let all : getD σ₂ 3 0 + (n - 1) ≡ getD σ 3 0 + n = omega (arith, one-more, took-some n q σ₂ took) in
-          ap seen counted ∙ shows-counted σ₂ (given .shows .long) (n - 1) .is
+          ap seen counted ∙ shows-visits σ₂ (given .shows .long) (getD σ₂ 3 0 + (n - 1)) .is
           ∙ ap (λ (k : ℕ). visiting k (seen σ₂ .out) (seen σ₂)) all
           ∙ ap (λ (w : Progress). visiting (getD σ 3 0 + n) (w .out) w) shows
 
@@ -327,7 +324,7 @@ module _ {l₀ : List ℤ} {k₀ : List ℕ} {s : List ℤ} {y best second σ y�
       reached =
           record {
             asked = record {
-              long = ap length counted ∙ shows-counted σ₂ (given .shows .long) (n - 1) .long;
+              long = ap length counted ∙ shows-visits σ₂ (given .shows .long) (getD σ₂ 3 0 + (n - 1)) .long;
               ready = subst (λ (w : Progress). Ready (take (2 ^ w .m) l₀) (take (2 ^ w .m) k₀) s₂ y′ best second (i + n) q w) (sym now)
                   (ready-run ready n ends-n adds undropped i path kept);
             };

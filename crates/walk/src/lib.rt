@@ -7,7 +7,7 @@
 // What the walk holds and counts is in state, by place, and is changed there. Nothing is handed
 // back, so that the last call of a step takes no stack of its own.
 ghost use mathlib.Core.Path.{_≡_};
-ghost use mathlib.Core.Bool.{cond};
+ghost use mathlib.Core.Bool.{true};
 ghost use Prim.Native.Nat.{_+_, _^_, _≤_, _<_};
 ghost use lib.ListN.{length, getD, take, set, replicate};
 ghost use lib.Dec.{eqb};
@@ -15,7 +15,7 @@ ghost use Rattle.decoding.specs.Quick.{hard};
 ghost use Rattle.walk.specs.Progress.{drops, seen, standing};
 ghost use Rattle.walk.specs.Progress.{Finished, Shows, StepAsked, StepGiven, Visited};
 ghost use Rattle.walk.specs.Progress.{ValueAsked, ValueGiven, Walkable, Walked};
-ghost use Rattle.walk.specs.Taken.{allowsMore, countedMore, ZerosAsked, ZerosGiven};
+ghost use Rattle.walk.specs.Taken.{allowsMore, ZerosAsked, ZerosGiven};
 
 // The places in state: how many full paths are held, the penalty of best and that of second, the
 // visits, whether a visit was wanted that is not allowed, the index that the rows stand for, m, and
@@ -42,11 +42,11 @@ pub fn wide(x: u32) -> usize
     x as usize
 }
 
-fn next(visits: u32, n: u32, allowed: u32) -> u32
-    requires { ⌜ visits + n ≤ allowed ⌝ }
-    ensures { λ r. ⌜ r ≡ visits + n ⌝ }
+fn next(visits: u32, allowed: u32) -> u32
+    requires { ⌜ visits < allowed ⌝ }
+    ensures { λ r. ⌜ r ≡ visits + 1 ⌝ }
 {
-    visits + n
+    visits + 1
 }
 
 // One visit more, or out: tested before it is counted, so that no allowance wraps.
@@ -57,7 +57,7 @@ pub fn visit(state: &mut [u32; 8]) -> bool
     let visits = state[VISITS];
     let allowed = state[ALLOWANCE];
     if visits < allowed {
-        state[VISITS] = next(visits, 1, allowed);
+        state[VISITS] = next(visits, allowed);
         return true;
     }
     state[OUT_OF_VISITS] = 1;
@@ -172,20 +172,34 @@ fn value_at(
     memory::value(readings, rows, path, word, wide(m), was, i)
 }
 
-// So many visits more, where they are allowed. Those that are counted are.
-fn visit_more(state: &mut [u32; 8], n: u32) -> bool
-    requires { ⌜ (length (now state) ≡ 8) × (getD (now state) 3 0 ≤ getD (now state) 7 0) ⌝ }
-    ensures { λ r. ⌜ (r ≡ allowsMore n (now (state .entry)))
-        × (now (state .exit) ≡ cond (allowsMore n (now (state .entry)))
-        (countedMore n (now (state .entry))) (now (state .entry))) ⌝ }
+fn plus(visits: u32, n: u32, allowed: u32) -> u32
+    requires { ⌜ visits + n ≤ allowed ⌝ }
+    ensures { λ r. ⌜ r ≡ visits + n ⌝ }
+{
+    visits + n
+}
+
+// So many visits more are allowed: compared so that nothing wraps.
+fn allows(state: &[u32; 8], n: u32) -> bool
+    ensures { λ r. ⌜ r ≡ allowsMore n (now (state .entry)) ⌝ }
+{
+    let allowed = state[ALLOWANCE];
+    if allowed < n {
+        return false;
+    }
+    let visits = state[VISITS];
+    visits <= allowed - n
+}
+
+// So many visits more, which are allowed.
+fn count(state: &mut [u32; 8], n: u32)
+    requires { ⌜ allowsMore n (now state) ≡ true ⌝ }
+    ensures { λ _. ⌜ now (state .exit)
+        ≡ set (now (state .entry)) 3 (getD (now (state .entry)) 3 0 + n) ⌝ }
 {
     let visits = state[VISITS];
     let allowed = state[ALLOWANCE];
-    if allowed - visits < n {
-        return false;
-    }
-    state[VISITS] = next(visits, n, allowed);
-    true
+    state[VISITS] = plus(visits, n, allowed);
 }
 
 // A block of 16 indices starts at i, for which the rows are made and a visit is counted. Where all
@@ -215,9 +229,11 @@ fn zeros(
     if dropped(state, after) {
         return 0;
     }
-    if !visit_more(state, (n - 1) as u32) {
+    let more = (n - 1) as u32;
+    if !allows(state, more) {
         return 0;
     }
+    count(state, more);
     blocks::frozen::put_zeros(path, i);
     (after as u64) * 256 + n as u64
 }

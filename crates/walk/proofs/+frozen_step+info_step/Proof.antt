@@ -220,9 +220,6 @@ frozen-step-taken-requires t c κs =
     )
 
 -- some are taken
-abbrev Taken : ℕ → Type 0
-Taken t = frozen-step-lts.Then5 (frozen-step-calls t) (frozen-step-at t) frozen-step.Post frozen-step-Inv-loop frozen-step-μ-loop
-
 frozen-step-add-i : (t : ℕ)
     → frozen-step-lts.Need-add-i (frozen-step-calls t) (frozen-step-at t) frozen-step.Post frozen-step-Inv-loop frozen-step-μ-loop
 frozen-step-add-i t c =
@@ -235,8 +232,8 @@ frozen-step-cast-sum t c =
     let valued = c .before .before .before .before .before .before in
     let pass = valued .before .before .before .before .before .before .before .before .before .before in
     record {
-      fits = zeros-low (pass .before .before .before .loop .inv) (inside t pass) (c .before .before .before .before .before .if4 .taken) (frozen-visited t valued)
-          (valued .value-at .ensures) (c .before .taken .ensures (frozen-kind t valued)) (c .if5 .taken);
+      fits = zeros-low (pass .before .before .before .loop .inv) (inside t pass) (c .before .before .before .before .before .if4 .taken)
+          (frozen-visited t valued) (valued .value-at .ensures) (c .before .taken .ensures (frozen-kind t valued)) (c .if5 .taken);
     }
 
 frozen-step-loop-less : (t : ℕ)
@@ -244,8 +241,8 @@ frozen-step-loop-less : (t : ℕ)
 frozen-step-loop-less t c =
     let valued = c .before .before .before .before .before .before in
     let pass = valued .before .before .before .before .before .before .before .before .before .before in
-    let more = zeros-more (pass .before .before .before .loop .inv) (inside t pass) (c .before .before .before .before .before .if4 .taken) (frozen-visited t valued)
-    (valued .value-at .ensures) (c .before .taken .ensures (frozen-kind t valued)) (c .if5 .taken) in
+    let more = zeros-more (pass .before .before .before .loop .inv) (inside t pass) (c .before .before .before .before .before .if4 .taken)
+    (frozen-visited t valued) (valued .value-at .ensures) (c .before .taken .ensures (frozen-kind t valued)) (c .if5 .taken) in
     omega (arith, more, inside t pass, ap (λ (n : ℕ). 2 ^ n) (pass .before .before .before .loop .inv .onward .same-m))
 
 frozen-step-loop-again : (t : ℕ)

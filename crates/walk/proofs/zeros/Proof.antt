@@ -1,7 +1,7 @@
--- `walk::zeros` meets its contract.
+-- `walk::zeros` meets its contract, at each return by the law of its case.
 use borrow.Author.Needs.{needs}
-use mathlib.Core.Path.{_≡_, ap, sym, _∙_}
-use Prim.Native.Nat.{ℕ, _+_, _≤_, _<_}
+use mathlib.Core.Path.{sym, _∙_}
+use Prim.Native.Nat.{_+_, _≤_, _<_}
 use native.Mathlib.Omega.{arith}
 use lib.ListN.{drop}
 use borrow.Author.Tests.{not-true, not-false}
@@ -37,10 +37,7 @@ added-requires : tie.Need-added-requires
 added-requires c κs = let long = c .before .before in (room long .rows, room long .small)
 
 -- what is added, where some are taken
-abbrev Added : Type 0
-Added = tie.After-added
-
-small : (c : Added) → let g = c .before .before .before .before .before .args in
+small : (c : tie.After-added) → let g = c .before .before .before .before .before .args in
     g .penalty + c .added .result < sumLimit + sumLimit
 small c =
     let long = c .before .before .before in
@@ -65,14 +62,14 @@ returns-3 c =
     given-dropped (g .kinds .now) (g .rows .now) (g .path .now) (g .state .now) (g .i) (g .penalty) (omega arith) (added .before .before .run .ensures)
     (added .before .if2 .left) (added .added .ensures) (sym (c .before .dropped .ensures) ∙ c .if3 .taken)
 
-sub-visit-more : tie.Need-sub-visit-more
-sub-visit-more c = search needs
+sub-more : tie.Need-sub-more
+sub-more c = search needs
 
-cast-visit-more : tie.Need-cast-visit-more
-cast-visit-more c = record { fits = omega (arith, few (c .before .before .before .before .before .before)) }
+cast-more : tie.Need-cast-more
+cast-more c = record { fits = omega (arith, few (c .before .before .before .before .before)) }
 
-visit-more-requires : tie.Need-visit-more-requires
-visit-more-requires c κs = search needs
+allows-requires : tie.Need-allows-requires
+allows-requires c κs = search needs
 
 returns-4 : tie.Need-returns-4
 returns-4 c =
@@ -81,11 +78,14 @@ returns-4 c =
     let g = added .before .before .before .before .before .args in
     given-unvisited (g .kinds .now) (g .rows .now) (g .path .now) (g .state .now) (g .i) (g .penalty) (omega arith) (added .before .before .run .ensures)
     (added .before .if2 .left) (added .added .ensures) (sym (kept .before .dropped .ensures) ∙ kept .if3 .left)
-    (c .before .visit-more .ensures .0) (c .before .visit-more .ensures .1) (not-true _ (c .if4 .taken))
+    (sym (c .before .allows .ensures) ∙ not-true _ (c .if4 .taken))
+
+count-requires : tie.Need-count-requires
+count-requires c κs = sym (c .before .before .allows .ensures) ∙ not-false _ (c .before .if4 .left)
 
 put-zeros-requires : tie.Need-put-zeros-requires
 put-zeros-requires c κs =
-    let added = c .before .before .before .before .before .before .before in
+    let added = c .before .before .before .before .before .before .before .before .before in
     let long = added .before .before .before in
     (room long .room, room long .path)
 
@@ -97,18 +97,18 @@ mul-result c = search needs
 
 add-result : tie.Need-add-result
 add-result c =
-    let added = c .before .before .before .before .before .before .before .before in
+    let added = c .before .before .before .before .before .before .before .before .before .before in
     record { fits = omega (arith, small added, few (added .before .before)) }
 
 returns-5 : tie.Need-returns-5
 returns-5 c =
-    let visited = c .before .before .before in
-    let kept = visited .before .before in
+    let allowed = c .before .before .before .before in
+    let kept = allowed .before .before .before in
     let added = kept .before .before .before in
     let g = added .before .before .before .before .before .args in
     given-taken (g .kinds .now) (g .rows .now) (g .path .now) (g .state .now) (g .i) (g .penalty) (omega arith) (added .before .before .run .ensures)
     (added .before .if2 .left) (added .added .ensures) (sym (kept .before .dropped .ensures) ∙ kept .if3 .left)
-    (visited .visit-more .ensures .0) (visited .visit-more .ensures .1) (not-false _ (c .before .before .if4 .left)) (c .put-zeros .ensures)
+    (sym (allowed .before .allows .ensures) ∙ not-false _ (allowed .if4 .left)) (c .put-zeros .ensures) (c .before .before .count .ensures)
 
 pub zeros-spec : {M : Type 1} → statement M
 zeros-spec =
@@ -122,10 +122,11 @@ zeros-spec =
     add-after
     dropped-requires
     returns-3
-    sub-visit-more
-    cast-visit-more
-    visit-more-requires
+    sub-more
+    cast-more
+    allows-requires
     returns-4
+    count-requires
     put-zeros-requires
     cast-result
     mul-result

@@ -1,6 +1,6 @@
 -- `frozen::added` meets its contract: what all zeros lose, or the lesser of that and what all ones lose.
 use borrow.Author.Needs.{needs}
-use mathlib.Core.Path.{_≡_, _∙_}
+use mathlib.Core.Path.{_∙_}
 use native.Mathlib.Omega.{arith}
 use Rattle.rows.specs.Rows.{rowOf}
 use Rattle.blocks.specs.FrozenLaws.{adds-all, adds-early}

@@ -1,8 +1,8 @@
 -- `frozen::fifteen_frozen` meets its contract: what was found among the first j kinds.
 use mathlib.Core.Path.{_≡_, ap, sym, _∙_, refl}
-use Prim.Native.Nat.{ℕ, _+_, _-_, _≤_}
+use Prim.Native.Nat.{ℕ, _-_, _≤_}
 use native.Mathlib.Omega.{arith}
-use lib.ListN.{getD, take, drop, length-drop}
+use lib.ListN.{take, drop, length-drop}
 use lib.Seq.{getD-drop}
 use lib.Dec.{ltb}
 use Rattle.numbers.specs.Sums.{sum}

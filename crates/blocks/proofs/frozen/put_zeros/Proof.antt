@@ -1,6 +1,6 @@
 -- `frozen::put_zeros` meets its contract: after j passes j zeros are put.
-use mathlib.Core.Path.{_≡_, ap, sym, _∙_}
-use Prim.Native.Nat.{ℕ, _+_, _-_, _≤_}
+use mathlib.Core.Path.{_≡_, ap, _∙_}
+use Prim.Native.Nat.{_-_, _≤_}
 use native.Mathlib.Omega.{arith}
 use lib.Seq.{paste, paste-zero}
 use Rattle.decoding.specs.Blocks.{zeros}
