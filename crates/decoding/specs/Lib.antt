@@ -2,6 +2,7 @@
 -- Readings and the two combining steps: sizes, signs, rows, correlation, how large a running sum can be
 pub mod Readings
 pub mod StepLaws
+pub mod PenaltyLaws
 pub mod CorrelationLaws
 pub mod BoundLaws
 -- The best word and the gap

@@ -7,6 +7,7 @@
 // What the walk holds and counts is in state, by place, and is changed there. Nothing is handed
 // back, so that the last call of a step takes no stack of its own.
 ghost use mathlib.Core.Path.{_≡_};
+ghost use mathlib.Core.Bool.{true};
 ghost use Prim.Native.Nat.{_+_, _^_, _≤_, _<_};
 ghost use lib.ListN.{length, getD, take, set, replicate};
 ghost use lib.Dec.{eqb};
@@ -14,6 +15,7 @@ ghost use Rattle.decoding.specs.Quick.{hard};
 ghost use Rattle.walk.specs.Progress.{drops, seen, standing};
 ghost use Rattle.walk.specs.Progress.{Finished, Shows, StepAsked, StepGiven, Visited};
 ghost use Rattle.walk.specs.Progress.{ValueAsked, ValueGiven, Walkable, Walked};
+ghost use Rattle.walk.specs.Taken.{allowsMore, ZerosAsked, ZerosGiven};
 
 // The places in state: how many full paths are held, the penalty of best and that of second, the
 // visits, whether a visit was wanted that is not allowed, the index that the rows stand for, m, and
@@ -170,6 +172,93 @@ fn value_at(
     memory::value(readings, rows, path, word, wide(m), was, i)
 }
 
+fn plus(visits: u32, n: u32, allowed: u32) -> u32
+    requires { ⌜ visits + n ≤ allowed ⌝ }
+    ensures { λ r. ⌜ r ≡ visits + n ⌝ }
+{
+    visits + n
+}
+
+// So many visits more are allowed: compared so that nothing wraps.
+fn allows(state: &[u32; 8], n: u32) -> bool
+    ensures { λ r. ⌜ r ≡ allowsMore n (now (state .entry)) ⌝ }
+{
+    let allowed = state[ALLOWANCE];
+    if allowed < n {
+        return false;
+    }
+    let visits = state[VISITS];
+    visits <= allowed - n
+}
+
+// So many visits more, which are allowed.
+fn count(state: &mut [u32; 8], n: u32)
+    requires { ⌜ allowsMore n (now state) ≡ true ⌝ }
+    ensures { λ _. ⌜ now (state .exit)
+        ≡ set (now (state .entry)) 3 (getD (now (state .entry)) 3 0 + n) ⌝ }
+{
+    let visits = state[VISITS];
+    let allowed = state[ALLOWANCE];
+    state[VISITS] = plus(visits, n, allowed);
+}
+
+// A block of 16 indices starts at i, for which the rows are made and a visit is counted. Where all
+// are frozen, or all but the last, and no zero is dropped, and the visits are allowed, the frozen
+// ones are taken at once: the penalty after them times 256, and how many. Otherwise 0, and nothing
+// changes.
+fn zeros(
+    kinds: &[u8; 256],
+    rows: &[i32; 256],
+    path: &mut [u8; 256],
+    state: &mut [u32; 8],
+    i: usize,
+    penalty: u32,
+) -> u64
+    requires { ⌜ ZerosAsked (now kinds) (now rows) (now path) (now state) i penalty ⌝ }
+    ensures { λ r. ⌜ ZerosGiven (now (kinds .entry)) (now (rows .entry)) (now (path .entry))
+        (now (state .entry)) i penalty r (now (path .exit)) (now (state .exit)) ⌝ }
+{
+    if state[EXPONENT] < 5 {
+        return 0;
+    }
+    let n = blocks::frozen::run(kinds, i);
+    if n == 0 {
+        return 0;
+    }
+    let after = penalty + blocks::frozen::added(rows, n);
+    if dropped(state, after) {
+        return 0;
+    }
+    let more = (n - 1) as u32;
+    if !allows(state, more) {
+        return 0;
+    }
+    count(state, more);
+    blocks::frozen::put_zeros(path, i);
+    (after as u64) * 256 + n as u64
+}
+
+// What is taken at once at i.
+fn taken(
+    kinds: &[u8; 256],
+    rows: &[i32; 256],
+    path: &mut [u8; 256],
+    state: &mut [u32; 8],
+    i: usize,
+    penalty: u32,
+) -> u64
+    requires { ⌜ (i < 256) × (getD (now kinds) i 0 ≡ 0
+        → ZerosAsked (now kinds) (now rows) (now path) (now state) i penalty) ⌝ }
+    ensures { λ r. ⌜ (getD (now (kinds .entry)) i 0 ≡ 0
+        → ZerosGiven (now (kinds .entry)) (now (rows .entry)) (now (path .entry))
+        (now (state .entry)) i penalty r (now (path .exit)) (now (state .exit))) ⌝ }
+{
+    if kinds[i] == 0 {
+        return zeros(kinds, rows, path, state, i, penalty);
+    }
+    0
+}
+
 // The path of the first `from` bits, of this penalty, goes on with a 0 at each frozen index: up to
 // an information index or the end, or until an extension is dropped or not allowed.
 fn frozen_step(
@@ -213,6 +302,14 @@ fn frozen_step(
             return;
         }
         let value = value_at(readings, rows, path, word, state, i);
+        if i % 16 == 0 {
+            let block = taken(kinds, rows, path, state, i, sum);
+            if block != 0 {
+                i += (block % 256) as usize;
+                sum = (block / 256) as u32;
+                continue;
+            }
+        }
         sum += rows::loss(value, 0);
         if dropped(state, sum) {
             // it is counted all the same

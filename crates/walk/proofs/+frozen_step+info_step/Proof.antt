@@ -1,6 +1,9 @@
 -- The walk's two steps, which call each other in turn, meet their contracts. The measure is twice the number of indices still to choose, and one
 -- more in the frozen step.
 use mathlib.Core.Path.{_≡_, ap, ap₂, sym, _∙_}
+use mathlib.Core.Bool.{Bool, true, false}
+use mathlib.Core.List.{List}
+use mathlib.Core.Logic.{⊎-elim}
 use Prim.Native.Nat.{ℕ, _+_, _-_, _*_, _^_, _<_}
 use native.Mathlib.Omega.{arith}
 use lib.IntN.{ℤ}
@@ -13,12 +16,13 @@ use Rattle.decoding.specs.Readings.{loss}
 use Rattle.decoding.specs.Quick.{hard}
 use Rattle.decoding.specs.Walk.{value}
 use Rattle.decoding.specs.PathLaws.{hard-bit}
-use Rattle.walk.specs.Progress.{seen, front, Reached, Kept, Going, Extended}
+use Rattle.walk.specs.Progress.{seen, front, drops, Visited, Reached, Kept, Going, Extended}
 use Rattle.walk.specs.StepLaws.{short, value-small, sum-small}
 use Rattle.walk.specs.GoingLaws.{may-visit, may-not, not-full, full-step, within, frozen-stop, info-stop}
 use Rattle.walk.specs.GoingLaws.{value-asked, value-is, value-going, reached-start, reached-given, frozen-dropped, reached-more}
 use Rattle.walk.specs.GoingLaws.{deeper-m, deeper-asked, deeper-given, deeper-kept, first-adds, first-undropped}
 use Rattle.walk.specs.GoingLaws.{second-stop, second-going, second-dropped, second-given}
+use Rattle.walk.specs.TakenLaws.{zeros-asked, zeros-left, zeros-reached, zeros-more, zeros-low, same-given, same-reached}
 use borrow.Fn.Kinds.{In}
 use borrow.Fn.PlainCycle.{Measures, is, falls, and}
 use Rattle.walk.proofs.frozen_step.Reads as frozen-step
@@ -33,6 +37,7 @@ use Rattle.walk.proofs.finish.Reads as finish-reads
 use Rattle.walk.proofs.first_bit.Reads as first-bit-reads
 use Rattle.walk.proofs.full.Reads as full-reads
 use Rattle.walk.proofs.put.Reads as put-reads
+use Rattle.walk.proofs.taken.Reads as taken-reads
 use Rattle.walk.proofs.value_at.Reads as value-at-reads
 use Rattle.walk.proofs.visit.Reads as visit-reads
 use Rattle.walk.proofs.+frozen_step+info_step.{statement}
@@ -78,6 +83,8 @@ frozen-step-calls t = (
   visit-reads.Learnt,
   value-at-reads.Asked,
   value-at-reads.Learnt,
+  taken-reads.Asked,
+  taken-reads.Learnt,
   loss-reads.Asked,
   loss-reads.Learnt,
   dropped-reads.Asked,
@@ -193,66 +200,148 @@ frozen-going t c =
     value-going (pass .before .before .before .loop .inv .asked) (inside t pass) (may-visit (allowed .if3 .left) (allowed .before .visit .ensures))
     (c .value-at .ensures)
 
-frozen-adds : (t : ℕ) (c : Added t) → let pass = c .before .before .before .before .before .before .before .before .before .before .before in
-    pass .before .before .before .loop .sum + c .loss .result ≡ pass .before .before .before .loop .sum + loss (frozen-at t pass) 0
-frozen-adds t c =
-    let pass = c .before .before .before .before .before .before .before .before .before .before .before in
-    ap (λ (n : ℕ). pass .before .before .before .loop .sum + n) (c .loss .ensures ∙ ap (λ (v : ℤ). loss v 0) (frozen-value t (c .before)))
+-- ---- the start of a block: its frozen indices are taken at once, or nothing changes
+frozen-visited : (t : ℕ) (c : Valued t) → let pass = c .before .before .before .before .before .before .before .before .before .before in
+    Visited (pass .before .before .before .loop .state) true (c .before .before .before .before .before .before .visit .last .0)
+frozen-visited t c = let allowed = c .before .before .before .before .before in may-visit (allowed .if3 .left) (allowed .before .visit .ensures)
 
-frozen-step-loss-requires : (t : ℕ)
-    → frozen-step-lts.Need-loss-requires (frozen-step-calls t) (frozen-step-at t) frozen-step.Post frozen-step-Inv-loop frozen-step-μ-loop
-frozen-step-loss-requires t c κs =
-    let pass = c .before .before .before .before .before .before .before .before .before .before in
-    rw (frozen-value t c) (value-small (pass .before .before .before .loop .inv .asked .ready))
+frozen-kind : (t : ℕ) (c : Valued t) → let pass = c .before .before .before .before .before .before .before .before .before .before in
+    getD (pass .before .before .before .before .args .kinds .now) (pass .before .before .before .loop .i) 0 ≡ 0
+frozen-kind t c = c .before .before .before .before .before .before .before .before .if2 .left
 
-frozen-step-add-sum : (t : ℕ)
-    → frozen-step-lts.Need-add-sum (frozen-step-calls t) (frozen-step-at t) frozen-step.Post frozen-step-Inv-loop frozen-step-μ-loop
-frozen-step-add-sum t c =
-    let pass = c .before .before .before .before .before .before .before .before .before .before .before in
-    record { fits = omega (arith, frozen-adds t c, sum-small (pass .before .before .before .loop .inv .asked .ready) 0 (inside t pass) (omega arith)) }
+frozen-step-taken-requires : (t : ℕ)
+    → frozen-step-lts.Need-taken-requires (frozen-step-calls t) (frozen-step-at t) frozen-step.Post frozen-step-Inv-loop frozen-step-μ-loop
+frozen-step-taken-requires t c κs =
+    let valued = c .before .before .before .before in
+    let pass = valued .before .before .before .before .before .before .before .before .before .before in (
+      short-pass t pass,
+      λ e. zeros-asked (pass .before .before .before .loop .inv) (inside t pass) (c .before .before .before .if4 .taken)
+          (frozen-visited t valued) (valued .value-at .ensures),
+    )
 
-frozen-step-dropped-requires : (t : ℕ)
-    → frozen-step-lts.Need-dropped-requires (frozen-step-calls t) (frozen-step-at t) frozen-step.Post frozen-step-Inv-loop frozen-step-μ-loop
-frozen-step-dropped-requires t c κs = tt
-
-frozen-step-returns-3 : (t : ℕ)
-    → frozen-step-lts.Need-returns-3 (frozen-step-calls t) (frozen-step-at t) frozen-step.Post frozen-step-Inv-loop frozen-step-μ-loop
-frozen-step-returns-3 t c =
-    let added = c .before .before .before in
-    let valued = added .before in
-    let pass = valued .before .before .before .before .before .before .before .before .before .before in
-    let frozen = valued .before .before .before .before .before .before .before .before in
-    frozen-dropped (pass .before .before .before .loop .inv) (inside t pass) (frozen .if2 .left) (frozen-going t valued) (frozen-adds t added)
-    (sym (c .before .dropped .ensures) ∙ c .if4 .taken)
-
-frozen-step-put-requires : (t : ℕ)
-    → frozen-step-lts.Need-put-requires (frozen-step-calls t) (frozen-step-at t) frozen-step.Post frozen-step-Inv-loop frozen-step-μ-loop
-frozen-step-put-requires t c κs =
-    let valued = c .before .before .before .before .before in
-    short-pass t (valued .before .before .before .before .before .before .before .before .before .before)
-
+-- some are taken
 frozen-step-add-i : (t : ℕ)
     → frozen-step-lts.Need-add-i (frozen-step-calls t) (frozen-step-at t) frozen-step.Post frozen-step-Inv-loop frozen-step-μ-loop
 frozen-step-add-i t c =
     let valued = c .before .before .before .before .before .before in
     record { fits = omega (arith, short-pass t (valued .before .before .before .before .before .before .before .before .before .before)) }
 
+frozen-step-cast-sum : (t : ℕ)
+    → frozen-step-lts.Need-cast-sum (frozen-step-calls t) (frozen-step-at t) frozen-step.Post frozen-step-Inv-loop frozen-step-μ-loop
+frozen-step-cast-sum t c =
+    let valued = c .before .before .before .before .before .before in
+    let pass = valued .before .before .before .before .before .before .before .before .before .before in
+    record {
+      fits = zeros-low (pass .before .before .before .loop .inv) (inside t pass) (c .before .before .before .before .before .if4 .taken)
+          (frozen-visited t valued) (valued .value-at .ensures) (c .before .taken .ensures (frozen-kind t valued)) (c .if5 .taken);
+    }
+
 frozen-step-loop-less : (t : ℕ)
     → frozen-step-lts.Need-loop-less (frozen-step-calls t) (frozen-step-at t) frozen-step.Post frozen-step-Inv-loop frozen-step-μ-loop
 frozen-step-loop-less t c =
     let valued = c .before .before .before .before .before .before in
     let pass = valued .before .before .before .before .before .before .before .before .before .before in
-    omega (arith, inside t pass, ap (λ (n : ℕ). 2 ^ n) (pass .before .before .before .loop .inv .onward .same-m))
+    let more = zeros-more (pass .before .before .before .loop .inv) (inside t pass) (c .before .before .before .before .before .if4 .taken)
+    (frozen-visited t valued) (valued .value-at .ensures) (c .before .taken .ensures (frozen-kind t valued)) (c .if5 .taken) in
+    omega (arith, more, inside t pass, ap (λ (n : ℕ). 2 ^ n) (pass .before .before .before .loop .inv .onward .same-m))
 
 frozen-step-loop-again : (t : ℕ)
     → frozen-step-lts.Need-loop-again (frozen-step-calls t) (frozen-step-at t) frozen-step.Post frozen-step-Inv-loop frozen-step-μ-loop
 frozen-step-loop-again t c =
-    let added = c .before .before .before .before .before in
-    let valued = added .before in
+    let valued = c .before .before .before .before .before .before in
     let pass = valued .before .before .before .before .before .before .before .before .before .before in
-    let frozen = valued .before .before .before .before .before .before .before .before in
-    reached-more (pass .before .before .before .loop .inv) (inside t pass) (frozen .if2 .left) (frozen-going t valued) (frozen-adds t added)
-    (sym (c .before .before .before .dropped .ensures) ∙ c .before .before .if4 .left) (c .put .ensures)
+    zeros-reached (pass .before .before .before .loop .inv) (inside t pass) (c .before .before .before .before .before .if4 .taken) (frozen-visited t valued)
+    (valued .value-at .ensures) (c .before .taken .ensures (frozen-kind t valued)) (c .if5 .taken)
+
+-- none is taken
+abbrev Joined : ℕ → Type 0
+Joined t = frozen-step-lts.Joined4 (frozen-step-calls t) (frozen-step-at t) frozen-step.Post frozen-step-Inv-loop frozen-step-μ-loop
+
+untaken : (t : ℕ) (c : Joined t) → let valued = c .before in
+    let pass = valued .before .before .before .before .before .before .before .before .before .before in
+    (c .if4 .path ≡ pass .before .before .before .loop .path) × (c .if4 .state ≡ valued .value-at .last .1 .1 .1 .1 .0)
+untaken t c =
+    let valued = c .before in
+    let pass = valued .before .before .before .before .before .before .before .before .before .before in
+    ⊎-elim
+    (λ w. let z = zeros-left (pass .before .before .before .loop .inv) (inside t pass) (w .0 .taken) (frozen-visited t valued)
+    (valued .value-at .ensures) (w .4 .ensures (frozen-kind t valued)) (w .5 .left) in
+    (w .6 ∙ z .0, w .7 ∙ z .1))
+    (λ w. (w .1, w .2))
+    (c .if4 .came)
+
+-- ---- one index
+frozen-adds : (t : ℕ) (c : Added t) → let pass = c .before .before .before .before .before .before .before .before .before .before .before .before in
+    pass .before .before .before .loop .sum + c .loss .result ≡ pass .before .before .before .loop .sum + loss (frozen-at t pass) 0
+frozen-adds t c =
+    let valued = c .before .before in
+    let pass = valued .before .before .before .before .before .before .before .before .before .before in
+    ap (λ (n : ℕ). pass .before .before .before .loop .sum + n) (c .loss .ensures ∙ ap (λ (v : ℤ). loss v 0) (frozen-value t valued))
+
+frozen-step-loss-requires : (t : ℕ)
+    → frozen-step-lts.Need-loss-requires (frozen-step-calls t) (frozen-step-at t) frozen-step.Post frozen-step-Inv-loop frozen-step-μ-loop
+frozen-step-loss-requires t c κs =
+    let valued = c .before in
+    let pass = valued .before .before .before .before .before .before .before .before .before .before in
+    rw (frozen-value t valued) (value-small (pass .before .before .before .loop .inv .asked .ready))
+
+frozen-step-add-sum : (t : ℕ)
+    → frozen-step-lts.Need-add-sum (frozen-step-calls t) (frozen-step-at t) frozen-step.Post frozen-step-Inv-loop frozen-step-μ-loop
+frozen-step-add-sum t c =
+    let pass = c .before .before .before .before .before .before .before .before .before .before .before .before in
+    record { fits = omega (arith, frozen-adds t c, sum-small (pass .before .before .before .loop .inv .asked .ready) 0 (inside t pass) (omega arith)) }
+
+frozen-step-dropped-requires : (t : ℕ)
+    → frozen-step-lts.Need-dropped-requires (frozen-step-calls t) (frozen-step-at t) frozen-step.Post frozen-step-Inv-loop frozen-step-μ-loop
+frozen-step-dropped-requires t c κs = tt
+
+-- the test, of the eight numbers after the value
+frozen-drops : (t : ℕ) (c : Joined t) (b : Bool) (p : ℕ) → drops (seen (c .if4 .state)) p ≡ b
+    → drops (seen (c .before .value-at .last .1 .1 .1 .1 .0)) p ≡ b
+frozen-drops t c b p d = ap (λ (σ : List ℕ). drops (seen σ) p) (sym (untaken t c .1)) ∙ d
+
+frozen-step-returns-3 : (t : ℕ)
+    → frozen-step-lts.Need-returns-3 (frozen-step-calls t) (frozen-step-at t) frozen-step.Post frozen-step-Inv-loop frozen-step-μ-loop
+frozen-step-returns-3 t c =
+    let added = c .before .before .before in
+    let joined = added .before in
+    let valued = joined .before in
+    let pass = valued .before .before .before .before .before .before .before .before .before .before in
+    same-given (untaken t joined .0) (untaken t joined .1)
+    (frozen-dropped (pass .before .before .before .loop .inv) (inside t pass) (frozen-kind t valued) (frozen-going t valued) (frozen-adds t added)
+    (frozen-drops t joined true _ (sym (c .before .dropped .ensures) ∙ c .if6 .taken)))
+
+frozen-step-put-requires : (t : ℕ)
+    → frozen-step-lts.Need-put-requires (frozen-step-calls t) (frozen-step-at t) frozen-step.Post frozen-step-Inv-loop frozen-step-μ-loop
+frozen-step-put-requires t c κs =
+    let valued = c .before .before .before .before .before .before in
+    short-pass t (valued .before .before .before .before .before .before .before .before .before .before)
+
+frozen-step-add-i-2 : (t : ℕ)
+    → frozen-step-lts.Need-add-i-2 (frozen-step-calls t) (frozen-step-at t) frozen-step.Post frozen-step-Inv-loop frozen-step-μ-loop
+frozen-step-add-i-2 t c =
+    let valued = c .before .before .before .before .before .before .before in
+    record { fits = omega (arith, short-pass t (valued .before .before .before .before .before .before .before .before .before .before)) }
+
+frozen-step-loop-less-2 : (t : ℕ)
+    → frozen-step-lts.Need-loop-less-2 (frozen-step-calls t) (frozen-step-at t) frozen-step.Post frozen-step-Inv-loop frozen-step-μ-loop
+frozen-step-loop-less-2 t c =
+    let valued = c .before .before .before .before .before .before .before in
+    let pass = valued .before .before .before .before .before .before .before .before .before .before in
+    omega (arith, inside t pass, ap (λ (n : ℕ). 2 ^ n) (pass .before .before .before .loop .inv .onward .same-m))
+
+frozen-step-loop-again-2 : (t : ℕ)
+    → frozen-step-lts.Need-loop-again-2 (frozen-step-calls t) (frozen-step-at t) frozen-step.Post frozen-step-Inv-loop frozen-step-μ-loop
+frozen-step-loop-again-2 t c =
+    let added = c .before .before .before .before .before in
+    let joined = added .before in
+    let valued = joined .before in
+    let pass = valued .before .before .before .before .before .before .before .before .before .before in
+    let o = pass .before .before .before .loop in
+    same-reached (untaken t joined .1)
+    (reached-more (o .inv) (inside t pass) (frozen-kind t valued) (frozen-going t valued) (frozen-adds t added)
+    (frozen-drops t joined false _ (sym (c .before .before .before .dropped .ensures) ∙ c .before .before .if6 .left))
+    (c .put .ensures ∙ ap (λ (x : List ℕ). set x (o .i) 0) (untaken t joined .0)))
 
 frozen-step-finish-requires : (t : ℕ)
     → frozen-step-lts.Need-finish-requires (frozen-step-calls t) (frozen-step-at t) frozen-step.Post frozen-step-Inv-loop frozen-step-μ-loop
@@ -507,14 +596,19 @@ pub +frozen-step+info-step-spec : {M : Type 1} → statement M
     (frozen-step-visit-requires t)
     (frozen-step-returns-2 t)
     (frozen-step-value-at-requires t)
+    (frozen-step-taken-requires t)
+    (frozen-step-add-i t)
+    (frozen-step-cast-sum t)
+    (frozen-step-loop-less t)
+    (frozen-step-loop-again t)
     (frozen-step-loss-requires t)
     (frozen-step-add-sum t)
     (frozen-step-dropped-requires t)
     (frozen-step-returns-3 t)
     (frozen-step-put-requires t)
-    (frozen-step-add-i t)
-    (frozen-step-loop-less t)
-    (frozen-step-loop-again t)
+    (frozen-step-add-i-2 t)
+    (frozen-step-loop-less-2 t)
+    (frozen-step-loop-again-2 t)
     (frozen-step-finish-requires t)
     (frozen-step-returns-4 t))
     λ t. info-step-lts.spec (info-step-calls t)

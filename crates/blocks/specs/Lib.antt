@@ -1,0 +1,3 @@
+-- Frozen indices taken at once: how many of a block, and what their zeros add
+pub mod Frozen
+pub mod FrozenLaws
