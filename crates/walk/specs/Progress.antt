@@ -9,6 +9,7 @@ use lib.Dec.{ltb, leb}
 use Rattle.words.specs.Bits.{Bits}
 use Rattle.decoding.specs.Readings.{sizes, sumLimit}
 use Rattle.decoding.specs.Walk.{Full, Held, none, one, two, State, start, finished, value, pathPenalty}
+use Rattle.decoding.specs.OfferLaws.{Sorted}
 use Rattle.decoding.specs.Allowance.{Limited, ended, out, extendWithin, walkWithin}
 use Rattle.memory.specs.Memory.{Stands, ValueReady}
 
@@ -141,9 +142,10 @@ pub record Finished (p : ℕ) (w : Progress) (y best second : List ℕ) (w′ : 
   pub rest : w′ ≡ holding (w′ .held) (w′ .best) (w′ .second) w
   pub bits : Bits (take (2 ^ w .m) y) → AreBits (w .m) best second → AreBits (w .m) best′ second′
 
--- what holds before and after each step: rows s stand for w's index, but for what depends on the path y from b on
+-- what holds before and after each step: what is held stands in order, and rows s stand for w's index, but for what depends on the path y from b on
 pub record Kept (l : List ℤ) (w : Progress) (s : List ℤ) (y best second : List ℕ) (b : ℕ) : Type 0 where
   pub high : w .held < 2 → w .second ≡ none-yet
+  pub sorted : Sorted (stateOf w best second .held)
   pub index-inside : w .index < 2 ^ w .m
   pub long-path : length y ≡ 256
   pub bits : Bits y
