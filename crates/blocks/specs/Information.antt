@@ -9,7 +9,7 @@ use Rattle.decoding.specs.InformationLaws.{hardRow}
 use Rattle.rows.specs.Rows.{rowOf}
 
 -- the n kinds from index i on carry information
-abbrev pub allChosen : List ℕ → ℕ → ℕ → Bool
+unfoldable pub allChosen : List ℕ → ℕ → ℕ → Bool
 allChosen kinds i zero = true
 allChosen kinds i (suc n) = allChosen kinds i n && not (eqb (getD kinds (i + n) 0) 0)
 

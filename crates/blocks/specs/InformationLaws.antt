@@ -19,12 +19,13 @@ use Rattle.rows.specs.Rows.{rowOf}
 use Rattle.blocks.specs.Information.{allChosen}
 
 -- ---- all carry information
-and-both : (a b : Bool) → (a && b) ≡ true → (a ≡ true) × (b ≡ true)
+pub and-both : (a b : Bool) → (a && b) ≡ true → (a ≡ true) × (b ≡ true)
 and-both true b e = (refl, e)
 and-both false b e = absurd (false≢true e)
 
 -- where all do, each does
 pub each-chosen : (kinds : List ℕ) (i n : ℕ) → allChosen kinds i n ≡ true → (j : ℕ) → j < n → getD kinds (i + j) 0 ≡ 0 → ⊥
+unfolding allChosen
 each-chosen kinds i zero e j h z = absurd (omega arith)
 each-chosen kinds i (suc n) e j h z =
     let both = and-both (allChosen kinds i n) (not (eqb (getD kinds (i + n) 0) 0)) e in

@@ -9,11 +9,14 @@
 ghost use mathlib.Core.Path.{_≡_};
 ghost use Prim.Native.Nat.{_+_, _^_, _≤_, _<_};
 ghost use lib.ListN.{length, getD, take, set, replicate};
-ghost use lib.Dec.{eqb};
+ghost use mathlib.Core.Bool.{true};
+ghost use lib.Dec.{eqb, ltb};
 ghost use Rattle.decoding.specs.Quick.{hard};
 ghost use Rattle.walk.specs.Progress.{drops, seen, standing};
 ghost use Rattle.walk.specs.Progress.{Finished, Shows, StepAsked, StepGiven, Visited};
 ghost use Rattle.walk.specs.Progress.{ValueAsked, ValueGiven, Walkable, Walked};
+ghost use Rattle.walk.specs.Hard.{allowsMore, countedBy, mayTake};
+ghost use Rattle.walk.specs.Hard.{HardAsked, HardGiven, BlockGiven};
 
 // The places in state: how many full paths are held, the penalty of best and that of second, the
 // visits, whether a visit was wanted that is not allowed, the index that the rows stand for, m, and
@@ -168,6 +171,141 @@ fn value_at(
     let m = state[EXPONENT];
     let was = stands(state, i);
     memory::value(readings, rows, path, word, wide(m), was, i)
+}
+
+fn plus(visits: u32, n: u32, allowed: u32) -> u32
+    requires { ⌜ visits + n ≤ allowed ⌝ }
+    ensures { λ r. ⌜ r ≡ visits + n ⌝ }
+{
+    visits + n
+}
+
+// So many visits more are allowed: compared so that nothing wraps.
+fn allows(state: &[u32; 8], n: u32) -> bool
+    ensures { λ r. ⌜ r ≡ allowsMore n (now (state .entry)) ⌝ }
+{
+    let allowed = state[ALLOWANCE];
+    if allowed < n {
+        return false;
+    }
+    let visits = state[VISITS];
+    visits <= allowed - n
+}
+
+// So many visits more, which are allowed.
+fn count(state: &mut [u32; 8], n: u32)
+    requires { ⌜ allowsMore n (now state) ≡ true ⌝ }
+    ensures { λ _. ⌜ now (state .exit)
+        ≡ set (now (state .entry)) 3 (getD (now (state .entry)) 3 0 + n) ⌝ }
+{
+    let visits = state[VISITS];
+    let allowed = state[ALLOWANCE];
+    state[VISITS] = plus(visits, n, allowed);
+}
+
+// So many visits more; or where not all are allowed, as many as are, and out.
+fn visits(state: &mut [u32; 8], n: u32)
+    requires { ⌜ length (now state) ≡ 8 ⌝ }
+    ensures { λ _. ⌜ Shows (now (state .exit)) (countedBy n (seen (now (state .entry)))) ⌝ }
+{
+    if allows(state, n) {
+        count(state, n);
+        return;
+    }
+    let allowed = state[ALLOWANCE];
+    state[VISITS] = allowed;
+    state[OUT_OF_VISITS] = 1;
+}
+
+// There are more than n indices, so that the rows have one of n sums.
+fn has_row(state: &[u32; 8], n: usize) -> bool
+    requires { ⌜ 2 ^ getD (now state) 6 0 ≤ 256 ⌝ }
+    ensures { λ r. ⌜ r ≡ ltb n (2 ^ getD (now (state .entry)) 6 0) ⌝ }
+{
+    let m = state[EXPONENT];
+    n < 1usize << m
+}
+
+// A block of n = 2^s indices starts at i, for which the rows stand and a visit is counted. Where
+// all its indices carry information and the other visits are allowed, those are counted, and each
+// index has the bit that its value speaks for.
+fn hard_block(
+    kinds: &[u8; 256],
+    rows: &[i32; 256],
+    path: &mut [u8; 256],
+    state: &mut [u32; 8],
+    i: usize,
+    n: u32,
+    s: usize,
+) -> bool
+    requires { ⌜ HardAsked (now state) i × (n ≡ 2 ^ s) ⌝ }
+    ensures { λ r. ⌜ HardGiven (now (kinds .entry)) (now (rows .entry)) (now (state .entry))
+        (now (path .entry)) i n s r (now (state .exit)) (now (path .exit)) ⌝ }
+{
+    let length = wide(n);
+    if i % length != 0 {
+        return false;
+    }
+    if !has_row(state, length) {
+        return false;
+    }
+    if !blocks::information::all_chosen(kinds, i, length) {
+        return false;
+    }
+    if !allows(state, n - 1) {
+        return false;
+    }
+    count(state, n - 1);
+    blocks::information::put_hard(rows, path, i, length, s);
+    true
+}
+
+// The largest such block of 16, 8 or 4 indices: how many it has, or 0.
+fn hard_blocks(
+    kinds: &[u8; 256],
+    rows: &[i32; 256],
+    path: &mut [u8; 256],
+    state: &mut [u32; 8],
+    i: usize,
+) -> u32
+    requires { ⌜ HardAsked (now state) i ⌝ }
+    ensures { λ n. ⌜ BlockGiven true (now (kinds .entry)) (now (rows .entry))
+        (now (state .entry)) (now (path .entry)) i n (now (state .exit)) (now (path .exit)) ⌝ }
+{
+    if hard_block(kinds, rows, path, state, i, 16, 4) {
+        return 16;
+    }
+    if hard_block(kinds, rows, path, state, i, 8, 3) {
+        return 8;
+    }
+    if hard_block(kinds, rows, path, state, i, 4, 2) {
+        return 4;
+    }
+    0
+}
+
+// The same where the penalty with the other bit at i is dropped: then the other bit is dropped at
+// each index of the block, since no sum of its row has a smaller size than the value at i.
+fn hard_here(
+    kinds: &[u8; 256],
+    rows: &[i32; 256],
+    path: &mut [u8; 256],
+    state: &mut [u32; 8],
+    i: usize,
+    after: u32,
+) -> u32
+    requires { ⌜ HardAsked (now state) i ⌝ }
+    ensures { λ n. ⌜ BlockGiven (mayTake (now (state .entry)) i after) (now (kinds .entry))
+        (now (rows .entry)) (now (state .entry)) (now (path .entry)) i n
+        (now (state .exit)) (now (path .exit)) ⌝ }
+{
+    if i % 4 != 0 {
+        return 0;
+    }
+    if !dropped(state, after) {
+        return 0;
+    }
+    hard_blocks(kinds, rows, path, state, i)
 }
 
 // The path of the first `from` bits, of this penalty, goes on with a 0 at each frozen index: up to

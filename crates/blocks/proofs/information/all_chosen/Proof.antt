@@ -17,6 +17,7 @@ abbrev μ-loop : tie.MeasureT-loop
 μ-loop kinds i n all₀ j₀ all j = n - j
 
 loop-holds : tie.Need-loop-holds Inv-loop μ-loop
+unfolding allChosen
 loop-holds c = (zero-le, refl)
 
 add-all : tie.Need-add-all Inv-loop μ-loop
@@ -32,6 +33,7 @@ loop-less : tie.Need-loop-less Inv-loop μ-loop
 loop-less c = omega arith
 
 loop-again : tie.Need-loop-again Inv-loop μ-loop
+unfolding allChosen
 loop-again c =
     let g = c .before .before .before in
     let l = c .before .before .loop in
