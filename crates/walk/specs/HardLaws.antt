@@ -29,7 +29,7 @@ use Rattle.memory.specs.StandsLaws.{stands-path}
 use Rattle.blocks.specs.Information.{allChosen, withHard}
 use Rattle.blocks.specs.InformationLaws.{and-both, each-chosen}
 use Rattle.walk.specs.Progress.{Progress, seen, front, stateOf, limitedOf, visiting, more, standing, drops, none-yet}
-use Rattle.walk.specs.Progress.{Shows, Visited, Kept, Ready, Stepped, StepAsked, StepGiven, ValueGiven}
+use Rattle.walk.specs.Progress.{Shows, Visited, Kept, Ready, Stepped, Going, StepAsked, StepGiven, ValueGiven}
 use Rattle.walk.specs.Hard.{HardAsked, mayTake, countedBy}
 use Rattle.walk.specs.HardTestLaws.{lower-power, block-fits, Taken}
 use Rattle.walk.specs.ProgressLaws.{shows-visits}
@@ -207,6 +207,12 @@ module _ {l : List ℤ} {kinds : List ℕ} {s : List ℤ} {y best second : List 
                 (kept-visiting (w′ .allowed) true (kept-less (i - 1) (omega arith) (st .kept)));
           }
 
+-- ---- no block is taken: as before
+pub going-left : {l : List ℤ} {y : List ℕ} {i : ℕ} {w z : Progress} {σ σ′ : List ℕ} {s : List ℤ} {y₁ y′ best second : List ℕ} → (σ′ ≡ σ) × (y′ ≡ y₁)
+    → Going l y i w z σ s y₁ best second → Going l y i w z σ′ s y′ best second
+going-left {l} {y} {i} {w} {z} {σ} {σ′} {s} {y₁} {y′} {best} {second} (e, f) g =
+    subst (λ (x : List ℕ). Going l y i w z x s y′ best second) (sym e) (subst (λ (x : List ℕ). Going l y i w z σ s x best second) (sym f) g)
+
 -- ---- at an information index where a visit is counted and the value made
 module _ {l₀ : List ℤ} {k₀ : List ℕ} {s : List ℤ} {y best second σ : List ℕ} {i p : ℕ} (a : StepAsked l₀ k₀ s y best second σ i p)
     (inside : i < 2 ^ getD σ 6 0) {σ₁ : List ℕ} (v : Visited σ true σ₁) {x : ℤ} {s₂ : List ℤ} {σ₂ : List ℕ} (given : ValueGiven l₀ y σ₁ i x s₂ σ₂) where
@@ -227,7 +233,7 @@ module _ {l₀ : List ℤ} {k₀ : List ℕ} {s : List ℤ} {y best second σ : 
 
   module _ {q n : ℕ} {σ₃ y₃ : List ℕ}
       (adds : q ≡ p + loss (value (getD σ 6 0) (front σ l₀) (take i y)) (1 - hard (value (getD σ 6 0) (front σ l₀) (take i y))))
-      (tk : Taken (mayTake σ₂ i q) k₀ s₂ σ₂ y i n σ₃ y₃) where
+      (tk : Taken (mayTake σ₂ i q) k₀ s₂ σ₂ y i n σ₃ y₃) {k : ℕ} (k-is : k ≡ n) where
     record Tests : Type 0 where
       at : i % 2 ^ tk .size ≡ 0
       less : 2 ^ tk .size < 2 ^ getD σ 6 0
@@ -263,11 +269,11 @@ module _ {l₀ : List ℤ} {k₀ : List ℕ} {s : List ℤ} {y best second σ : 
               ∙ ap (λ (k : ℕ). visiting k (seen σ .out) (standing i (seen σ))) visits;
         }
 
-    pub hard-ends : i + n ≤ 2 ^ getD σ 6 0
-    hard-ends = omega (arith, tk .is, block-fits (getD σ 6 0) (tk .size) i (tests .less) (tests .at) inside)
+    pub hard-ends : i + k ≤ 2 ^ getD σ 6 0
+    hard-ends = omega (arith, k-is, tk .is, block-fits (getD σ 6 0) (tk .size) i (tests .less) (tests .at) inside)
 
-    pub hard-some : 0 < n
-    hard-some = omega (arith, tk .is, pow-pos (tk .size))
+    pub hard-some : 0 < k
+    hard-some = omega (arith, k-is, tk .is, pow-pos (tk .size))
 
     same-after : getD σ₃ 6 0 ≡ getD σ 6 0
     same-after = ap (λ (k : Progress). k .m) (counted .is)
@@ -276,19 +282,19 @@ module _ {l₀ : List ℤ} {k₀ : List ℕ} {s : List ℤ} {y best second σ : 
     hard-m = ap (λ (k : ℕ). 2 ^ k) same-after
 
     -- the step behind the block
-    pub behind-asked : StepAsked l₀ k₀ s₂ y₃ best second σ₃ (i + n) p
+    pub behind-asked : StepAsked l₀ k₀ s₂ y₃ best second σ₃ (i + k) p
     behind-asked =
         record {
           long = counted .long;
-          ready = subst (λ (k : ℕ). Ready (take (2 ^ k) l₀) (take (2 ^ k) k₀) s₂ y₃ best second (i + n) p (seen σ₃)) (sym same-after)
-              (subst (λ (k : Progress). Ready (front σ l₀) (front σ k₀) s₂ y₃ best second (i + n) p k) (sym (counted .is))
-              (subst (λ (k : ℕ). Ready (front σ l₀) (front σ k₀) s₂ y₃ best second (i + k) p (ran (2 ^ tk .size) i (seen σ))) (sym (tk .is))
+          ready = subst (λ (x : ℕ). Ready (take (2 ^ x) l₀) (take (2 ^ x) k₀) s₂ y₃ best second (i + k) p (seen σ₃)) (sym same-after)
+              (subst (λ (x : Progress). Ready (front σ l₀) (front σ k₀) s₂ y₃ best second (i + k) p x) (sym (counted .is))
+              (subst (λ (x : ℕ). Ready (front σ l₀) (front σ k₀) s₂ y₃ best second (i + x) p (ran (2 ^ tk .size) i (seen σ))) (sym (k-is ∙ tk .is))
               (hard-ready (a .ready) inside made (tk .size) (tests .less) (tests .at) put)));
         }
 
     chosen : (j : ℕ) → j < 2 ^ tk .size → getD (front σ k₀) (i + j) 0 ≡ 0 → ⊥
     chosen j h z =
-        let within : i + j < 2 ^ getD σ 6 0 = omega (arith, hard-ends, tk .is, h) in
+        let within : i + j < 2 ^ getD σ 6 0 = omega (arith, hard-ends, k-is, tk .is, h) in
         each-chosen k₀ i n (tests .all) j (omega (arith, tk .is, h)) (sym (getD-take (2 ^ getD σ 6 0) k₀ (i + j) 0 within) ∙ z)
 
     gone : drops (seen σ) (p + natAbs (value (getD σ 6 0) (front σ l₀) (take i y))) ≡ true
@@ -298,15 +304,16 @@ module _ {l₀ : List ℤ} {k₀ : List ℕ} {s : List ℤ} {y best second σ : 
         ap (drops (seen σ)) is ∙ sym (ap (λ (k : Progress). drops k q) shown) ∙ and-both (eqb (i % 4) 0) (drops (seen σ₂) q) (tk .tried) .1
 
     -- and all of the step here
-    pub behind-given : {s′ : List ℤ} {y′ best′ second′ σ′ σ″ : List ℕ} → StepGiven l₀ k₀ y₃ best second σ₃ (i + n) p s′ y′ best′ second′ σ′
+    pub behind-given : {s′ : List ℤ} {y′ best′ second′ σ′ σ″ : List ℕ} → StepGiven l₀ k₀ y₃ best second σ₃ (i + k) p s′ y′ best′ second′ σ′
         → Shows σ″ (countedBy n (seen σ′)) → StepGiven l₀ k₀ y best second σ i p s′ y′ best′ second′ σ″
     behind-given {s′} {y′} {best′} {second′} {σ′} {σ″} st sh =
-        let here : Stepped (front σ l₀) (front σ k₀) (i + n) p (seen σ₃) y₃ best second (seen σ′) s′ y′ best′ second′ =
-        subst (λ (k : ℕ). Stepped (take (2 ^ k) l₀) (take (2 ^ k) k₀) (i + n) p (seen σ₃) y₃ best second (seen σ′) s′ y′ best′ second′) same-after
+        let here : Stepped (front σ l₀) (front σ k₀) (i + k) p (seen σ₃) y₃ best second (seen σ′) s′ y′ best′ second′ =
+        subst (λ (x : ℕ). Stepped (take (2 ^ x) l₀) (take (2 ^ x) k₀) (i + k) p (seen σ₃) y₃ best second (seen σ′) s′ y′ best′ second′) same-after
         (st .stepped) in
         let there : Stepped (front σ l₀) (front σ k₀) (i + 2 ^ tk .size) p (ran (2 ^ tk .size) i (seen σ)) y₃ best second (seen σ′) s′ y′ best′ second′ =
-        subst (λ (k : ℕ). Stepped (front σ l₀) (front σ k₀) (i + k) p (ran (2 ^ tk .size) i (seen σ)) y₃ best second (seen σ′) s′ y′ best′ second′) (tk .is)
-        (subst (λ (k : Progress). Stepped (front σ l₀) (front σ k₀) (i + n) p k y₃ best second (seen σ′) s′ y′ best′ second′) (counted .is) here) in
+        subst (λ (x : ℕ). Stepped (front σ l₀) (front σ k₀) (i + x) p (ran (2 ^ tk .size) i (seen σ)) y₃ best second (seen σ′) s′ y′ best′ second′)
+        (k-is ∙ tk .is)
+        (subst (λ (x : Progress). Stepped (front σ l₀) (front σ k₀) (i + k) p x y₃ best second (seen σ′) s′ y′ best′ second′) (counted .is) here) in
         record {
           long = sh .long;
           stepped = subst (λ (k : Progress). Stepped (front σ l₀) (front σ k₀) i p (seen σ) y best second k s′ y′ best′ second′)

@@ -365,6 +365,9 @@ fn frozen_step(
 // Both extensions at an information index i: first the bit that the value speaks for, which adds
 // nothing, so that it is not dropped; when everything under it is done, the other. Where the walk
 // under the first wanted a visit that is not allowed, none is left for the other.
+// Where the other is dropped before, and a block of information indices starts at i, all its first
+// bits are taken at once: as many visits go before what lies behind the block as go after it, one
+// for the other bit of each index, which is dropped.
 fn info_step(
     readings: &[i16; 256],
     kinds: &[u8; 256],
@@ -392,6 +395,23 @@ fn info_step(
     let first = first_bit(value);
     let other = 1 - first;
     let after = penalty + rows::loss(value, other);
+    let n = hard_here(kinds, rows, path, state, i, after);
+    if n != 0 {
+        frozen_step(
+            readings,
+            kinds,
+            rows,
+            path,
+            word,
+            best,
+            second,
+            state,
+            i + wide(n),
+            penalty,
+        );
+        visits(state, n);
+        return;
+    }
     put(path, i, first);
     frozen_step(
         readings,
