@@ -361,7 +361,13 @@ info-visited : (t : ℕ) (c : Info-valued t) → let g = c .before .before .befo
     Visited (g .args .state .now) true (c .before .before .before .before .before .before .visit .last .0)
 info-visited t c = let allowed = c .before .before .before .before .before in may-visit (allowed .if1 .left) (allowed .before .visit .ensures)
 
--- a block of indices, of which the other bits are dropped
+-- a block of indices, of which the other bits are dropped, is tried
+abbrev Tried : ℕ → Type 0
+Tried t = info-step-lts.After-hard-here (info-step-calls t) (info-step-at t) info-step.Post
+
+abbrev tried-start : (t : ℕ) → Tried t → Info-start t
+tried-start t c = let valued = c .before .before .before .before .before .before in valued .before .before .before .before .before .before .before .before
+
 info-step-hard-here-requires : (t : ℕ) → info-step-lts.Need-hard-here-requires (info-step-calls t) (info-step-at t) info-step.Post
 info-step-hard-here-requires t c κs =
     let valued = c .before .before .before .before .before in
@@ -430,19 +436,19 @@ info-left t c =
 info-step-put-requires : (t : ℕ) → info-step-lts.Need-put-requires (info-step-calls t) (info-step-at t) info-step.Post
 info-step-put-requires t c κs =
     let tried = c .before .before in
-    info-short t (tried .before .before .before .before .before .before .before .before .before .before .before .before .before .before)
+    info-short t (tried-start t tried)
 
 info-step-add-frozen-step-2 : (t : ℕ) → info-step-lts.Need-add-frozen-step-2 (info-step-calls t) (info-step-at t) info-step.Post
 info-step-add-frozen-step-2 t c =
     let tried = c .before .before .before .before .before .before .before .before .before in
-    record { fits = omega (arith, info-short t (tried .before .before .before .before .before .before .before .before .before .before .before .before .before .before)) }
+    record { fits = omega (arith, info-short t (tried-start t tried)) }
 
 -- the first bit is put
 abbrev Put : ℕ → Type 0
 Put t = info-step-lts.After-put (info-step-calls t) (info-step-at t) info-step.Post
 
 info-put : (t : ℕ) (c : Put t) → let tried = c .before .before .before in
-    let g = tried .before .before .before .before .before .before .before .before .before .before .before .before .before .before in
+    let g = tried-start t tried in
     c .put .last .0 ≡ set (tried .hard-here .last .1 .1 .0) (g .args .i) (hard (info-at t g))
 info-put t c =
     let tried = c .before .before .before in
@@ -455,7 +461,7 @@ info-step-frozen-step-requires-2 t c κs =
     let put = c .before .before .before .before .before .before in
     let v = info-left t (put .before .before) in
     let tried = put .before .before .before in
-    let g = tried .before .before .before .before .before .before .before .before .before .before .before .before .before .before in
+    let g = tried-start t tried in
     let a = g .pre .1 in
     let b = hard (info-at t g) in
     let low = first-undropped (a .0) (a .1) v in (
@@ -470,7 +476,11 @@ Below t = info-step-lts.After-frozen-step2 (info-step-calls t) (info-step-at t) 
 abbrev start-of : (t : ℕ) → Below t → Info-start t
 start-of t c =
     let tried = c .before .before .before .before .before .before .before .before .before .before in
-    tried .before .before .before .before .before .before .before .before .before .before .before .before .before .before
+    tried-start t tried
+
+-- the penalty with the other bit
+abbrev other-of : (t : ℕ) → Below t → info-step-lts.After-loss (info-step-calls t) (info-step-at t) info-step.Post
+other-of t c = let tried = c .before .before .before .before .before .before .before .before .before .before in tried .before .before .before .before
 
 info-extended : (t : ℕ) (c : Below t) → let g = start-of t c in
     let f = c .frozen-step2 in
@@ -527,7 +537,7 @@ info-step-returns-4 t c =
     let below = again .before .before .before in
     let a = start-of t below .pre .1 in
     second-dropped (a .0) (a .1) (a .2) (below .frozen-step2 .last .1 .1 .1 .1 .1 .1 .1 .0) (info-extended t below) (info-second t again)
-    (info-other t (below .before .before .before .before .before .before .before .before .before .before .before .before .before .before)) (sym (c .before .dropped .ensures) ∙ c .if4 .taken)
+    (info-other t (other-of t below)) (sym (c .before .dropped .ensures) ∙ c .if4 .taken)
 
 info-step-put-requires-2 : (t : ℕ) → info-step-lts.Need-put-requires-2 (info-step-calls t) (info-step-at t) info-step.Post
 info-step-put-requires-2 t c κs =
@@ -549,7 +559,7 @@ other-put : (t : ℕ) (c : Put-other t) → let below = c .before .before .befor
 other-put t c =
     let below = c .before .before .before .before .before .before .before .before in
     let g = start-of t below in
-    let chosen = below .before .before .before .before .before .before .before .before .before .before .before .before .before .before .before in
+    let chosen = other-of t below .before in
     c .put2 .ensures ∙ ap (λ (b : ℕ). set (below .frozen-step2 .last .1 .1 .1 .0) (g .args .i) (1 - b)) (info-first t chosen)
 
 info-step-frozen-step-requires-3 : (t : ℕ) → info-step-lts.Need-frozen-step-requires-3 (info-step-calls t) (info-step-at t) info-step.Post
@@ -560,7 +570,7 @@ info-step-frozen-step-requires-3 t c κs =
     let g = start-of t below in
     let a = g .pre .1 in
     let v = info-second t again in
-    let adds = info-other t (below .before .before .before .before .before .before .before .before .before .before .before .before .before .before) in
+    let adds = info-other t (other-of t below) in
     let low = sym (put .before .before .before .dropped .ensures) ∙ put .before .before .if4 .left in (
       omega (arith, g .pre .0, a .1, deeper-m (a .0) (a .1) v (1 - hard (info-at t g)) (omega arith) adds low (other-put t put)),
       deeper-asked (a .0) (a .1) v (1 - hard (info-at t g)) (omega arith) adds low (other-put t put),
@@ -574,7 +584,7 @@ info-step-returns-5 t c =
     let g = start-of t below in
     let a = g .pre .1 in
     let v = info-second t again in
-    let adds = info-other t (below .before .before .before .before .before .before .before .before .before .before .before .before .before .before) in
+    let adds = info-other t (other-of t below) in
     let low = sym (put .before .before .before .dropped .ensures) ∙ put .before .before .if4 .left in
     let e = c .frozen-step3 .ensures in
     second-given (a .0) (a .1) (a .2) (below .frozen-step2 .last .1 .1 .1 .1 .1 .1 .1 .0) (info-extended t below) v (e .long)

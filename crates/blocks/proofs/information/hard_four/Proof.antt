@@ -66,11 +66,12 @@ returns c =
     let d = c .before .before .before .before in
     let b = d .before .before in
     let g = b .before .before .before in
+    let e = c .before .before in
     let rows = g .args .rows .now in
     hard-four rows (g .args .bits .now) (g .pre .1) (g .pre .0)
     (c .sign4 .ensures .0 ∙ ap hard (toZ-ofZ {w = w32} {z = getD rows 4 (pos 0)} (record { sfits = c .before .sign-arg4 .given })))
     (b .sign .ensures .0 ∙ ap hard (toZ-ofZ {w = w32} {z = getD rows 5 (pos 0)} (record { sfits = b .before .sign-arg .given })))
-    (c .before .before .sign3 .ensures .0 ∙ ap hard (toZ-ofZ {w = w32} {z = getD rows 6 (pos 0)} (record { sfits = c .before .before .before .sign-arg3 .given })))
+    (e .sign3 .ensures .0 ∙ ap hard (toZ-ofZ {w = w32} {z = getD rows 6 (pos 0)} (record { sfits = e .before .sign-arg3 .given })))
     (d .sign2 .ensures .0 ∙ ap hard (toZ-ofZ {w = w32} {z = getD rows 7 (pos 0)} (record { sfits = d .before .sign-arg2 .given })))
 
 pub hard-four-spec : {M : Type 1} → statement M

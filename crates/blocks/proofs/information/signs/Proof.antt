@@ -54,7 +54,8 @@ loop-again c =
     let rows = g .args .rows .now in
     let long : length (map hard (rowOf n rows)) ≡ n = length-map (rowOf n rows) hard ∙ length-rowOf n rows (g .pre .1) in
     let is : c .sign .result ≡ getD (map hard (rowOf n rows)) (l .j) 0 =
-    c .sign .ensures .0 ∙ ap hard (toZ-ofZ {w = w32} {z = getD rows (n + l .j) (pos 0)} (record { sfits = c .before .sign-arg .given })) ∙ sym (sign-at n (l .j) rows (omega arith)) in (
+    c .sign .ensures .0 ∙ ap hard (toZ-ofZ {w = w32} {z = getD rows (n + l .j) (pos 0)} (record { sfits = c .before .sign-arg .given }))
+    ∙ sym (sign-at n (l .j) rows (omega arith)) in (
       omega arith,
       rw (is, add-one, l .inv .1) (front-suc (g .args .bits .now) (map hard (rowOf n rows)) (l .j) 0 (omega (arith, g .pre .0)) (omega (arith, long))),
       length-set (l .bits) (l .j) (c .sign .result) ∙ l .inv .2,
