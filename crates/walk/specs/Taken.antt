@@ -4,21 +4,14 @@ use mathlib.Core.Bool.{Bool, false, cond}
 use mathlib.Core.List.{List}
 use Prim.Native.Nat.{ℕ, _+_, _-_, _*_, _≤_, _<_}
 use lib.IntN.{ℤ}
-use lib.ListN.{length, getD, set, drop}
+use lib.ListN.{length, getD, drop}
 use lib.Seq.{paste}
-use lib.Dec.{eqb, ltb, leb}
+use lib.Dec.{eqb, ltb}
 use Rattle.decoding.specs.Readings.{sizes, sumLimit}
 use Rattle.decoding.specs.Blocks.{zeros}
 use Rattle.rows.specs.Rows.{rowOf}
 use Rattle.blocks.specs.Frozen.{frozenRun, runAdds}
-use Rattle.walk.specs.Progress.{seen, drops}
-
--- n visits more are allowed, of the eight numbers σ; and they are counted
-abbrev pub allowsMore : ℕ → List ℕ → Bool
-allowsMore n σ = leb (getD σ 3 0 + n) (getD σ 7 0)
-
-abbrev pub countedMore : ℕ → List ℕ → List ℕ
-countedMore n σ = set σ 3 (getD σ 3 0 + n)
+use Rattle.walk.specs.Progress.{seen, drops, allowsMore, countedMore}
 
 -- how many: none in a code of 16 or fewer positions, of which the scratch has no row of 16 sums
 abbrev pub runAt : List ℕ → List ℕ → ℕ → ℕ

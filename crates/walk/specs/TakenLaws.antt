@@ -26,10 +26,11 @@ use Rattle.memory.specs.StandsLaws.{stands-path}
 use Rattle.blocks.specs.Frozen.{frozenRun, runAdds}
 use Rattle.blocks.specs.FrozenLaws.{run-sizes, run-frozen, run-added, adds-size}
 use Rattle.walk.specs.Progress.{Progress, seen, front, more, standing, visiting, drops, Visited, Kept, Ready, Onward, StepGiven, Reached, ValueGiven}
+use Rattle.walk.specs.Progress.{allowsMore, countedMore}
 use Rattle.walk.specs.ProgressLaws.{shows-visits}
 use Rattle.walk.specs.StepLaws.{true-false, was-more, sum-small}
 use Rattle.walk.specs.RunLaws.{ran, ready-run, onward-run}
-use Rattle.walk.specs.Taken.{allowsMore, countedMore, runAt, runPenalty, takes, takenAt, BlockRoom, ZerosAsked, ZerosGiven}
+use Rattle.walk.specs.Taken.{runAt, runPenalty, takes, takenAt, BlockRoom, ZerosAsked, ZerosGiven}
 
 -- ---- how many
 run-short : (k₀ σ : List ℕ) (i : ℕ) → getD σ 6 0 < 5 → runAt k₀ σ i ≡ 0
@@ -37,16 +38,6 @@ run-short k₀ σ i h = rw (lt-ltb (getD σ 6 0) 5 h) refl
 
 run-long : (k₀ σ : List ℕ) (i : ℕ) → 5 ≤ getD σ 6 0 → runAt k₀ σ i ≡ frozenRun (drop i k₀)
 run-long k₀ σ i h = rw (le-ltb (getD σ 6 0) 5 h) refl
-
--- ---- visits
-pub too-few : (n : ℕ) (σ : List ℕ) → getD σ 7 0 < n → false ≡ allowsMore n σ
-too-few n σ h = sym (lt-leb (getD σ 3 0 + n) (getD σ 7 0) (omega (arith, h)))
-
-pub compared : (v n a : ℕ) → n ≤ a → leb v (a - n) ≡ leb (v + n) a
-compared v n a h =
-    ⊎-elim (λ (k : a < v + n). lt-leb v (a - n) (omega arith) ∙ sym (lt-leb (v + n) a k))
-    (λ (k : v + n ≤ a). le-leb v (a - n) (omega arith) ∙ sym (le-leb (v + n) a k))
-    (lt-or-le a (v + n))
 
 -- ---- whether
 module _ (n q : ℕ) (σ : List ℕ) where
@@ -304,6 +295,7 @@ module _ {l₀ : List ℤ} {k₀ : List ℕ} {s : List ℤ} {y best second σ y�
             long-path = ap length put ∙ length-paste y i (zeros 16) 16 in-room (omega (arith, length-replicate {A = ℕ} 16 0)) ∙ k .long-path;
             bits = subst Bits (sym put) (zeros-bits y i 16 (k .bits));
             both = k .both;
+            sorted = k .sorted;
             rows = stands-on (i + n - 1) begin rows;
           }
 

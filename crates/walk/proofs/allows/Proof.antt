@@ -1,5 +1,5 @@
 -- `allows`: compared by the difference, where there is one.
-use Rattle.walk.specs.TakenLaws.{too-few, compared}
+use Rattle.walk.specs.ProgressLaws.{too-few, compared}
 use lib.ListN.{getD}
 use borrow.Author.Needs.{needs}
 use Rattle.walk.proofs.allows.Statement.{statement}
