@@ -225,8 +225,8 @@ fn zeros(
     if n == 0 {
         return 0;
     }
-    let after = penalty + blocks::frozen::added(rows, n);
-    if dropped(state, after) {
+    let reached = penalty + blocks::frozen::added(rows, n);
+    if dropped(state, reached) {
         return 0;
     }
     let more = (n - 1) as u32;
@@ -235,7 +235,7 @@ fn zeros(
     }
     count(state, more);
     blocks::frozen::put_zeros(path, i);
-    (after as u64) * 256 + n as u64
+    (reached as u64) * 256 + n as u64
 }
 
 // What is taken at once at i.

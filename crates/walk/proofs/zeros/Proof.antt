@@ -49,8 +49,8 @@ few c =
     let g = c .before .before .before .args in
     omega (arith, c .run .ensures, run-most (drop (g .i) (g .kinds .now)))
 
-add-after : tie.Need-add-after
-add-after c = record { fits = omega (arith, small c) }
+add-reached : tie.Need-add-reached
+add-reached c = record { fits = omega (arith, small c) }
 
 dropped-requires : tie.Need-dropped-requires
 dropped-requires c κs = search needs
@@ -119,7 +119,7 @@ zeros-spec =
     run-requires
     returns-2
     added-requires
-    add-after
+    add-reached
     dropped-requires
     returns-3
     sub-more
