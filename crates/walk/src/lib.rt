@@ -16,8 +16,8 @@ ghost use Rattle.walk.specs.Progress.{allowsMore, countedBy, countedMore
 ghost use Rattle.walk.specs.Progress.{standing};
 ghost use Rattle.walk.specs.Progress.{Finished, Shows, StepAsked, StepGiven, Visited};
 ghost use Rattle.walk.specs.Progress.{ValueAsked, ValueGiven, Walkable, Walked};
-ghost use Rattle.walk.specs.Taken.{ZerosAsked, ZerosGiven};
-ghost use Rattle.walk.specs.Hard.{mayTake, HardAsked, HardGiven, BlockGiven};
+ghost use Rattle.walk.specs.FrozenBlocks.{ZerosAsked, ZerosGiven};
+ghost use Rattle.walk.specs.InformationBlocks.{mayTake, HardAsked, HardGiven, BlockGiven};
 
 // The places in state: how many full paths are held, the penalty of best and that of second, the
 // visits, whether a visit was wanted that is not allowed, the index that the rows stand for, m, and

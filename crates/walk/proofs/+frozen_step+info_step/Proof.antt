@@ -22,9 +22,9 @@ use Rattle.walk.specs.GoingLaws.{may-visit, may-not, not-full, full-step
 use Rattle.walk.specs.GoingLaws.{value-asked, value-is, value-going, reached-start, reached-given, frozen-dropped, reached-more}
 use Rattle.walk.specs.GoingLaws.{deeper-m, deeper-asked, deeper-given, deeper-kept, first-adds, first-undropped}
 use Rattle.walk.specs.GoingLaws.{second-stop, second-going, second-dropped, second-given}
-use Rattle.walk.specs.TakenLaws.{zeros-asked, zeros-left, zeros-reached, zeros-more, zeros-low, same-given, same-reached}
-use Rattle.walk.specs.HardTestLaws.{block-taken, block-left}
-use Rattle.walk.specs.HardLaws.{going-left, hard-asked, hard-m, hard-ends, hard-some, behind-asked, behind-given}
+use Rattle.walk.specs.FrozenBlockLaws.{zeros-asked, zeros-left, zeros-reached, zeros-more, zeros-low, same-given, same-reached}
+use Rattle.walk.specs.InformationTestLaws.{block-taken, block-left}
+use Rattle.walk.specs.InformationBlockLaws.{going-left, hard-asked, hard-m, hard-ends, hard-some, behind-asked, behind-given}
 use borrow.Fn.Kinds.{In}
 use borrow.Fn.PlainCycle.{Measures, is, falls, and}
 use Rattle.walk.proofs.frozen_step.Reads as frozen-step

@@ -3,7 +3,7 @@ use mathlib.Core.Path.{_≡_, sym, _∙_}
 use native.Mathlib.Omega.{arith}
 use lib.Pow.{pow-pos}
 use borrow.Author.Tests.{not-false}
-use Rattle.walk.specs.HardTestLaws.{hard-within, not-start, no-row, not-all, not-allowed, all-pass}
+use Rattle.walk.specs.InformationTestLaws.{hard-within, not-start, no-row, not-all, not-allowed, all-pass}
 use borrow.Author.Needs.{needs}
 use Rattle.walk.proofs.hard_block.Statement.{statement}
 use Rattle.walk.proofs.hard_block.Tie as tie

@@ -2,8 +2,8 @@
 use mathlib.Core.Path.{refl, sym, subst}
 use mathlib.Core.List.{List}
 use Prim.Native.Nat.{ℕ}
-use Rattle.walk.specs.Hard.{HardAsked}
-use Rattle.walk.specs.HardTestLaws.{left-state, tried-next, given-16, given-8, given-4, given-none, asked-again}
+use Rattle.walk.specs.InformationBlocks.{HardAsked}
+use Rattle.walk.specs.InformationTestLaws.{left-state, tried-next, given-16, given-8, given-4, given-none, asked-again}
 use borrow.Author.Needs.{needs}
 use Rattle.walk.proofs.hard_blocks.Statement.{statement}
 use Rattle.walk.proofs.hard_blocks.Tie as tie

@@ -1,5 +1,5 @@
 -- `hard_here`: not tried, or as the largest block is.
-use Rattle.walk.specs.HardTestLaws.{block-short, no-four, not-dropped, may-take, not-tried, as-tried}
+use Rattle.walk.specs.InformationTestLaws.{block-short, no-four, not-dropped, may-take, not-tried, as-tried}
 use native.Mathlib.Omega.{arith}
 use borrow.Author.Needs.{needs}
 use Rattle.walk.proofs.hard_here.Statement.{statement}

@@ -8,8 +8,8 @@ use borrow.Author.Tests.{not-true, not-false}
 use Rattle.decoding.specs.Readings.{sumLimit}
 use Rattle.rows.specs.Rows.{rowOf}
 use Rattle.blocks.specs.FrozenLaws.{adds-size, run-most}
-use Rattle.walk.specs.Taken.{BlockRoom}
-use Rattle.walk.specs.TakenLaws.{given-short, given-none, given-dropped, given-unvisited, given-taken}
+use Rattle.walk.specs.FrozenBlocks.{BlockRoom}
+use Rattle.walk.specs.FrozenBlockLaws.{given-short, given-none, given-dropped, given-unvisited, given-taken}
 use Rattle.walk.proofs.zeros.Statement.{statement}
 use Rattle.walk.proofs.zeros.Tie as tie
 

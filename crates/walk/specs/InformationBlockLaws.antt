@@ -30,8 +30,8 @@ use Rattle.blocks.specs.Information.{allChosen, withHard}
 use Rattle.blocks.specs.InformationLaws.{and-both, each-chosen}
 use Rattle.walk.specs.Progress.{Progress, seen, front, stateOf, limitedOf, visiting, more, countedBy, standing, drops, none-yet}
 use Rattle.walk.specs.Progress.{Shows, Visited, Kept, Ready, Stepped, Going, StepAsked, StepGiven, ValueGiven}
-use Rattle.walk.specs.Hard.{HardAsked, mayTake}
-use Rattle.walk.specs.HardTestLaws.{lower-power, block-fits, Taken}
+use Rattle.walk.specs.InformationBlocks.{HardAsked, mayTake}
+use Rattle.walk.specs.InformationTestLaws.{lower-power, block-fits, BlockTaken}
 use Rattle.walk.specs.ProgressLaws.{shows-visits}
 use Rattle.walk.specs.StepLaws.{drops-held, was-more, kept-less, sum-small}
 use Rattle.walk.specs.RunLaws.{ran}
@@ -233,7 +233,7 @@ module _ {l₀ : List ℤ} {k₀ : List ℕ} {s : List ℤ} {y best second σ : 
 
   module _ {q n : ℕ} {σ₃ y₃ : List ℕ}
       (adds : q ≡ p + loss (value (getD σ 6 0) (front σ l₀) (take i y)) (1 - hard (value (getD σ 6 0) (front σ l₀) (take i y))))
-      (tk : Taken (mayTake σ₂ i q) k₀ s₂ σ₂ y i n σ₃ y₃) {k : ℕ} (k-is : k ≡ n) where
+      (tk : BlockTaken (mayTake σ₂ i q) k₀ s₂ σ₂ y i n σ₃ y₃) {k : ℕ} (k-is : k ≡ n) where
     record Tests : Type 0 where
       at : i % 2 ^ tk .size ≡ 0
       less : 2 ^ tk .size < 2 ^ getD σ 6 0

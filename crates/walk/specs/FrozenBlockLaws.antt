@@ -30,7 +30,7 @@ use Rattle.walk.specs.Progress.{allowsMore, countedMore}
 use Rattle.walk.specs.ProgressLaws.{shows-visits}
 use Rattle.walk.specs.StepLaws.{true-false, was-more, sum-small}
 use Rattle.walk.specs.RunLaws.{ran, ready-run, onward-run}
-use Rattle.walk.specs.Taken.{runAt, runPenalty, takes, takenAt, BlockRoom, ZerosAsked, ZerosGiven}
+use Rattle.walk.specs.FrozenBlocks.{runAt, runPenalty, takes, takenAt, BlockRoom, ZerosAsked, ZerosGiven}
 
 -- ---- how many
 run-short : (k₀ σ : List ℕ) (i : ℕ) → getD σ 6 0 < 5 → runAt k₀ σ i ≡ 0

@@ -14,7 +14,7 @@ use borrow.Author.Tests.{eq-eqb, ne-eqb, le-leb, lt-leb, ltb-true, not-true, not
 use Rattle.numbers.specs.Choice.{lt-or-le}
 use Rattle.blocks.specs.Information.{allChosen, withHard}
 use Rattle.walk.specs.Progress.{seen, drops, allowsMore, countedMore}
-use Rattle.walk.specs.Hard.{hardHere, byBlock, HardAsked, HardGiven, BlockGiven, mayTake}
+use Rattle.walk.specs.InformationBlocks.{hardHere, byBlock, HardAsked, HardGiven, BlockGiven, mayTake}
 
 -- ---- where a block ends
 pub lower-power : (m t : ℕ) → 2 ^ t < 2 ^ m → t < m
@@ -219,7 +219,7 @@ pub as-tried : {may : Bool} {kinds : List ℕ} {rows : List ℤ} {σ y : List �
 as-tried {may} {kinds} {rows} {σ} {y} {i} {n} {σ′} {y′} e g = subst (λ (b : Bool). BlockGiven b kinds rows σ y i n σ′ y′) (sym e) g
 
 -- a block of n = 2^size indices is taken
-pub record Taken (may : Bool) (kinds : List ℕ) (rows : List ℤ) (σ y : List ℕ) (i n : ℕ) (σ′ y′ : List ℕ) : Type 0 where
+pub record BlockTaken (may : Bool) (kinds : List ℕ) (rows : List ℤ) (σ y : List ℕ) (i n : ℕ) (σ′ y′ : List ℕ) : Type 0 where
   pub tried : may ≡ true
   pub size : ℕ
   pub is : n ≡ 2 ^ size
@@ -234,12 +234,12 @@ either false = inr refl
 -- one is taken, or nothing changes
 module _ {kinds : List ℕ} {rows : List ℤ} {σ y : List ℕ} {i n : ℕ} {σ′ y′ : List ℕ} where
   taken-of : (k s : ℕ) → k ≡ 2 ^ s → hardHere kinds σ i k ≡ true → n ≡ k → σ′ ≡ countedMore (k - 1) σ → y′ ≡ withHard k s i rows y
-      → Taken true kinds rows σ y i n σ′ y′
+      → BlockTaken true kinds rows σ y i n σ′ y′
   taken-of k s e here is counts puts =
-      subst (λ (x : ℕ). Taken true kinds rows σ y i x σ′ y′) (sym is)
+      subst (λ (x : ℕ). BlockTaken true kinds rows σ y i x σ′ y′) (sym is)
       (record { tried = refl; size = s; is = e; here = here; counts = counts; puts = puts })
 
-  which : (may : Bool) → BlockGiven may kinds rows σ y i n σ′ y′ → Taken may kinds rows σ y i n σ′ y′ ⊎ ((n ≡ 0) × (σ′ ≡ σ) × (y′ ≡ y))
+  which : (may : Bool) → BlockGiven may kinds rows σ y i n σ′ y′ → BlockTaken may kinds rows σ y i n σ′ y′ ⊎ ((n ≡ 0) × (σ′ ≡ σ) × (y′ ≡ y))
   which false b = inr (b .tells, b .counts, b .puts)
   which true b =
       let length : ℕ → ℕ → ℕ = λ n s. n in
@@ -264,7 +264,7 @@ module _ {kinds : List ℕ} {rows : List ℤ} {σ y : List ℕ} {i n : ℕ} {σ�
       (either (hardHere kinds σ i 16))
 
   module _ {may : Bool} (b : BlockGiven may kinds rows σ y i n σ′ y′) where
-    pub block-taken : (n ≡ 0 → ⊥) → Taken may kinds rows σ y i n σ′ y′
+    pub block-taken : (n ≡ 0 → ⊥) → BlockTaken may kinds rows σ y i n σ′ y′
     block-taken some = ⊎-elim (λ x. x) (λ x. absurd (some (x .0))) (which may b)
 
     pub block-left : n ≡ 0 → (σ′ ≡ σ) × (y′ ≡ y)
