@@ -2,6 +2,7 @@
 -- Readings and the two combining steps: sizes, signs, rows, correlation, how large a running sum can be
 pub mod Readings
 pub mod StepLaws
+pub mod PenaltyLaws
 pub mod CorrelationLaws
 pub mod BoundLaws
 -- The best word and the gap
@@ -17,6 +18,10 @@ pub mod HeldLaws
 pub mod OfferLaws
 pub mod WalkLaws
 pub mod TreeLaws
+-- Blocks of indices, and runs of frozen ones
+pub mod Blocks
+pub mod BlockLaws
+pub mod RunLaws
 -- The walk under an allowance, and the search's answer
 pub mod Allowance
 pub mod Answer
@@ -24,6 +29,8 @@ pub mod AllowanceLaws
 pub mod AnswerLaws
 pub mod SearchLaws
 pub mod ZeroLaws
+-- Blocks of information indices along the hard word
+pub mod InformationLaws
 -- Readings turned over: negated by a word, and by the all-ones word
 pub mod TurnLaws
 pub mod TurnedWalk

@@ -47,7 +47,7 @@ by-penalty P a f x y =
     cond-by P (ltb (f .penalty) (a .penalty)) (two f a) (two a f)
     (λ e. x (ltb-true (f .penalty) (a .penalty) e)) (λ e. y (ltb-false (f .penalty) (a .penalty) e))
 
-by-penalties : (P : Held → Type 0) (a b f : Full) → (f .penalty < a .penalty → P (two f a))
+pub by-penalties : (P : Held → Type 0) (a b f : Full) → (f .penalty < a .penalty → P (two f a))
     → (f .penalty < b .penalty → a .penalty ≤ f .penalty → P (two a f)) → (b .penalty ≤ f .penalty → P (two a b)) → P (offer (two a b) f)
 by-penalties P a b f x y z =
     cond-by P (leb (b .penalty) (f .penalty)) (two a b) (hold (two a b) f)
@@ -80,12 +80,12 @@ pub two-held : (l : List Full) → 2 ≤ length l → (a : Full) × (b : Full) �
 two-held l h = two-of (offers none l) (number-offers none l ∙ omega arith)
 
 -- ---- with the least penalties
-abbrev Sorted : Held → Type 0
+abbrev pub Sorted : Held → Type 0
 Sorted none = Unit {0}
 Sorted (one a) = Unit {0}
 Sorted (two a b) = a .penalty ≤ b .penalty
 
-sorted-offer : (h : Held) (f : Full) → Sorted h → Sorted (offer h f)
+pub sorted-offer : (h : Held) (f : Full) → Sorted h → Sorted (offer h f)
 sorted-offer none f h = tt
 sorted-offer (one a) f h = by-penalty Sorted a f (λ i. le-of-lt i) (λ i. i)
 sorted-offer (two a b) f h = by-penalties Sorted a b f (λ i. le-of-lt i) (λ i j. j) (λ i. h)

@@ -1,11 +1,12 @@
 -- What the walk's scratch rows stand for: the rows of the blocks that hold an index, where the bytes y begin with the path's bits.
 use mathlib.Core.Path.{_≡_}
 use mathlib.Core.List.{List}
-use mathlib.Core.Bool.{cond}
+use mathlib.Core.Bool.{Bool, false, cond}
 use Prim.Native.Nat.{ℕ, zero, suc, _+_, _-_, _*_, _^_, _/_, _%_, _≤_, _<_}
 use lib.IntN.{ℤ}
 use lib.ListN.{length, take, drop}
-use lib.Dec.{eqb}
+use lib.Dec.{eqb, leb}
+use lib.Bits.{bitXor}
 use Rattle.words.specs.Bits.{Bits}
 use Rattle.words.specs.Word.{transform}
 use Rattle.decoding.specs.Quick.{lowerRow, upperRow}
@@ -57,6 +58,10 @@ pub record Top (m j i t : ℕ) : Type 0 where
   pub within : t < m
   pub same : suc t < m → j / 2 ^ suc t ≡ i / 2 ^ suc t
   pub before : suc t < m → startOf (suc t) i ≤ i - 1
+
+-- the block of twice as many indices as the largest one that starts at i holds j, too: j and i differ in no digit above the lowest one of i
+abbrev pub follows : ℕ → ℕ → Bool
+follows j i = cond (eqb i 0) false (leb (bitXor j i) (bitXor i (i - 1)))
 
 -- no digit of x above t is 1, and t is a digit of x's range
 pub record Highest (x t : ℕ) : Type 0 where

@@ -1,16 +1,19 @@
 -- Laws of the highest row that changes from one index to another: by the highest digit in which they differ, and the lowest one of the new index.
 use mathlib.Core.Path.{_≡_, ap, sym, _∙_, subst}
+use mathlib.Core.Bool.{Bool, true, false, cond, true≢false}
 use mathlib.Core.Logic.{⊎-elim}
-use Prim.Native.Nat.{ℕ, zero, suc, _+_, _-_, _^_, _/_, _%_, _≤_, _<_, max}
+use Prim.Native.Nat.{ℕ, zero, suc, _+_, _-_, _*_, _^_, _/_, _%_, _≤_, _<_, max}
 use native.Mathlib.Omega.{arith}
-use native.Mathlib.Nat.{two-pow-succ, add-mul, div-eq-of-lt, div-eq-of-lt-le, mod-le, mul-mod-left}
+use native.Mathlib.Nat.{two-pow-succ, add-mul, div-eq-of-lt, div-eq-of-lt-le, mod-le, mod-lt, mul-mod-left}
 use lib.Pow.{pow-pos, pow-mono, pow-lt, pow-add, mod-mod-pow, split}
-use lib.Bits.{bitOr, bitXor, xor-add-and, or-add-and, and-le-l, and-le-r, xor-shr, xor-lt, or-mod, or-lt, or-zero-r}
+use lib.Bits.{bitOr, bitXor, xor-self, xor-add-and, or-add-and, and-le-l, and-le-r, xor-shr, xor-lt, or-mod, or-lt, or-zero-r}
 use lib.Count.{leadingZeros, leading-top}
+use lib.Dec.{leb}
+use borrow.Author.Tests.{leb-true, ne-eqb}
 use Rattle.numbers.specs.Choice.{lt-or-le}
 use Rattle.numbers.specs.Lowest.{LowestOne}
 use Rattle.numbers.specs.LowestLaws.{lowest-within}
-use Rattle.memory.specs.Memory.{Top, Highest}
+use Rattle.memory.specs.Memory.{follows, Top, Highest}
 
 -- ---- the highest one, as the machine counts leading zeros
 module _ (x : ℕ) (fits : x < 2 ^ 64) where
@@ -67,16 +70,35 @@ module _ (m j i : ℕ) (more : 0 < m) (was : j < 2 ^ m) (inside : i < 2 ^ m) whe
             omega (arith, split i (suc t), low, mod-le (i % 2 ^ suc t) (2 ^ suc b), pow-pos b);
       }
 
--- ---- where the new index is the next one: only the blocks that start there change
-pub top-next : {m j i : ℕ} (t : ℕ) → t < m → j + 1 ≡ i → LowestOne t i → Top m j i t
-top-next {m} {j} {i} t h next o =
+-- ---- where only the blocks that start at the new index change
+top-same : {m j i : ℕ} (t : ℕ) → t < m → j / 2 ^ suc t ≡ i / 2 ^ suc t → LowestOne t i → Top m j i t
+top-same {m} {j} {i} t h e o = record { within = h; same = λ k. e; before = λ k. omega (arith, split i (suc t), o, pow-pos t) }
+
+-- the digits above the lowest one of i are those of the index before it
+above-one : (j i t : ℕ) → j + 1 ≡ i → LowestOne t i → j / 2 ^ suc t ≡ i / 2 ^ suc t
+above-one j i t next o =
     let p = 2 ^ suc t in
-    record {
-      within = h;
-      same = λ k. div-eq-of-lt-le p {m = j} (omega (arith, split i (suc t), o, next, pow-pos t))
-          (rw (add-mul (i / p) 1 p) (omega (arith, split i (suc t), o, next, two-pow-succ t)));
-      before = λ k. omega (arith, split i (suc t), o, pow-pos t);
-    }
+    div-eq-of-lt-le p {m = j} (omega (arith, split i (suc t), o, next, pow-pos t))
+    (rw (add-mul (i / p) 1 p) (omega (arith, split i (suc t), o, next, two-pow-succ t)))
+
+pub top-next : {m j i : ℕ} (t : ℕ) → t < m → j + 1 ≡ i → LowestOne t i → Top m j i t
+top-next {m} {j} {i} t h next o = top-same t h (above-one j i t next o) o
+
+pub top-follows : {m j i : ℕ} (t : ℕ) → t < m → follows j i ≡ true → LowestOne t i → Top m j i t
+top-follows {m} {j} {i} t h f o =
+    let p = 2 ^ suc t in
+    let x = bitXor i (i - 1) in
+    let some : 0 < i = omega (arith, split i (suc t), o, pow-pos t) in
+    let least : bitXor j i ≤ x =
+    leb-true (bitXor j i) x (sym (ap (λ (z : Bool). cond z false (leb (bitXor j i) x)) (ne-eqb i 0 (λ e. omega arith))) ∙ f) in
+    let none : x / p ≡ 0 = xor-shr i (i - 1) (suc t) ∙ ap (bitXor (i / p)) (above-one (i - 1) i t (omega arith) o) ∙ xor-self (i / p) in
+    let small : bitXor j i < p = omega (arith, split x (suc t), mod-lt x (pow-pos (suc t)), ap (λ (k : ℕ). k * p) none) in
+    top-same t h (same-of-xor (j / p) (i / p) (sym (xor-shr j i (suc t)) ∙ div-eq-of-lt small)) o
+
+-- and index 0 follows none
+pub follows-some : (j i : ℕ) → follows j i ≡ true → 0 < i
+follows-some j zero f = absurd (true≢false (sym f))
+follows-some j (suc i) f = omega arith
 
 -- where it is no block of one, two or four indices that starts there and none of twice as many, it is one of more
 pub starts-more : (t i : ℕ) → LowestOne t i → (i % 2 ≡ 1 → ⊥) → (i % 4 ≡ 2 → ⊥) → (i % 8 ≡ 4 → ⊥) → 3 ≤ t

@@ -10,7 +10,7 @@ ghost use Rattle.words.specs.Word.{transform};
 ghost use Rattle.decoding.specs.Readings.{sizes, sumLimit};
 ghost use Rattle.decoding.specs.Walk.{value};
 ghost use Rattle.rows.specs.Rows.{rowOf, withRow};
-ghost use Rattle.memory.specs.Memory.{below, newRow, remade, Arrays, Made, Stands};
+ghost use Rattle.memory.specs.Memory.{below, newRow, remade, follows, Arrays, Made, Stands};
 ghost use Rattle.memory.specs.Memory.{Highest, LowReady, RowsReady, Top, ValueReady};
 
 // 2^m, the length of a row.
@@ -330,10 +330,21 @@ fn any_value(
     rows[1]
 }
 
-// The value at index i of the path. The rows are for index was, and then for i. Most often i
-// comes next, and then only the rows of the blocks that start at i change: at most three, of up to
-// four sums, for seven indices in eight. Two places call any_value, so that the compiler keeps it
-// out of that short way.
+// Of the rows for index was, only those of the blocks that start at i change for index i: the next
+// larger block that holds i holds was, too. So it is where i comes next, and where i starts the
+// block behind the one that starts at was.
+fn follows(was: usize, i: usize) -> bool
+    ensures { λ r. ⌜ r ≡ follows was i ⌝ }
+{
+    if i == 0 {
+        return false;
+    }
+    was ^ i <= i ^ (i - 1)
+}
+
+// The value at index i of the path. The rows are for index was, and then for i. Most often only the
+// rows of the blocks that start at i change: at most three, of up to four sums, for seven indices
+// in eight. Two places call any_value, so that the compiler keeps it out of that short way.
 pub fn value(
     readings: &[i16; 256],
     rows: &mut [i32; 256],
@@ -352,7 +363,7 @@ pub fn value(
     if m < 4 {
         return any_value(readings, rows, path, word, m, was, i);
     }
-    if was + 1 == i {
+    if follows(was, i) {
         if i % 2 == 1 {
             start_of_1(rows, path, i);
             return rows[1];

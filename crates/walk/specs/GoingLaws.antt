@@ -12,7 +12,9 @@ use borrow.Author.Tests.{eqb-false}
 use Rattle.words.specs.TransformLaws.{bits-take}
 use Rattle.decoding.specs.Readings.{loss}
 use Rattle.decoding.specs.Quick.{hard}
-use Rattle.decoding.specs.Walk.{value, finished}
+use Rattle.decoding.specs.Walk.{State, value, finished}
+use Rattle.decoding.specs.OfferLaws.{Sorted}
+use Rattle.decoding.specs.InformationLaws.{sorted-hold}
 use Rattle.decoding.specs.Allowance.{ended}
 use Rattle.decoding.specs.PathLaws.{loss-hard}
 use Rattle.memory.specs.Memory.{Stands, ValueReady}
@@ -79,6 +81,9 @@ module _ {l₀ : List ℤ} {k₀ : List ℕ} {s : List ℤ} {y best second σ : 
       let o : seen σ′ .out ≡ false = ap (λ (k : Progress). k .out) (f .rest) ∙ r .going in
       let whole : take i y ≡ take (2 ^ getD σ 6 0) y = ap (λ (n : ℕ). take n y) e in
       let shown : limitedOf (seen σ′) best′ second′ ≡ ended (stateOf (seen σ′) best′ second′) = rw o in
+      let in-order : Sorted (stateOf (seen σ′) best′ second′ .held) =
+      subst (λ (k : State). Sorted (k .held)) (sym (f .holds))
+      (sorted-hold (stateOf (seen σ) best second .held) (record { path = take (2 ^ getD σ 6 0) y; penalty = p })) in
       record {
         long = long;
         stepped = record {
@@ -90,6 +95,7 @@ module _ {l₀ : List ℤ} {k₀ : List ℕ} {s : List ℤ} {y best second σ : 
           path-stays = refl;
           kept = subst (λ (k : Progress). Kept (front σ l₀) k s y best′ second′ (i - 1)) (sym (f .rest)) (record {
             high = f .high (r .kept .high);
+            sorted = subst (λ (k : Progress). Sorted (stateOf k best′ second′ .held)) (f .rest) in-order;
             index-inside = r .kept .index-inside;
             long-path = r .kept .long-path;
             bits = r .kept .bits;

@@ -4,11 +4,12 @@ use mathlib.Core.Bool.{Bool, true, false, cond}
 use mathlib.Core.List.{List, []}
 use Prim.Native.Nat.{ℕ, zero, suc, _+_, _-_, _^_, _≤_, _<_}
 use lib.IntN.{ℤ}
-use lib.ListN.{length, getD, take, drop}
+use lib.ListN.{length, getD, set, take, drop}
 use lib.Dec.{ltb, leb}
 use Rattle.words.specs.Bits.{Bits}
 use Rattle.decoding.specs.Readings.{sizes, sumLimit}
 use Rattle.decoding.specs.Walk.{Full, Held, none, one, two, State, start, finished, value, pathPenalty}
+use Rattle.decoding.specs.OfferLaws.{Sorted}
 use Rattle.decoding.specs.Allowance.{Limited, ended, out, extendWithin, walkWithin}
 use Rattle.memory.specs.Memory.{Stands, ValueReady}
 
@@ -84,6 +85,17 @@ stopped w = visiting (w .visits) true w
 abbrev pub counted : Progress → Progress
 counted w = cond (allows w) (more w) (stopped w)
 
+-- n visits more are allowed, of the array s of the eight numbers; and they are counted there
+abbrev pub allowsMore : ℕ → List ℕ → Bool
+allowsMore n s = leb (getD s 3 0 + n) (getD s 7 0)
+
+abbrev pub countedMore : ℕ → List ℕ → List ℕ
+countedMore n s = set s 3 (getD s 3 0 + n)
+
+-- n visits more, or as many as are allowed and out
+abbrev pub countedBy : ℕ → Progress → Progress
+countedBy n w = cond (leb (w .visits + n) (w .allowed)) (visiting (w .visits + n) (w .out) w) (visiting (w .allowed) true w)
+
 -- the rows stand for index i
 abbrev pub standing : ℕ → Progress → Progress
 standing i w =
@@ -141,9 +153,10 @@ pub record Finished (p : ℕ) (w : Progress) (y best second : List ℕ) (w′ : 
   pub rest : w′ ≡ holding (w′ .held) (w′ .best) (w′ .second) w
   pub bits : Bits (take (2 ^ w .m) y) → AreBits (w .m) best second → AreBits (w .m) best′ second′
 
--- what holds before and after each step: rows s stand for w's index, but for what depends on the path y from b on
+-- what holds before and after each step: what is held stands in order, and rows s stand for w's index, but for what depends on the path y from b on
 pub record Kept (l : List ℤ) (w : Progress) (s : List ℤ) (y best second : List ℕ) (b : ℕ) : Type 0 where
   pub high : w .held < 2 → w .second ≡ none-yet
+  pub sorted : Sorted (stateOf w best second .held)
   pub index-inside : w .index < 2 ^ w .m
   pub long-path : length y ≡ 256
   pub bits : Bits y

@@ -39,6 +39,7 @@ module _ (m n allowed : ℕ) (l₀ : List ℤ) (k₀ best second : List ℕ) (is
           undropped = refl;
           kept = record {
             high = λ h. refl;
+            sorted = tt;
             index-inside = omega (arith, pow-pos m);
             long-path = long;
             bits = bits;

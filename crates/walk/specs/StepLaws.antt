@@ -77,6 +77,7 @@ module _ {l : List ℤ} {w : Progress} {s : List ℤ} {y best second : List ℕ}
   kept-less {b} a h k =
       record {
         high = k .high;
+        sorted = k .sorted;
         index-inside = k .index-inside;
         long-path = k .long-path;
         bits = k .bits;
@@ -89,6 +90,7 @@ module _ {l : List ℤ} {w : Progress} {s : List ℤ} {y best second : List ℕ}
   kept-put {i} b h k =
       record {
         high = k .high;
+        sorted = k .sorted;
         index-inside = k .index-inside;
         long-path = length-set y i b ∙ k .long-path;
         bits = bits-set y i b h (k .bits);
@@ -100,15 +102,39 @@ module _ {l : List ℤ} {w : Progress} {s : List ℤ} {y best second : List ℕ}
   pub kept-standing : {b : ℕ} (i : ℕ) (s′ : List ℤ) → i < 2 ^ w .m → Kept l w s y best second b → Stands (w .m) l y i i s′
       → Kept l (standing i (more w)) s′ y best second i
   kept-standing i s′ h k f =
-      record { high = k .high; index-inside = h; long-path = k .long-path; bits = k .bits; both = k .both; rows = f }
+      record {
+        high = k .high;
+        sorted = k .sorted;
+        index-inside = h;
+        long-path = k .long-path;
+        bits = k .bits;
+        both = k .both;
+        rows = f;
+      }
 
   pub kept-stopped : {b : ℕ} → Kept l w s y best second b → Kept l (stopped w) s y best second b
   kept-stopped k =
-      record { high = k .high; index-inside = k .index-inside; long-path = k .long-path; bits = k .bits; both = k .both; rows = k .rows }
+      record {
+        high = k .high;
+        sorted = k .sorted;
+        index-inside = k .index-inside;
+        long-path = k .long-path;
+        bits = k .bits;
+        both = k .both;
+        rows = k .rows;
+      }
 
   pub kept-more : {b : ℕ} → Kept l w s y best second b → Kept l (more w) s y best second b
   kept-more k =
-      record { high = k .high; index-inside = k .index-inside; long-path = k .long-path; bits = k .bits; both = k .both; rows = k .rows }
+      record {
+        high = k .high;
+        sorted = k .sorted;
+        index-inside = k .index-inside;
+        long-path = k .long-path;
+        bits = k .bits;
+        both = k .both;
+        rows = k .rows;
+      }
 
 -- ---- what a step asks, and the next one
 module _ {l : List ℤ} {kinds : List ℕ} {s : List ℤ} {y best second : List ℕ} {i p : ℕ} {w : Progress} (r : Ready l kinds s y best second i p w) where

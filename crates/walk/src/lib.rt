@@ -7,13 +7,17 @@
 // What the walk holds and counts is in state, by place, and is changed there. Nothing is handed
 // back, so that the last call of a step takes no stack of its own.
 ghost use mathlib.Core.Path.{_≡_};
+ghost use mathlib.Core.Bool.{true};
 ghost use Prim.Native.Nat.{_+_, _^_, _≤_, _<_};
 ghost use lib.ListN.{length, getD, take, set, replicate};
-ghost use lib.Dec.{eqb};
+ghost use lib.Dec.{eqb, ltb};
 ghost use Rattle.decoding.specs.Quick.{hard};
-ghost use Rattle.walk.specs.Progress.{drops, seen, standing};
+ghost use Rattle.walk.specs.Progress.{allowsMore, countedBy, countedMore, drops, seen};
+ghost use Rattle.walk.specs.Progress.{standing};
 ghost use Rattle.walk.specs.Progress.{Finished, Shows, StepAsked, StepGiven, Visited};
 ghost use Rattle.walk.specs.Progress.{ValueAsked, ValueGiven, Walkable, Walked};
+ghost use Rattle.walk.specs.FrozenBlocks.{ZerosAsked, ZerosGiven};
+ghost use Rattle.walk.specs.InformationBlocks.{mayTake, HardAsked, HardGiven, BlockGiven};
 
 // The places in state: how many full paths are held, the penalty of best and that of second, the
 // visits, whether a visit was wanted that is not allowed, the index that the rows stand for, m, and
@@ -170,6 +174,205 @@ fn value_at(
     memory::value(readings, rows, path, word, wide(m), was, i)
 }
 
+fn plus(visits: u32, n: u32, allowed: u32) -> u32
+    requires { ⌜ visits + n ≤ allowed ⌝ }
+    ensures { λ r. ⌜ r ≡ visits + n ⌝ }
+{
+    visits + n
+}
+
+// So many visits more are allowed: compared so that nothing wraps.
+fn allows(state: &[u32; 8], n: u32) -> bool
+    ensures { λ r. ⌜ r ≡ allowsMore n (now (state .entry)) ⌝ }
+{
+    let allowed = state[ALLOWANCE];
+    if allowed < n {
+        return false;
+    }
+    let visits = state[VISITS];
+    visits <= allowed - n
+}
+
+// So many visits more, which are allowed.
+fn count(state: &mut [u32; 8], n: u32)
+    requires { ⌜ allowsMore n (now state) ≡ true ⌝ }
+    ensures { λ _. ⌜ now (state .exit) ≡ countedMore n (now (state .entry)) ⌝ }
+{
+    let visits = state[VISITS];
+    let allowed = state[ALLOWANCE];
+    state[VISITS] = plus(visits, n, allowed);
+}
+
+// So many visits more; or where not all are allowed, as many as are, and out.
+fn visits(state: &mut [u32; 8], n: u32)
+    requires { ⌜ length (now state) ≡ 8 ⌝ }
+    ensures { λ _. ⌜ Shows (now (state .exit)) (countedBy n (seen (now (state .entry)))) ⌝ }
+{
+    if allows(state, n) {
+        count(state, n);
+        return;
+    }
+    let allowed = state[ALLOWANCE];
+    state[VISITS] = allowed;
+    state[OUT_OF_VISITS] = 1;
+}
+
+// A block of 16 indices starts at i, for which the rows are made and a visit is counted. Where all
+// are frozen, or all but the last, and no zero is dropped, and the visits are allowed, the frozen
+// ones are taken at once: the penalty after them times 256, and how many. Otherwise 0, and nothing
+// changes.
+fn zeros(
+    kinds: &[u8; 256],
+    rows: &[i32; 256],
+    path: &mut [u8; 256],
+    state: &mut [u32; 8],
+    i: usize,
+    penalty: u32,
+) -> u64
+    requires { ⌜ ZerosAsked (now kinds) (now rows) (now path) (now state) i penalty ⌝ }
+    ensures { λ r. ⌜ ZerosGiven (now (kinds .entry)) (now (rows .entry)) (now (path .entry))
+        (now (state .entry)) i penalty r (now (path .exit)) (now (state .exit)) ⌝ }
+{
+    if state[EXPONENT] < 5 {
+        return 0;
+    }
+    let n = blocks::frozen::run(kinds, i);
+    if n == 0 {
+        return 0;
+    }
+    let reached = penalty + blocks::frozen::added(rows, n);
+    if dropped(state, reached) {
+        return 0;
+    }
+    let more = (n - 1) as u32;
+    if !allows(state, more) {
+        return 0;
+    }
+    count(state, more);
+    blocks::frozen::put_zeros(path, i);
+    (reached as u64) * 256 + n as u64
+}
+
+// There are more than n indices, so that the rows have one of n sums.
+fn has_row(state: &[u32; 8], n: usize) -> bool
+    requires { ⌜ 2 ^ getD (now state) 6 0 ≤ 256 ⌝ }
+    ensures { λ r. ⌜ r ≡ ltb n (2 ^ getD (now (state .entry)) 6 0) ⌝ }
+{
+    let m = state[EXPONENT];
+    n < 1usize << m
+}
+
+// A block of n = 2^s indices starts at i, for which the rows stand and a visit is counted. Where
+// all its indices carry information and the other visits are allowed, those are counted, and each
+// index has the bit that its value speaks for.
+fn hard_block(
+    kinds: &[u8; 256],
+    rows: &[i32; 256],
+    path: &mut [u8; 256],
+    state: &mut [u32; 8],
+    i: usize,
+    n: u32,
+    s: usize,
+) -> bool
+    requires { ⌜ HardAsked (now state) i × (n ≡ 2 ^ s) ⌝ }
+    ensures { λ r. ⌜ HardGiven (now (kinds .entry)) (now (rows .entry)) (now (state .entry))
+        (now (path .entry)) i n s r (now (state .exit)) (now (path .exit)) ⌝ }
+{
+    let length = wide(n);
+    if i % length != 0 {
+        return false;
+    }
+    if !has_row(state, length) {
+        return false;
+    }
+    if !blocks::information::all_chosen(kinds, i, length) {
+        return false;
+    }
+    if !allows(state, n - 1) {
+        return false;
+    }
+    count(state, n - 1);
+    blocks::information::put_hard(rows, path, i, length, s);
+    true
+}
+
+// The largest such block of 16, 8 or 4 indices: how many it has, or 0.
+fn hard_blocks(
+    kinds: &[u8; 256],
+    rows: &[i32; 256],
+    path: &mut [u8; 256],
+    state: &mut [u32; 8],
+    i: usize,
+) -> u32
+    requires { ⌜ HardAsked (now state) i ⌝ }
+    ensures { λ n. ⌜ BlockGiven true (now (kinds .entry)) (now (rows .entry))
+        (now (state .entry)) (now (path .entry)) i n (now (state .exit)) (now (path .exit)) ⌝ }
+{
+    if hard_block(kinds, rows, path, state, i, 16, 4) {
+        return 16;
+    }
+    if hard_block(kinds, rows, path, state, i, 8, 3) {
+        return 8;
+    }
+    if hard_block(kinds, rows, path, state, i, 4, 2) {
+        return 4;
+    }
+    0
+}
+
+// What is taken at once at i, for which the rows are made and a visit is counted: of frozen indices
+// as zeros gives it, of information indices how many. Both steps call this, so that the compiler
+// keeps it out of them, and their frames stay as small as they are without it.
+fn taken(
+    kinds: &[u8; 256],
+    rows: &[i32; 256],
+    path: &mut [u8; 256],
+    state: &mut [u32; 8],
+    i: usize,
+    penalty: u32,
+) -> u64
+    requires { ⌜ (i < 256)
+        × (getD (now kinds) i 0 ≡ 0
+        → ZerosAsked (now kinds) (now rows) (now path) (now state) i penalty)
+        × ((getD (now kinds) i 0 ≡ 0 → ⊥) → HardAsked (now state) i) ⌝ }
+    ensures { λ r. ⌜ (getD (now (kinds .entry)) i 0 ≡ 0
+        → ZerosGiven (now (kinds .entry)) (now (rows .entry)) (now (path .entry))
+        (now (state .entry)) i penalty r (now (path .exit)) (now (state .exit)))
+        × ((getD (now (kinds .entry)) i 0 ≡ 0 → ⊥)
+        → BlockGiven true (now (kinds .entry)) (now (rows .entry))
+        (now (state .entry)) (now (path .entry)) i r (now (state .exit)) (now (path .exit))) ⌝ }
+{
+    if kinds[i] == 0 {
+        return zeros(kinds, rows, path, state, i, penalty);
+    }
+    hard_blocks(kinds, rows, path, state, i) as u64
+}
+
+// A block of information indices at i, of which the value is made, is taken where the penalty with
+// the other bit at i is dropped: then the other bit is dropped at each index of the block, since no
+// sum of its row has a smaller size than the value at i. How many indices, or 0.
+fn hard_here(
+    kinds: &[u8; 256],
+    rows: &[i32; 256],
+    path: &mut [u8; 256],
+    state: &mut [u32; 8],
+    i: usize,
+    after: u32,
+) -> u32
+    requires { ⌜ HardAsked (now state) i × (getD (now kinds) i 0 ≡ 0 → ⊥) ⌝ }
+    ensures { λ n. ⌜ BlockGiven (mayTake (now (state .entry)) i after) (now (kinds .entry))
+        (now (rows .entry)) (now (state .entry)) (now (path .entry)) i n
+        (now (state .exit)) (now (path .exit)) ⌝ }
+{
+    if i % 4 != 0 {
+        return 0;
+    }
+    if !dropped(state, after) {
+        return 0;
+    }
+    taken(kinds, rows, path, state, i, after) as u32
+}
+
 // The path of the first `from` bits, of this penalty, goes on with a 0 at each frozen index: up to
 // an information index or the end, or until an extension is dropped or not allowed.
 fn frozen_step(
@@ -213,6 +416,14 @@ fn frozen_step(
             return;
         }
         let value = value_at(readings, rows, path, word, state, i);
+        if i % 16 == 0 {
+            let block = taken(kinds, rows, path, state, i, sum);
+            if block != 0 {
+                i += (block % 256) as usize;
+                sum = (block / 256) as u32;
+                continue;
+            }
+        }
         sum += rows::loss(value, 0);
         if dropped(state, sum) {
             // it is counted all the same
@@ -227,6 +438,9 @@ fn frozen_step(
 // Both extensions at an information index i: first the bit that the value speaks for, which adds
 // nothing, so that it is not dropped; when everything under it is done, the other. Where the walk
 // under the first wanted a visit that is not allowed, none is left for the other.
+// Where the other is dropped before, and a block of information indices starts at i, all its first
+// bits are taken at once: as many visits go before what lies behind the block as go after it, one
+// for the other bit of each index, which is dropped.
 fn info_step(
     readings: &[i16; 256],
     kinds: &[u8; 256],
@@ -254,6 +468,23 @@ fn info_step(
     let first = first_bit(value);
     let other = 1 - first;
     let after = penalty + rows::loss(value, other);
+    let n = hard_here(kinds, rows, path, state, i, after);
+    if n != 0 {
+        frozen_step(
+            readings,
+            kinds,
+            rows,
+            path,
+            word,
+            best,
+            second,
+            state,
+            i + wide(n),
+            penalty,
+        );
+        visits(state, n);
+        return;
+    }
     put(path, i, first);
     frozen_step(
         readings,

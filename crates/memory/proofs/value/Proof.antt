@@ -1,7 +1,8 @@
--- `value`: where i is the next index, from the row of the block that starts there.
+-- `value`: where only the rows of blocks that start at i change, from the row of the largest of them.
 use Rattle.memory.specs.CodeLaws.{low-asked, low-made, first-ready, value-arrays, value-given}
-use Rattle.memory.specs.TopLaws.{top-next, starts-more}
+use Rattle.memory.specs.TopLaws.{top-follows, follows-some, starts-more}
 use Rattle.numbers.specs.LowestLaws.{lowest-within}
+use mathlib.Core.Path.{sym, _∙_}
 use native.Mathlib.Omega.{arith}
 use borrow.Author.Needs.{needs}
 use Rattle.memory.proofs.value.Statement.{statement}
@@ -13,15 +14,15 @@ any-value-requires c κs = search needs
 returns : tie.Need-returns
 returns c = search needs
 
-add-if2 : tie.Need-add-if2
-add-if2 c = search needs
+follows-requires : tie.Need-follows-requires
+follows-requires c κs = tt
 
 start-of-1-requires : tie.Need-start-of-1-requires
 start-of-1-requires c κs =
     let o = c .before .before .if3 .taken in
     let next = c .before .before .before in
-    let start = next .before .before in
-    let ready = first-ready (start .pre) (top-next 0 (omega arith) (next .if2 .taken) o) in
+    let start = next .before .before .before in
+    let ready = first-ready (start .pre) (top-follows 0 (omega arith) (sym (next .before .follows .ensures) ∙ next .if2 .taken) o) in
     (o, low-asked ready (value-arrays (start .pre) (omega arith) (omega arith)) (omega arith) (omega arith))
 
 element-copy-out-result : tie.Need-element-copy-out-result
@@ -31,8 +32,8 @@ returns-2 : tie.Need-returns-2
 returns-2 c =
     let o = c .before .before .before .before .if3 .taken in
     let next = c .before .before .before .before .before in
-    let start = next .before .before in
-    let ready = first-ready (start .pre) (top-next 0 (omega arith) (next .if2 .taken) o) in
+    let start = next .before .before .before in
+    let ready = first-ready (start .pre) (top-follows 0 (omega arith) (sym (next .before .follows .ensures) ∙ next .if2 .taken) o) in
     value-given (start .pre) (omega arith) (omega arith)
     (low-made ready (value-arrays (start .pre) (omega arith) (omega arith)) (omega arith) (c .before .start-of-1 .ensures))
 
@@ -40,8 +41,8 @@ start-of-2-requires : tie.Need-start-of-2-requires
 start-of-2-requires c κs =
     let o = c .before .before .before .if4 .taken in
     let next = c .before .before .before .before .before in
-    let start = next .before .before in
-    let ready = first-ready (start .pre) (top-next 1 (omega arith) (next .if2 .taken) o) in
+    let start = next .before .before .before in
+    let ready = first-ready (start .pre) (top-follows 1 (omega arith) (sym (next .before .follows .ensures) ∙ next .if2 .taken) o) in
     (o, low-asked ready (value-arrays (start .pre) (omega arith) (omega arith)) (omega arith) (omega arith), omega arith)
 
 element-copy-out-result-2 : tie.Need-element-copy-out-result-2
@@ -51,8 +52,8 @@ returns-3 : tie.Need-returns-3
 returns-3 c =
     let o = c .before .before .before .before .before .if4 .taken in
     let next = c .before .before .before .before .before .before .before in
-    let start = next .before .before in
-    let ready = first-ready (start .pre) (top-next 1 (omega arith) (next .if2 .taken) o) in
+    let start = next .before .before .before in
+    let ready = first-ready (start .pre) (top-follows 1 (omega arith) (sym (next .before .follows .ensures) ∙ next .if2 .taken) o) in
     value-given (start .pre) (omega arith) (omega arith)
     (low-made ready (value-arrays (start .pre) (omega arith) (omega arith)) (omega arith) (c .before .start-of-2 .ensures))
 
@@ -60,8 +61,8 @@ start-of-4-requires : tie.Need-start-of-4-requires
 start-of-4-requires c κs =
     let o = c .before .before .before .if5 .taken in
     let next = c .before .before .before .before .before .before in
-    let start = next .before .before in
-    let ready = first-ready (start .pre) (top-next 2 (omega arith) (next .if2 .taken) o) in
+    let start = next .before .before .before in
+    let ready = first-ready (start .pre) (top-follows 2 (omega arith) (sym (next .before .follows .ensures) ∙ next .if2 .taken) o) in
     (o, low-asked ready (value-arrays (start .pre) (omega arith) (omega arith)) (omega arith) (omega arith), omega arith)
 
 element-copy-out-result-3 : tie.Need-element-copy-out-result-3
@@ -71,20 +72,23 @@ returns-4 : tie.Need-returns-4
 returns-4 c =
     let o = c .before .before .before .before .before .if5 .taken in
     let next = c .before .before .before .before .before .before .before .before in
-    let start = next .before .before in
-    let ready = first-ready (start .pre) (top-next 2 (omega arith) (next .if2 .taken) o) in
+    let start = next .before .before .before in
+    let ready = first-ready (start .pre) (top-follows 2 (omega arith) (sym (next .before .follows .ensures) ∙ next .if2 .taken) o) in
     value-given (start .pre) (omega arith) (omega arith)
     (low-made ready (value-arrays (start .pre) (omega arith) (omega arith)) (omega arith) (c .before .start-of-4 .ensures))
 
 lowest-one-requires : tie.Need-lowest-one-requires
-lowest-one-requires c κs = search needs
+lowest-one-requires c κs =
+    let next = c .before .before .before .before .before .before .before in
+    follows-some (next .before .before .before .args .was) (c .before .before .before .before .before .before .before .before .before .before .args .i)
+    (sym (next .before .follows .ensures) ∙ next .if2 .taken)
 
 start-of-more-requires : tie.Need-start-of-more-requires
 start-of-more-requires c κs =
     let t = c .lowest-one in
     let tests = c .before .before .before .before .before in
     let next = tests .before .before .before in
-    let start = next .before .before in
+    let start = next .before .before .before in
     let s = start .args in
     let within = lowest-within (s .m) (t .result) (s .i) (t .ensures) (start .pre .inside) in (
       starts-more (t .result) (s .i) (t .ensures) (tests .before .before .if3 .left) (tests .before .if4 .left) (tests .if5 .left),
@@ -92,7 +96,7 @@ start-of-more-requires c κs =
       omega arith,
       value-arrays (start .pre) (omega arith) (omega arith),
       omega arith,
-      first-ready (start .pre) (top-next (t .result) within (next .if2 .taken) (t .ensures)),
+      first-ready (start .pre) (top-follows (t .result) within (sym (next .before .follows .ensures) ∙ next .if2 .taken) (t .ensures)),
     )
 
 element-copy-out-result-4 : tie.Need-element-copy-out-result-4
@@ -100,7 +104,7 @@ element-copy-out-result-4 c = search needs
 
 returns-5 : tie.Need-returns-5
 returns-5 c =
-    let start = c .before .before .before .before .before .before .before .before .before .before .before .before in
+    let start = c .before .before .before .before .before .before .before .before .before .before .before .before .before in
     value-given (start .pre) (omega arith) (omega arith) (c .before .start-of-more .ensures)
 
 any-value-requires-2 : tie.Need-any-value-requires-2
@@ -115,7 +119,7 @@ value-spec =
     (tie.spec
     any-value-requires
     returns
-    add-if2
+    follows-requires
     start-of-1-requires
     element-copy-out-result
     returns-2

@@ -9,7 +9,7 @@ use lib.Seq.{take-all}
 use Rattle.decoding.specs.Readings.{penalty, loss}
 use Rattle.decoding.specs.StepLaws.{penalty-sizes}
 use Rattle.rows.specs.RowLaws.{reading-fits, reading-read, reading-size}
-use Rattle.quick.specs.PenaltyLaws.{penalty-more, sizes-part}
+use Rattle.decoding.specs.PenaltyLaws.{penalty-more, sizes-part}
 use Rattle.quick.proofs.penalty.Statement.{statement}
 use Rattle.quick.proofs.penalty.Tie as tie
 

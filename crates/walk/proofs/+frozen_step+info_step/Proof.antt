@@ -1,6 +1,9 @@
 -- The walk's two steps, which call each other in turn, meet their contracts. The measure is twice the number of indices still to choose, and one
 -- more in the frozen step.
 use mathlib.Core.Path.{_≡_, ap, ap₂, sym, _∙_}
+use mathlib.Core.Bool.{Bool, true, false}
+use mathlib.Core.List.{List}
+use mathlib.Core.Logic.{⊎-elim}
 use Prim.Native.Nat.{ℕ, _+_, _-_, _*_, _^_, _<_}
 use native.Mathlib.Omega.{arith}
 use lib.IntN.{ℤ}
@@ -13,12 +16,15 @@ use Rattle.decoding.specs.Readings.{loss}
 use Rattle.decoding.specs.Quick.{hard}
 use Rattle.decoding.specs.Walk.{value}
 use Rattle.decoding.specs.PathLaws.{hard-bit}
-use Rattle.walk.specs.Progress.{seen, front, Reached, Kept, Going, Extended}
+use Rattle.walk.specs.Progress.{seen, front, drops, Visited, Reached, Kept, Going, Extended}
 use Rattle.walk.specs.StepLaws.{short, value-small, sum-small}
 use Rattle.walk.specs.GoingLaws.{may-visit, may-not, not-full, full-step, within, frozen-stop, info-stop}
 use Rattle.walk.specs.GoingLaws.{value-asked, value-is, value-going, reached-start, reached-given, frozen-dropped, reached-more}
 use Rattle.walk.specs.GoingLaws.{deeper-m, deeper-asked, deeper-given, deeper-kept, first-adds, first-undropped}
 use Rattle.walk.specs.GoingLaws.{second-stop, second-going, second-dropped, second-given}
+use Rattle.walk.specs.FrozenBlockLaws.{zeros-asked, zeros-left, zeros-reached, zeros-more, zeros-low, same-given, same-reached}
+use Rattle.walk.specs.InformationTestLaws.{block-taken, block-left}
+use Rattle.walk.specs.InformationBlockLaws.{going-left, hard-asked, hard-m, hard-ends, hard-some, behind-asked, behind-given}
 use borrow.Fn.Kinds.{In}
 use borrow.Fn.PlainCycle.{Measures, is, falls, and}
 use Rattle.walk.proofs.frozen_step.Reads as frozen-step
@@ -32,9 +38,13 @@ use Rattle.walk.proofs.dropped.Reads as dropped-reads
 use Rattle.walk.proofs.finish.Reads as finish-reads
 use Rattle.walk.proofs.first_bit.Reads as first-bit-reads
 use Rattle.walk.proofs.full.Reads as full-reads
+use Rattle.walk.proofs.hard_here.Reads as hard-here-reads
 use Rattle.walk.proofs.put.Reads as put-reads
+use Rattle.walk.proofs.taken.Reads as taken-reads
 use Rattle.walk.proofs.value_at.Reads as value-at-reads
 use Rattle.walk.proofs.visit.Reads as visit-reads
+use Rattle.walk.proofs.visits.Reads as visits-reads
+use Rattle.walk.proofs.wide.Reads as wide-reads
 use Rattle.walk.proofs.+frozen_step+info_step.{statement}
 use Rattle.walk.proofs.+frozen_step+info_step.Tie.{close}
 
@@ -78,6 +88,8 @@ frozen-step-calls t = (
   visit-reads.Learnt,
   value-at-reads.Asked,
   value-at-reads.Learnt,
+  taken-reads.Asked,
+  taken-reads.Learnt,
   loss-reads.Asked,
   loss-reads.Learnt,
   dropped-reads.Asked,
@@ -98,10 +110,16 @@ info-step-calls t = (
   first-bit-reads.Learnt,
   loss-reads.Asked,
   loss-reads.Learnt,
-  put-reads.Asked,
-  put-reads.Learnt,
+  hard-here-reads.Asked,
+  hard-here-reads.Learnt,
+  wide-reads.Asked,
+  wide-reads.Learnt,
   frozen-step-below t,
   frozen-step.Post,
+  visits-reads.Asked,
+  visits-reads.Learnt,
+  put-reads.Asked,
+  put-reads.Learnt,
   dropped-reads.Asked,
   dropped-reads.Learnt,
 )
@@ -193,66 +211,149 @@ frozen-going t c =
     value-going (pass .before .before .before .loop .inv .asked) (inside t pass) (may-visit (allowed .if3 .left) (allowed .before .visit .ensures))
     (c .value-at .ensures)
 
-frozen-adds : (t : ℕ) (c : Added t) → let pass = c .before .before .before .before .before .before .before .before .before .before .before in
-    pass .before .before .before .loop .sum + c .loss .result ≡ pass .before .before .before .loop .sum + loss (frozen-at t pass) 0
-frozen-adds t c =
-    let pass = c .before .before .before .before .before .before .before .before .before .before .before in
-    ap (λ (n : ℕ). pass .before .before .before .loop .sum + n) (c .loss .ensures ∙ ap (λ (v : ℤ). loss v 0) (frozen-value t (c .before)))
+-- ---- the start of a block: its frozen indices are taken at once, or nothing changes
+frozen-visited : (t : ℕ) (c : Valued t) → let pass = c .before .before .before .before .before .before .before .before .before .before in
+    Visited (pass .before .before .before .loop .state) true (c .before .before .before .before .before .before .visit .last .0)
+frozen-visited t c = let allowed = c .before .before .before .before .before in may-visit (allowed .if3 .left) (allowed .before .visit .ensures)
 
-frozen-step-loss-requires : (t : ℕ)
-    → frozen-step-lts.Need-loss-requires (frozen-step-calls t) (frozen-step-at t) frozen-step.Post frozen-step-Inv-loop frozen-step-μ-loop
-frozen-step-loss-requires t c κs =
-    let pass = c .before .before .before .before .before .before .before .before .before .before in
-    rw (frozen-value t c) (value-small (pass .before .before .before .loop .inv .asked .ready))
+frozen-kind : (t : ℕ) (c : Valued t) → let pass = c .before .before .before .before .before .before .before .before .before .before in
+    getD (pass .before .before .before .before .args .kinds .now) (pass .before .before .before .loop .i) 0 ≡ 0
+frozen-kind t c = c .before .before .before .before .before .before .before .before .if2 .left
 
-frozen-step-add-sum : (t : ℕ)
-    → frozen-step-lts.Need-add-sum (frozen-step-calls t) (frozen-step-at t) frozen-step.Post frozen-step-Inv-loop frozen-step-μ-loop
-frozen-step-add-sum t c =
-    let pass = c .before .before .before .before .before .before .before .before .before .before .before in
-    record { fits = omega (arith, frozen-adds t c, sum-small (pass .before .before .before .loop .inv .asked .ready) 0 (inside t pass) (omega arith)) }
+frozen-step-taken-requires : (t : ℕ)
+    → frozen-step-lts.Need-taken-requires (frozen-step-calls t) (frozen-step-at t) frozen-step.Post frozen-step-Inv-loop frozen-step-μ-loop
+frozen-step-taken-requires t c κs =
+    let valued = c .before .before .before .before in
+    let pass = valued .before .before .before .before .before .before .before .before .before .before in (
+      short-pass t pass,
+      λ e. zeros-asked (pass .before .before .before .loop .inv) (inside t pass) (c .before .before .before .if4 .taken)
+          (frozen-visited t valued) (valued .value-at .ensures),
+      λ h. absurd (h (frozen-kind t valued)),
+    )
 
-frozen-step-dropped-requires : (t : ℕ)
-    → frozen-step-lts.Need-dropped-requires (frozen-step-calls t) (frozen-step-at t) frozen-step.Post frozen-step-Inv-loop frozen-step-μ-loop
-frozen-step-dropped-requires t c κs = tt
-
-frozen-step-returns-3 : (t : ℕ)
-    → frozen-step-lts.Need-returns-3 (frozen-step-calls t) (frozen-step-at t) frozen-step.Post frozen-step-Inv-loop frozen-step-μ-loop
-frozen-step-returns-3 t c =
-    let added = c .before .before .before in
-    let valued = added .before in
-    let pass = valued .before .before .before .before .before .before .before .before .before .before in
-    let frozen = valued .before .before .before .before .before .before .before .before in
-    frozen-dropped (pass .before .before .before .loop .inv) (inside t pass) (frozen .if2 .left) (frozen-going t valued) (frozen-adds t added)
-    (sym (c .before .dropped .ensures) ∙ c .if4 .taken)
-
-frozen-step-put-requires : (t : ℕ)
-    → frozen-step-lts.Need-put-requires (frozen-step-calls t) (frozen-step-at t) frozen-step.Post frozen-step-Inv-loop frozen-step-μ-loop
-frozen-step-put-requires t c κs =
-    let valued = c .before .before .before .before .before in
-    short-pass t (valued .before .before .before .before .before .before .before .before .before .before)
-
+-- some are taken
 frozen-step-add-i : (t : ℕ)
     → frozen-step-lts.Need-add-i (frozen-step-calls t) (frozen-step-at t) frozen-step.Post frozen-step-Inv-loop frozen-step-μ-loop
 frozen-step-add-i t c =
     let valued = c .before .before .before .before .before .before in
     record { fits = omega (arith, short-pass t (valued .before .before .before .before .before .before .before .before .before .before)) }
 
+frozen-step-cast-sum : (t : ℕ)
+    → frozen-step-lts.Need-cast-sum (frozen-step-calls t) (frozen-step-at t) frozen-step.Post frozen-step-Inv-loop frozen-step-μ-loop
+frozen-step-cast-sum t c =
+    let valued = c .before .before .before .before .before .before in
+    let pass = valued .before .before .before .before .before .before .before .before .before .before in
+    record {
+      fits = zeros-low (pass .before .before .before .loop .inv) (inside t pass) (c .before .before .before .before .before .if4 .taken)
+          (frozen-visited t valued) (valued .value-at .ensures) (c .before .taken .ensures .0 (frozen-kind t valued)) (c .if5 .taken);
+    }
+
 frozen-step-loop-less : (t : ℕ)
     → frozen-step-lts.Need-loop-less (frozen-step-calls t) (frozen-step-at t) frozen-step.Post frozen-step-Inv-loop frozen-step-μ-loop
 frozen-step-loop-less t c =
     let valued = c .before .before .before .before .before .before in
     let pass = valued .before .before .before .before .before .before .before .before .before .before in
-    omega (arith, inside t pass, ap (λ (n : ℕ). 2 ^ n) (pass .before .before .before .loop .inv .onward .same-m))
+    let more = zeros-more (pass .before .before .before .loop .inv) (inside t pass) (c .before .before .before .before .before .if4 .taken)
+    (frozen-visited t valued) (valued .value-at .ensures) (c .before .taken .ensures .0 (frozen-kind t valued)) (c .if5 .taken) in
+    omega (arith, more, inside t pass, ap (λ (n : ℕ). 2 ^ n) (pass .before .before .before .loop .inv .onward .same-m))
 
 frozen-step-loop-again : (t : ℕ)
     → frozen-step-lts.Need-loop-again (frozen-step-calls t) (frozen-step-at t) frozen-step.Post frozen-step-Inv-loop frozen-step-μ-loop
 frozen-step-loop-again t c =
-    let added = c .before .before .before .before .before in
-    let valued = added .before in
+    let valued = c .before .before .before .before .before .before in
     let pass = valued .before .before .before .before .before .before .before .before .before .before in
-    let frozen = valued .before .before .before .before .before .before .before .before in
-    reached-more (pass .before .before .before .loop .inv) (inside t pass) (frozen .if2 .left) (frozen-going t valued) (frozen-adds t added)
-    (sym (c .before .before .before .dropped .ensures) ∙ c .before .before .if4 .left) (c .put .ensures)
+    zeros-reached (pass .before .before .before .loop .inv) (inside t pass) (c .before .before .before .before .before .if4 .taken) (frozen-visited t valued)
+    (valued .value-at .ensures) (c .before .taken .ensures .0 (frozen-kind t valued)) (c .if5 .taken)
+
+-- none is taken
+abbrev Joined : ℕ → Type 0
+Joined t = frozen-step-lts.Joined4 (frozen-step-calls t) (frozen-step-at t) frozen-step.Post frozen-step-Inv-loop frozen-step-μ-loop
+
+untaken : (t : ℕ) (c : Joined t) → let valued = c .before in
+    let pass = valued .before .before .before .before .before .before .before .before .before .before in
+    (c .if4 .path ≡ pass .before .before .before .loop .path) × (c .if4 .state ≡ valued .value-at .last .1 .1 .1 .1 .0)
+untaken t c =
+    let valued = c .before in
+    let pass = valued .before .before .before .before .before .before .before .before .before .before in
+    ⊎-elim
+    (λ w. let z = zeros-left (pass .before .before .before .loop .inv) (inside t pass) (w .0 .taken) (frozen-visited t valued)
+    (valued .value-at .ensures) (w .4 .ensures .0 (frozen-kind t valued)) (w .5 .left) in
+    (w .6 ∙ z .0, w .7 ∙ z .1))
+    (λ w. (w .1, w .2))
+    (c .if4 .came)
+
+-- ---- one index
+frozen-adds : (t : ℕ) (c : Added t) → let pass = c .before .before .before .before .before .before .before .before .before .before .before .before in
+    pass .before .before .before .loop .sum + c .loss .result ≡ pass .before .before .before .loop .sum + loss (frozen-at t pass) 0
+frozen-adds t c =
+    let valued = c .before .before in
+    let pass = valued .before .before .before .before .before .before .before .before .before .before in
+    ap (λ (n : ℕ). pass .before .before .before .loop .sum + n) (c .loss .ensures ∙ ap (λ (v : ℤ). loss v 0) (frozen-value t valued))
+
+frozen-step-loss-requires : (t : ℕ)
+    → frozen-step-lts.Need-loss-requires (frozen-step-calls t) (frozen-step-at t) frozen-step.Post frozen-step-Inv-loop frozen-step-μ-loop
+frozen-step-loss-requires t c κs =
+    let valued = c .before in
+    let pass = valued .before .before .before .before .before .before .before .before .before .before in
+    rw (frozen-value t valued) (value-small (pass .before .before .before .loop .inv .asked .ready))
+
+frozen-step-add-sum : (t : ℕ)
+    → frozen-step-lts.Need-add-sum (frozen-step-calls t) (frozen-step-at t) frozen-step.Post frozen-step-Inv-loop frozen-step-μ-loop
+frozen-step-add-sum t c =
+    let pass = c .before .before .before .before .before .before .before .before .before .before .before .before in
+    record { fits = omega (arith, frozen-adds t c, sum-small (pass .before .before .before .loop .inv .asked .ready) 0 (inside t pass) (omega arith)) }
+
+frozen-step-dropped-requires : (t : ℕ)
+    → frozen-step-lts.Need-dropped-requires (frozen-step-calls t) (frozen-step-at t) frozen-step.Post frozen-step-Inv-loop frozen-step-μ-loop
+frozen-step-dropped-requires t c κs = tt
+
+-- the test, of the eight numbers after the value
+frozen-drops : (t : ℕ) (c : Joined t) (b : Bool) (p : ℕ) → drops (seen (c .if4 .state)) p ≡ b
+    → drops (seen (c .before .value-at .last .1 .1 .1 .1 .0)) p ≡ b
+frozen-drops t c b p d = ap (λ (σ : List ℕ). drops (seen σ) p) (sym (untaken t c .1)) ∙ d
+
+frozen-step-returns-3 : (t : ℕ)
+    → frozen-step-lts.Need-returns-3 (frozen-step-calls t) (frozen-step-at t) frozen-step.Post frozen-step-Inv-loop frozen-step-μ-loop
+frozen-step-returns-3 t c =
+    let added = c .before .before .before in
+    let joined = added .before in
+    let valued = joined .before in
+    let pass = valued .before .before .before .before .before .before .before .before .before .before in
+    same-given (untaken t joined .0) (untaken t joined .1)
+    (frozen-dropped (pass .before .before .before .loop .inv) (inside t pass) (frozen-kind t valued) (frozen-going t valued) (frozen-adds t added)
+    (frozen-drops t joined true _ (sym (c .before .dropped .ensures) ∙ c .if6 .taken)))
+
+frozen-step-put-requires : (t : ℕ)
+    → frozen-step-lts.Need-put-requires (frozen-step-calls t) (frozen-step-at t) frozen-step.Post frozen-step-Inv-loop frozen-step-μ-loop
+frozen-step-put-requires t c κs =
+    let valued = c .before .before .before .before .before .before in
+    short-pass t (valued .before .before .before .before .before .before .before .before .before .before)
+
+frozen-step-add-i-2 : (t : ℕ)
+    → frozen-step-lts.Need-add-i-2 (frozen-step-calls t) (frozen-step-at t) frozen-step.Post frozen-step-Inv-loop frozen-step-μ-loop
+frozen-step-add-i-2 t c =
+    let valued = c .before .before .before .before .before .before .before in
+    record { fits = omega (arith, short-pass t (valued .before .before .before .before .before .before .before .before .before .before)) }
+
+frozen-step-loop-less-2 : (t : ℕ)
+    → frozen-step-lts.Need-loop-less-2 (frozen-step-calls t) (frozen-step-at t) frozen-step.Post frozen-step-Inv-loop frozen-step-μ-loop
+frozen-step-loop-less-2 t c =
+    let valued = c .before .before .before .before .before .before .before in
+    let pass = valued .before .before .before .before .before .before .before .before .before .before in
+    omega (arith, inside t pass, ap (λ (n : ℕ). 2 ^ n) (pass .before .before .before .loop .inv .onward .same-m))
+
+frozen-step-loop-again-2 : (t : ℕ)
+    → frozen-step-lts.Need-loop-again-2 (frozen-step-calls t) (frozen-step-at t) frozen-step.Post frozen-step-Inv-loop frozen-step-μ-loop
+frozen-step-loop-again-2 t c =
+    let added = c .before .before .before .before .before in
+    let joined = added .before in
+    let valued = joined .before in
+    let pass = valued .before .before .before .before .before .before .before .before .before .before in
+    let o = pass .before .before .before .loop in
+    same-reached (untaken t joined .1)
+    (reached-more (o .inv) (inside t pass) (frozen-kind t valued) (frozen-going t valued) (frozen-adds t added)
+    (frozen-drops t joined false _ (sym (c .before .before .before .dropped .ensures) ∙ c .before .before .if6 .left))
+    (c .put .ensures ∙ ap (λ (x : List ℕ). set x (o .i) 0) (untaken t joined .0)))
 
 frozen-step-finish-requires : (t : ℕ)
     → frozen-step-lts.Need-finish-requires (frozen-step-calls t) (frozen-step-at t) frozen-step.Post frozen-step-Inv-loop frozen-step-μ-loop
@@ -345,30 +446,111 @@ info-step-add-after t c =
     let g = c .before .before .before .before .before .before .before .before .before .before in
     record { fits = omega (arith, info-other t c, sum-small (g .pre .1 .0 .ready) (1 - hard (info-at t g)) (g .pre .1 .1) (omega arith)) }
 
-info-step-put-requires : (t : ℕ) → info-step-lts.Need-put-requires (info-step-calls t) (info-step-at t) info-step.Post
-info-step-put-requires t c κs = info-short t (c .before .before .before .before .before .before .before .before .before .before .before)
+info-visited : (t : ℕ) (c : Info-valued t) → let g = c .before .before .before .before .before .before .before .before in
+    Visited (g .args .state .now) true (c .before .before .before .before .before .before .visit .last .0)
+info-visited t c = let allowed = c .before .before .before .before .before in may-visit (allowed .if1 .left) (allowed .before .visit .ensures)
+
+-- a block of indices, of which the other bits are dropped, is tried
+abbrev Tried : ℕ → Type 0
+Tried t = info-step-lts.After-hard-here (info-step-calls t) (info-step-at t) info-step.Post
+
+abbrev tried-start : (t : ℕ) → Tried t → Info-start t
+tried-start t c = let valued = c .before .before .before .before .before .before in valued .before .before .before .before .before .before .before .before
+
+info-step-hard-here-requires : (t : ℕ) → info-step-lts.Need-hard-here-requires (info-step-calls t) (info-step-at t) info-step.Post
+info-step-hard-here-requires t c κs =
+    let valued = c .before .before .before .before .before in
+    let a = valued .before .before .before .before .before .before .before .before .pre .1 in
+    (hard-asked (a .0) (a .1) (info-visited t valued) (valued .value-at .ensures), a .2)
+
+info-step-wide-requires : (t : ℕ) → info-step-lts.Need-wide-requires (info-step-calls t) (info-step-at t) info-step.Post
+info-step-wide-requires t c κs = tt
 
 info-step-add-frozen-step : (t : ℕ) → info-step-lts.Need-add-frozen-step (info-step-calls t) (info-step-at t) info-step.Post
 info-step-add-frozen-step t c =
-    let chosen = c .before .before .before .before .before .before .before .before .before in
-    record { fits = omega (arith, info-short t (chosen .before .before .before .before .before .before .before .before .before)) }
+    let tried = c .before .before .before .before .before .before .before .before in
+    let other = tried .before .before .before .before in
+    let valued = other .before .before in
+    let a = valued .before .before .before .before .before .before .before .before .pre .1 in
+    let block = block-taken (tried .hard-here .ensures) (c .before .before .before .before .before .before .before .if2 .taken) in
+    let ends = hard-ends (a .0) (a .1) (info-visited t valued) (valued .value-at .ensures) (info-other t other) block (c .wide .ensures) in
+    record { fits = omega (arith, ends, a .0 .ready .room) }
+
+info-step-frozen-step-requires : (t : ℕ) → info-step-lts.Need-frozen-step-requires (info-step-calls t) (info-step-at t) info-step.Post
+info-step-frozen-step-requires t c κs =
+    let tried = c .before .before .before .before .before .before .before .before in
+    let other = tried .before .before .before .before in
+    let valued = other .before .before in
+    let g = valued .before .before .before .before .before .before .before .before in
+    let a = g .pre .1 in
+    let v = info-visited t valued in
+    let e = valued .value-at .ensures in
+    let block = block-taken (tried .hard-here .ensures) (c .before .before .before .before .before .before .before .if2 .taken) in
+    let k = c .wide .ensures in (
+      omega (
+        arith,
+        g .pre .0,
+        a .1,
+        hard-m (a .0) (a .1) v e (info-other t other) block k,
+        hard-ends (a .0) (a .1) v e (info-other t other) block k,
+        hard-some (a .0) (a .1) v e (info-other t other) block k,
+      ),
+      behind-asked (a .0) (a .1) v e (info-other t other) block k,
+    )
+
+info-step-visits-requires : (t : ℕ) → info-step-lts.Need-visits-requires (info-step-calls t) (info-step-at t) info-step.Post
+info-step-visits-requires t c κs = c .before .frozen-step .ensures .long
+
+info-step-returns-2 : (t : ℕ) → info-step-lts.Need-returns-2 (info-step-calls t) (info-step-at t) info-step.Post
+info-step-returns-2 t c =
+    let behind = c .before .before in
+    let tried = behind .before .before .before .before .before .before .before .before .before in
+    let other = tried .before .before .before .before in
+    let valued = other .before .before in
+    let a = valued .before .before .before .before .before .before .before .before .pre .1 in
+    let block = block-taken (tried .hard-here .ensures) (behind .before .before .before .before .before .before .before .before .if2 .taken) in
+    behind-given (a .0) (a .1) (info-visited t valued) (valued .value-at .ensures) (info-other t other) block (behind .before .wide .ensures)
+    (behind .frozen-step .ensures) (c .visits .ensures)
+
+-- no block is taken
+info-left : (t : ℕ) (c : info-step-lts.Else2 (info-step-calls t) (info-step-at t) info-step.Post) → let tried = c .before in
+    let valued = tried .before .before .before .before .before .before in
+    let g = valued .before .before .before .before .before .before .before .before in
+    Going (front (g .args .state .now) (g .args .readings .now)) (g .args .path .now) (g .args .i) (seen (g .args .state .now)) (seen (g .args .state .now))
+    (tried .hard-here .last .1 .1 .1 .0) (valued .value-at .last .1 .0) (tried .hard-here .last .1 .1 .0) (g .args .best .now) (g .args .second .now)
+info-left t c =
+    let tried = c .before in
+    going-left (block-left (tried .hard-here .ensures) (c .if2 .left)) (info-going t (tried .before .before .before .before .before .before))
+
+info-step-put-requires : (t : ℕ) → info-step-lts.Need-put-requires (info-step-calls t) (info-step-at t) info-step.Post
+info-step-put-requires t c κs =
+    let tried = c .before .before in
+    info-short t (tried-start t tried)
+
+info-step-add-frozen-step-2 : (t : ℕ) → info-step-lts.Need-add-frozen-step-2 (info-step-calls t) (info-step-at t) info-step.Post
+info-step-add-frozen-step-2 t c =
+    let tried = c .before .before .before .before .before .before .before .before .before in
+    record { fits = omega (arith, info-short t (tried-start t tried)) }
 
 -- the first bit is put
 abbrev Put : ℕ → Type 0
 Put t = info-step-lts.After-put (info-step-calls t) (info-step-at t) info-step.Post
 
-info-put : (t : ℕ) (c : Put t) → let g = c .before .before .before .before .before .before .before .before .before .before .before .before in
-    c .put .last .0 ≡ set (g .args .path .now) (g .args .i) (hard (info-at t g))
+info-put : (t : ℕ) (c : Put t) → let tried = c .before .before .before in
+    let g = tried-start t tried in
+    c .put .last .0 ≡ set (tried .hard-here .last .1 .1 .0) (g .args .i) (hard (info-at t g))
 info-put t c =
-    let chosen = c .before .before .before in
+    let tried = c .before .before .before in
+    let chosen = tried .before .before .before .before .before in
     let g = chosen .before .before .before .before .before .before .before .before .before in
-    c .put .ensures ∙ ap (set (g .args .path .now) (g .args .i)) (info-first t chosen)
+    c .put .ensures ∙ ap (set (tried .hard-here .last .1 .1 .0) (g .args .i)) (info-first t chosen)
 
-info-step-frozen-step-requires : (t : ℕ) → info-step-lts.Need-frozen-step-requires (info-step-calls t) (info-step-at t) info-step.Post
-info-step-frozen-step-requires t c κs =
+info-step-frozen-step-requires-2 : (t : ℕ) → info-step-lts.Need-frozen-step-requires-2 (info-step-calls t) (info-step-at t) info-step.Post
+info-step-frozen-step-requires-2 t c κs =
     let put = c .before .before .before .before .before .before in
-    let v = info-going t (put .before .before .before .before) in
-    let g = put .before .before .before .before .before .before .before .before .before .before .before .before in
+    let v = info-left t (put .before .before) in
+    let tried = put .before .before .before in
+    let g = tried-start t tried in
     let a = g .pre .1 in
     let b = hard (info-at t g) in
     let low = first-undropped (a .0) (a .1) v in (
@@ -378,77 +560,81 @@ info-step-frozen-step-requires t c κs =
 
 -- after the first extension
 abbrev Below : ℕ → Type 0
-Below t = info-step-lts.After-frozen-step (info-step-calls t) (info-step-at t) info-step.Post
+Below t = info-step-lts.After-frozen-step2 (info-step-calls t) (info-step-at t) info-step.Post
 
 abbrev start-of : (t : ℕ) → Below t → Info-start t
 start-of t c =
-    let chosen = c .before .before .before .before .before .before .before .before .before .before in
-    chosen .before .before .before .before .before .before .before .before .before
+    let tried = c .before .before .before .before .before .before .before .before .before .before in
+    tried-start t tried
+
+-- the penalty with the other bit
+abbrev other-of : (t : ℕ) → Below t → info-step-lts.After-loss (info-step-calls t) (info-step-at t) info-step.Post
+other-of t c = let tried = c .before .before .before .before .before .before .before .before .before .before in tried .before .before .before .before
 
 info-extended : (t : ℕ) (c : Below t) → let g = start-of t c in
-    let f = c .frozen-step in
+    let f = c .frozen-step2 in
     Extended (front (g .args .state .now) (g .args .readings .now)) (front (g .args .state .now) (g .args .kinds .now)) (g .args .i) (g .args .penalty)
     (hard (info-at t g)) (take (g .args .i) (g .args .path .now)) (seen (g .args .state .now)) (g .args .best .now) (g .args .second .now)
     (seen (f .last .1 .1 .1 .1 .1 .1 .1 .0)) (f .last .1 .1 .0) (f .last .1 .1 .1 .0) (f .last .1 .1 .1 .1 .1 .0) (f .last .1 .1 .1 .1 .1 .1 .0)
 info-extended t c =
     let put = c .before .before .before .before .before .before .before in
-    let v = info-going t (put .before .before .before .before) in
+    let v = info-left t (put .before .before) in
     let g = start-of t c in
     let a = g .pre .1 in
     deeper-given (a .0) (a .1) v (hard (info-at t g)) (hard-bit (info-at t g)) (first-adds (a .0) (a .1)) (first-undropped (a .0) (a .1) v)
-    (info-put t put) (c .frozen-step .ensures)
+    (info-put t put) (c .frozen-step2 .ensures)
 
 info-kept : (t : ℕ) (c : Below t) → let g = start-of t c in
-    let f = c .frozen-step in
+    let f = c .frozen-step2 in
     Kept (front (g .args .state .now) (g .args .readings .now)) (seen (f .last .1 .1 .1 .1 .1 .1 .1 .0)) (f .last .1 .1 .0) (f .last .1 .1 .1 .0)
     (f .last .1 .1 .1 .1 .1 .0) (f .last .1 .1 .1 .1 .1 .1 .0) (g .args .i)
 info-kept t c =
     let put = c .before .before .before .before .before .before .before in
-    let v = info-going t (put .before .before .before .before) in
+    let v = info-left t (put .before .before) in
     let g = start-of t c in
     let a = g .pre .1 in
     deeper-kept (a .0) (a .1) v (hard (info-at t g)) (hard-bit (info-at t g)) (first-adds (a .0) (a .1)) (first-undropped (a .0) (a .1) v)
-    (info-put t put) (c .frozen-step .ensures)
+    (info-put t put) (c .frozen-step2 .ensures)
 
 info-step-visit-requires-2 : (t : ℕ) → info-step-lts.Need-visit-requires-2 (info-step-calls t) (info-step-at t) info-step.Post
-info-step-visit-requires-2 t c κs = c .before .frozen-step .ensures .long
+info-step-visit-requires-2 t c κs = c .before .frozen-step2 .ensures .long
 
-info-step-returns-2 : (t : ℕ) → info-step-lts.Need-returns-2 (info-step-calls t) (info-step-at t) info-step.Post
-info-step-returns-2 t c =
+info-step-returns-3 : (t : ℕ) → info-step-lts.Need-returns-3 (info-step-calls t) (info-step-at t) info-step.Post
+info-step-returns-3 t c =
     let below = c .before .before .before in
     let a = start-of t below .pre .1 in
-    second-stop (a .0) (a .1) (a .2) (below .frozen-step .last .1 .1 .1 .1 .1 .1 .1 .0) (info-extended t below)
-    (may-not (c .if2 .taken) (c .before .visit2 .ensures))
+    second-stop (a .0) (a .1) (a .2) (below .frozen-step2 .last .1 .1 .1 .1 .1 .1 .1 .0) (info-extended t below)
+    (may-not (c .if3 .taken) (c .before .visit2 .ensures))
 
-info-second : (t : ℕ) (c : info-step-lts.Else2 (info-step-calls t) (info-step-at t) info-step.Post) → let g = start-of t (c .before .before .before) in
-    let f = c .before .before .before .frozen-step in
+info-second : (t : ℕ) (c : info-step-lts.Else3 (info-step-calls t) (info-step-at t) info-step.Post) → let g = start-of t (c .before .before .before) in
+    let f = c .before .before .before .frozen-step2 in
     Going (front (g .args .state .now) (g .args .readings .now)) (g .args .path .now) (g .args .i) (seen (g .args .state .now))
     (seen (f .last .1 .1 .1 .1 .1 .1 .1 .0)) (c .before .visit2 .last .0) (f .last .1 .1 .0) (f .last .1 .1 .1 .0)
     (f .last .1 .1 .1 .1 .1 .0) (f .last .1 .1 .1 .1 .1 .1 .0)
 info-second t c =
     let below = c .before .before .before in
     let a = start-of t below .pre .1 in
-    second-going (a .0) (a .1) (a .2) (below .frozen-step .last .1 .1 .1 .1 .1 .1 .1 .0) (info-extended t below)
-    (may-visit (c .if2 .left) (c .before .visit2 .ensures)) (info-kept t below)
+    second-going (a .0) (a .1) (a .2) (below .frozen-step2 .last .1 .1 .1 .1 .1 .1 .1 .0) (info-extended t below)
+    (may-visit (c .if3 .left) (c .before .visit2 .ensures)) (info-kept t below)
 
 info-step-dropped-requires : (t : ℕ) → info-step-lts.Need-dropped-requires (info-step-calls t) (info-step-at t) info-step.Post
 info-step-dropped-requires t c κs = tt
 
-info-step-returns-3 : (t : ℕ) → info-step-lts.Need-returns-3 (info-step-calls t) (info-step-at t) info-step.Post
-info-step-returns-3 t c =
+info-step-returns-4 : (t : ℕ) → info-step-lts.Need-returns-4 (info-step-calls t) (info-step-at t) info-step.Post
+info-step-returns-4 t c =
     let again = c .before .before .before in
     let below = again .before .before .before in
     let a = start-of t below .pre .1 in
-    second-dropped (a .0) (a .1) (a .2) (below .frozen-step .last .1 .1 .1 .1 .1 .1 .1 .0) (info-extended t below) (info-second t again)
-    (info-other t (below .before .before .before .before .before .before .before .before .before)) (sym (c .before .dropped .ensures) ∙ c .if3 .taken)
+    second-dropped (a .0) (a .1) (a .2) (below .frozen-step2 .last .1 .1 .1 .1 .1 .1 .1 .0) (info-extended t below) (info-second t again)
+    (info-other t (other-of t below)) (sym (c .before .dropped .ensures) ∙ c .if4 .taken)
 
 info-step-put-requires-2 : (t : ℕ) → info-step-lts.Need-put-requires-2 (info-step-calls t) (info-step-at t) info-step.Post
 info-step-put-requires-2 t c κs =
     let below = c .before .before .before .before .before .before .before in
     info-short t (start-of t below)
 
-info-step-add-frozen-step-2 : (t : ℕ) → info-step-lts.Need-add-frozen-step-2 (info-step-calls t) (info-step-at t) info-step.Post
-info-step-add-frozen-step-2 t c =
+info-step-add-frozen-step-3 : (t : ℕ) → info-step-lts.Need-add-frozen-step-3 (info-step-calls t) (info-step-at t) info-step.Post
+info-step-add-frozen-step-3 t c =
     let below = c .before .before .before .before .before .before .before .before .before .before .before .before .before .before in
     record { fits = omega (arith, info-short t (start-of t below)) }
 
@@ -458,39 +644,39 @@ Put-other t = info-step-lts.After-put2 (info-step-calls t) (info-step-at t) info
 
 other-put : (t : ℕ) (c : Put-other t) → let below = c .before .before .before .before .before .before .before .before in
     let g = start-of t below in
-    c .put2 .last .0 ≡ set (below .frozen-step .last .1 .1 .1 .0) (g .args .i) (1 - hard (info-at t g))
+    c .put2 .last .0 ≡ set (below .frozen-step2 .last .1 .1 .1 .0) (g .args .i) (1 - hard (info-at t g))
 other-put t c =
     let below = c .before .before .before .before .before .before .before .before in
     let g = start-of t below in
-    let chosen = below .before .before .before .before .before .before .before .before .before .before in
-    c .put2 .ensures ∙ ap (λ (b : ℕ). set (below .frozen-step .last .1 .1 .1 .0) (g .args .i) (1 - b)) (info-first t chosen)
+    let chosen = other-of t below .before in
+    c .put2 .ensures ∙ ap (λ (b : ℕ). set (below .frozen-step2 .last .1 .1 .1 .0) (g .args .i) (1 - b)) (info-first t chosen)
 
-info-step-frozen-step-requires-2 : (t : ℕ) → info-step-lts.Need-frozen-step-requires-2 (info-step-calls t) (info-step-at t) info-step.Post
-info-step-frozen-step-requires-2 t c κs =
+info-step-frozen-step-requires-3 : (t : ℕ) → info-step-lts.Need-frozen-step-requires-3 (info-step-calls t) (info-step-at t) info-step.Post
+info-step-frozen-step-requires-3 t c κs =
     let put = c .before .before .before .before .before .before in
     let again = put .before .before .before .before .before in
     let below = again .before .before .before in
     let g = start-of t below in
     let a = g .pre .1 in
     let v = info-second t again in
-    let adds = info-other t (below .before .before .before .before .before .before .before .before .before) in
-    let low = sym (put .before .before .before .dropped .ensures) ∙ put .before .before .if3 .left in (
+    let adds = info-other t (other-of t below) in
+    let low = sym (put .before .before .before .dropped .ensures) ∙ put .before .before .if4 .left in (
       omega (arith, g .pre .0, a .1, deeper-m (a .0) (a .1) v (1 - hard (info-at t g)) (omega arith) adds low (other-put t put)),
       deeper-asked (a .0) (a .1) v (1 - hard (info-at t g)) (omega arith) adds low (other-put t put),
     )
 
-info-step-returns-4 : (t : ℕ) → info-step-lts.Need-returns-4 (info-step-calls t) (info-step-at t) info-step.Post
-info-step-returns-4 t c =
+info-step-returns-5 : (t : ℕ) → info-step-lts.Need-returns-5 (info-step-calls t) (info-step-at t) info-step.Post
+info-step-returns-5 t c =
     let put = c .before .before .before .before .before .before .before in
     let again = put .before .before .before .before .before in
     let below = again .before .before .before in
     let g = start-of t below in
     let a = g .pre .1 in
     let v = info-second t again in
-    let adds = info-other t (below .before .before .before .before .before .before .before .before .before) in
-    let low = sym (put .before .before .before .dropped .ensures) ∙ put .before .before .if3 .left in
-    let e = c .frozen-step2 .ensures in
-    second-given (a .0) (a .1) (a .2) (below .frozen-step .last .1 .1 .1 .1 .1 .1 .1 .0) (info-extended t below) v (e .long)
+    let adds = info-other t (other-of t below) in
+    let low = sym (put .before .before .before .dropped .ensures) ∙ put .before .before .if4 .left in
+    let e = c .frozen-step3 .ensures in
+    second-given (a .0) (a .1) (a .2) (below .frozen-step2 .last .1 .1 .1 .1 .1 .1 .1 .0) (info-extended t below) v (e .long)
     (deeper-given (a .0) (a .1) v (1 - hard (info-at t g)) (omega arith) adds low (other-put t put) e)
 
 pub +frozen-step+info-step-spec : {M : Type 1} → statement M
@@ -507,14 +693,19 @@ pub +frozen-step+info-step-spec : {M : Type 1} → statement M
     (frozen-step-visit-requires t)
     (frozen-step-returns-2 t)
     (frozen-step-value-at-requires t)
+    (frozen-step-taken-requires t)
+    (frozen-step-add-i t)
+    (frozen-step-cast-sum t)
+    (frozen-step-loop-less t)
+    (frozen-step-loop-again t)
     (frozen-step-loss-requires t)
     (frozen-step-add-sum t)
     (frozen-step-dropped-requires t)
     (frozen-step-returns-3 t)
     (frozen-step-put-requires t)
-    (frozen-step-add-i t)
-    (frozen-step-loop-less t)
-    (frozen-step-loop-again t)
+    (frozen-step-add-i-2 t)
+    (frozen-step-loop-less-2 t)
+    (frozen-step-loop-again-2 t)
     (frozen-step-finish-requires t)
     (frozen-step-returns-4 t))
     λ t. info-step-lts.spec (info-step-calls t)
@@ -527,14 +718,20 @@ pub +frozen-step+info-step-spec : {M : Type 1} → statement M
     (info-step-sub-other t)
     (info-step-loss-requires t)
     (info-step-add-after t)
-    (info-step-put-requires t)
+    (info-step-hard-here-requires t)
+    (info-step-wide-requires t)
     (info-step-add-frozen-step t)
     (info-step-frozen-step-requires t)
-    (info-step-visit-requires-2 t)
+    (info-step-visits-requires t)
     (info-step-returns-2 t)
-    (info-step-dropped-requires t)
-    (info-step-returns-3 t)
-    (info-step-put-requires-2 t)
+    (info-step-put-requires t)
     (info-step-add-frozen-step-2 t)
     (info-step-frozen-step-requires-2 t)
+    (info-step-visit-requires-2 t)
+    (info-step-returns-3 t)
+    (info-step-dropped-requires t)
     (info-step-returns-4 t)
+    (info-step-put-requires-2 t)
+    (info-step-add-frozen-step-3 t)
+    (info-step-frozen-step-requires-3 t)
+    (info-step-returns-5 t)

@@ -1,4 +1,4 @@
--- The loop that sums the penalty: one position more.
+-- Laws of a loop that sums a penalty: one position more, and no part is above the whole.
 use mathlib.Core.Path.{_≡_}
 use mathlib.Core.List.{List, [], _∷_}
 use Prim.Native.Nat.{ℕ, zero, suc, _+_, _≤_, _<_, zero-le}
