@@ -113,11 +113,11 @@ fn search_kinds(
         &mut second,
         &mut state,
     );
-    let out = state[4];
+    let out = state[walk::OUT_OF_VISITS];
     if out != 0 {
         return WithRunnerUp::refused(Refusal::OutOfVisits(allowed));
     }
-    let visits = state[3];
+    let visits = state[walk::VISITS];
     let penalty = whole(end.best);
     let gap = whole(end.second - end.best);
     if gap == 0 {

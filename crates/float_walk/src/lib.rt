@@ -106,7 +106,7 @@ fn value_at(
     ensures { λ r. ⌜ ValueGiven (wholes (now (readings .entry))) (now (path .entry))
         (now (state .entry)) i (wholeOf r) (wholes (now (rows .exit))) (now (state .exit)) ⌝ }
 {
-    let m = state[6];
+    let m = state[walk::EXPONENT];
     let was = walk::stands(state, i);
     float_memory::value(readings, rows, path, word, walk::wide(m), was, i)
 }
@@ -253,9 +253,9 @@ pub fn walk(
     let mut rows = [0.0f32; 256];
     let mut path = [0u8; 256];
     let mut word = [0u8; 256];
-    state[5] = (1u32 << m) - 1;
-    state[6] = m;
-    state[7] = allowed;
+    state[walk::ROWS_INDEX] = (1u32 << m) - 1;
+    state[walk::EXPONENT] = m;
+    state[walk::ALLOWANCE] = allowed;
     let none = Penalties {
         held: 0,
         best: 0.0,
