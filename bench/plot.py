@@ -13,8 +13,8 @@ COLOURS = {"3": "#7b8794", "4": "#8a6d3b", "5": "#2f855a", "6": "#b7791f", "7": 
 
 def machine():
     """the processor's name, as lscpu has it"""
-    told = subprocess.run(["lscpu"], stdout=subprocess.PIPE, text=True, check=True, env={**os.environ, "LC_ALL": "C"}).stdout
-    names = [line.split(":", 1)[1].strip() for line in told.split("\n") if line.startswith("Model name")]
+    printed = subprocess.run(["lscpu"], stdout=subprocess.PIPE, text=True, check=True, env={**os.environ, "LC_ALL": "C"}).stdout
+    names = [line.split(":", 1)[1].strip() for line in printed.split("\n") if line.startswith("Model name")]
     return f"{names[0] if names else 'a processor without a name'} ({platform.machine()})"
 
 
@@ -34,7 +34,7 @@ def table(data, path):
         "# How the search's cost grows",
         "",
         "`bench/run grow`: the search with the default allowance, 200,000 visits, of 64 random words for each code and noise.",
-        "The columns are mean visits, mean time a word, and how many words ran out of visits.",
+        "The columns are mean visits, mean time per word, and how many words ran out of visits.",
         "Noise is normal, as a multiple of the word's size.",
         f"Visits are those of the written walk, the same on every machine; times are of one run on {machine()}, not emulated.",
         "",
