@@ -1,4 +1,4 @@
--- The program ends: each round brings it nearer, so that a run has at most three rounds for each byte that came, and four.
+-- The program ends: each round brings it nearer, so that a run has at most three rounds for each byte that came, plus four.
 use mathlib.Core.Path.{_≡_, refl, ap, sym, _∙_, subst}
 use mathlib.Core.List.{List, _++_}
 use mathlib.Core.Logic.{_⊎_, inl, inr, ⊎-elim}
@@ -36,7 +36,7 @@ module _ (n most : ℕ) (s : Situation) (input output : List ℕ) (r : Ready s i
   before : n + (2 * (s .«end» - s .at) + min 1 (s .text) + cond (s .closed) 0 2 + cond (s .ended) 0 1 + 1) ≤ most
   before = rw g at h
 
-  -- ---- what waits is written: it is not nothing, or it is the last
+  -- ---- what waits is written: it is not empty, or it is the last
   due-written-some : (done : Bool) → 0 < s .text → suc n + due (afterWrite done s) ≤ most
   due-written-some true t = omega (arith, before, at-most-one (not (s .closed)))
   due-written-some false t = omega (arith, before)
@@ -106,7 +106,7 @@ chain-due n s input output p (round m s₀ input₀ output₀ p₀ t input′ ou
     let r = chain-holds m s₀ input₀ output₀ p₀ c .stands .ready in
     due-round m (3 * length (p₀ .came) + 4) s₀ input₀ output₀ r g big wide (chain-due m s₀ input₀ output₀ p₀ c big wide) p₀ refl t input′ output′ e w
 
--- ---- for the proof at the code: a chain of rounds when so many are left of those that are counted
+-- ---- for the proof at the code: a chain of rounds when this many of the counted rounds are left
 pub record Along (left : ℕ) (s : Situation) (input output : List ℕ) : Type 0 where
   pub rounds : ℕ
   pub passed : Passed

@@ -58,7 +58,7 @@ pub record Ran (s : Situation) (input output : List ℕ) : Type 0 where
   pub chain : Chain rounds s input output passed
   pub ends : (s .going ≡ false) ⊎ (2 ^ 62 < length (passed .came))
 
--- What was handed over is what the definition says of all bytes of the input: those that came, and whatever was not read, which is nothing where a read
+-- What was handed over is what the definition gives for all bytes of the input: those that came and those not read, of which there are none if a read
 -- returned 0.
 pub record Tells (p : Passed) : Type 0 where
   pub tells : (rest : List ℕ) → (p .over ≡ true → rest ≡ []) → p .handed ≡ output (p .came ++ rest)

@@ -52,7 +52,7 @@ take-min j l =
     (λ k. let e : min j (length l) ≡ length l = omega arith in rw (e, take-length l, take-all j l k))
     (lt-or-le j (length l))
 
--- ---- texts: a line that was put comes behind the text that waited
+-- ---- texts: a line that was put comes after the text that waited
 put-text : (d : List ℕ) (at : ℕ) (t : List ℕ) («end» : ℕ) (d′ : List ℕ) → Put d at t «end» d′ → at ≤ length d → take «end» d′ ≡ take at d ++ t
 put-text d at t «end» d′ p h =
     let long : length (take at d ++ t) ≡ «end» = omega (arith, length-append (take at d) t, length-take-le at d h, p .end-is) in
@@ -115,8 +115,8 @@ module _ (n : ℕ) (s : Situation) (input output₁ : List ℕ) (p : Passed) (h 
         tells = λ rest z. rw (append-nil (p .handed ++ take (s .text) output₁)) (h .tells rest z);
       }
 
-  -- ---- a line is put behind it
-  -- if what is to be handed over begins with the line
+  -- ---- a line is put after it
+  -- if what is still to be handed over begins with the line
   tells-more : (t : Situation) (line output′ rest : List ℕ) → Put output₁ (s .text) line (t .text) output′ → toTell s input rest ≡ line ++ toTell t input rest
       → (p .over ≡ true → rest ≡ []) → p .handed ++ take (t .text) output′ ++ toTell t input rest ≡ output (p .came ++ rest)
   tells-more t line output′ rest k e z =
@@ -138,7 +138,7 @@ module _ (n : ℕ) (s : Situation) (input output₁ : List ℕ) (p : Passed) (h 
         ∙ getD-drop (s .at) input 0 0
         ∙ ap (λ (k : ℕ). getD input k 0) z
 
-    -- what follows does not change the record: nothing does, or it is there as a whole
+    -- what follows does not change the record: nothing follows, or the record is there completely
     same : (ended : Bool) → s .ended ≡ ended → (rest : List ℕ) → resultOf (u ++ cond ended [] rest) ≡ resultOf u
     same true e rest = ap resultOf (append-nil u)
     same false e rest =

@@ -20,7 +20,7 @@ abbrev pub ifMade : Made → (Code → Admitted) → Admitted
 ifMade (Good c) f = f c
 ifMade Bad f = Refused Parameters
 
--- tests 2 to 4 of a code, where so many information bits are expected: readings l, and outputs of k and n bits
+-- tests 2 to 4 of a code, with this number of information bits expected: readings l, and outputs of k and n bits
 abbrev pub admittedBy : Code → ℕ → List ℤ → ℕ → ℕ → Admitted
 admittedBy c due l k n =
     let place = firstBadReading largestReading l in
@@ -36,7 +36,7 @@ admittedFor due r m l k n = ifMade (made r m) (λ c. admittedBy c (due c) l k n)
 abbrev pub admitted : ℕ → ℕ → List ℤ → ℕ → ℕ → Admitted
 admitted r m l k n = admittedFor dimensionOf r m l k n
 
--- what a call gives after its tests: refused, or as a call of a code does
+-- what a call gives after its tests: a refusal, or what the call gives for the code
 abbrev pub afterTest : {O : Type 0} → Admitted → (Refusal → O) → (Code → O) → O
 afterTest (Refused why) refuse then = refuse why
 afterTest (Allowed c) refuse then = then c

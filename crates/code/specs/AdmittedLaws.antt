@@ -1,4 +1,4 @@
--- Laws of the tests: what each refusal follows from, and what holds of an input that is allowed.
+-- Laws of the tests: what each refusal follows from, and what holds for an input that is allowed.
 use mathlib.Core.Path.{_≡_, refl, _∙_}
 use mathlib.Core.List.{List}
 use mathlib.Core.Logic.{⊎-elim}
@@ -22,7 +22,7 @@ use Rattle.code.specs.Entries.{firstBadReading}
 use Rattle.code.specs.EntriesLaws.{first-none, good-readings}
 use Rattle.code.specs.Admitted.{admittedBy, admittedFor, admitted}
 
--- ---- tests 2 to 4 of a code, where so many information bits are expected
+-- ---- tests 2 to 4 of a code, with this number of information bits expected
 module _ (c : Code) (due : ℕ) (l : List ℤ) (k n : ℕ) where
   pub refused-input : (length l ≡ 2 ^ c .m → ⊥) → Refused InputLength ≡ admittedBy c due l k n
   refused-input f = rw (ne-eqb (length l) (2 ^ c .m) f)
@@ -110,7 +110,7 @@ module _ (due : Code → ℕ) (r m : ℕ) (l : List ℤ) (k n : ℕ) where
       let none = first-none (pos 0) natAbs largestReading l (length l) (λ j h. a .entries .within j) refl in
       allowed (rm r m) (due (rm r m)) l k n (a .entries .long) (a .long-bits) (a .long-word) (omega (arith, none)) ∙ tested-made due r m l k n (rm r m) good
 
--- of RM(r,m)
+-- for RM(r,m)
 module _ (r m : ℕ) (l : List ℤ) (k n : ℕ) where
   pub decided : Decided dimensionOf r m l k n
   decided = decided-for dimensionOf r m l k n

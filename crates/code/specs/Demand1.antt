@@ -19,7 +19,7 @@ pub record View : Type 0 where
   pub visits : ℕ
   pub buffers : List (List ℕ)
 
--- refused: the number, what the refusal carries, 0 for all else, and the buffers as they came
+-- refused: the number, what the refusal carries, 0 for everything else, and the buffers unchanged
 abbrev pub refusedAs : Refusal → List (List ℕ) → View
 refusedAs why before =
     let c = carried why in
@@ -47,7 +47,7 @@ pub record Demand1 (checks : Checks) (before : List (List ℕ)) (o : View) : Typ
   -- each number is given exactly if the first check that applies gives it
   pub number : (n : ℕ) → 0 < n → (o .number ≡ n) ↔ First (λ why. numberOf why ≡ n) checks
   pub done : (o .number ≡ 0) ↔ NoneApplies checks
-  -- with what that refusal carries, 0 for all else, and the buffers as they came
+  -- with what that refusal carries, 0 for everything else, and the buffers unchanged
   pub refused : (why : Refusal) → First (λ given. given ≡ why) checks → o ≡ refusedAs why before
   pub kept : 0 < o .number → o .buffers ≡ before
   -- where nothing is refused there is no place
@@ -68,7 +68,7 @@ firstChecks d size limit r m l due outputs rest =
     (check OutputLength (outputs → ⊥)
     (checkAt Entry (LowestBad d size limit l) rest)))
 
--- of readings, and the lengths of the lent outputs for the information bits, of which so many are expected, and the word
+-- of readings, and the lengths of the lent outputs for the information bits, of which this many are expected, and the word
 abbrev pub readingChecksFor : ℕ → ℕ → ℕ → List ℤ → ℕ → ℕ → Checks → Checks
 readingChecksFor due r m l bits word = firstChecks (pos 0) natAbs largestReading r m l (2 ^ m) ((bits ≡ due) × (word ≡ 2 ^ m))
 

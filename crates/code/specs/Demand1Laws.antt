@@ -1,4 +1,4 @@
--- Demand 1 follows where the checks are made in their order, each on what the checks before it leave.
+-- Demand 1 follows if the checks are made in their order, each on what the checks before it leave.
 use mathlib.Core.Path.{_≡_, refl, ap, sym, subst, _∙_}
 use mathlib.Core.Logic.{_⊎_, inl, inr, ⊎-elim}
 use mathlib.Core.List.{List, [], _∷_}

@@ -1,4 +1,4 @@
--- Laws of the lowest bad place: where it is, and what holds of all entries where there is none.
+-- Laws of the lowest bad place: where it is, and what holds for all entries if there is none.
 use mathlib.Core.Path.{_≡_, refl, ap, sym, _∙_}
 use mathlib.Core.Bool.{Bool, true, false, true≢false, _||_, or-false}
 use mathlib.Core.List.{List, [], _∷_}
@@ -34,7 +34,7 @@ module _ {A : Type 0} (d : A) (number : A → ℕ) (limit : ℕ) where
   first-here (x ∷ l) (suc i) g h k =
       rw (le-ltb limit (number x) (g 0 (omega arith))) (ap suc (first-here l i (λ j m. g (suc j) (omega arith)) (le-of-suc-le-suc h) k))
 
-  -- a good entry more
+  -- one more good entry
   pub good-more : (l : List A) (i : ℕ) → GoodBefore l i → number (getD l i d) ≤ limit → GoodBefore l (i + 1)
   good-more l i g h j m =
       ⊎-elim (λ k. g j k) (λ k. let e : j ≡ i = omega arith in rw e h) (lt-or-le j i)

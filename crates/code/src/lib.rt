@@ -39,11 +39,11 @@ pub enum Refusal {
     Tied { penalty: u32, visits: u32 },
     Torn,
     Pad,
-    // no entry of an index, or no record behind the last
+    // no entry in an index, or no record after the last
     NoEntry,
     // a map of positions that is not of bits, or that nothing undoes
     Map,
-    // a row that has not n bits, names a frozen index, or leaves no information index
+    // a row that does not have n bits, names a frozen index, or leaves no information index
     Named,
 }
 
@@ -56,7 +56,7 @@ pub struct Shown {
     pub visits: u32,
 }
 
-// The answer of a call that reports no more than a refusal.
+// The answer of a call that reports only a refusal.
 pub enum Completed {
     Done,
     Refused(Refusal),
@@ -186,7 +186,7 @@ pub fn first_bad_bit(bits: &[u8]) -> usize
     i
 }
 
-// Whether a reading is beyond the largest, either way.
+// Whether a reading is beyond the largest, of either sign.
 fn beyond(reading: i16, largest: i16) -> bool
     requires { ⌜ down largest ≡ 0 ⌝ }
     ensures { λ r. ⌜ r ≡ ltb (up largest) (natAbs reading) ⌝ }
@@ -235,7 +235,7 @@ pub fn first_bad_reading(readings: &[i16]) -> usize
     first_beyond(readings, Code::LARGEST_READING)
 }
 
-// The same of readings that are to go into a record, or came out of one.
+// The same for readings that are to go into a record, or came out of one.
 pub fn first_bad_record_reading(readings: &[i16]) -> usize
     ensures { λ place. ⌜ place ≡ firstBadReading largestRecordReading (now (readings .entry)) ⌝ }
 {
@@ -252,7 +252,7 @@ pub fn admit(r: u32, m: u32, readings: &[i16], bits: usize, word: usize) -> Admi
     admit_for(code, code.dimension(), readings, bits, word)
 }
 
-// The tests 2 to 4, where so many information bits are expected.
+// The tests 2 to 4, with this number of information bits expected.
 pub fn admit_for(code: Code, due: usize, readings: &[i16], bits: usize, word: usize) -> Admitted
     requires { ⌜ Sound code ⌝ }
     ensures { λ answer. ⌜ answer ≡ admittedBy code due (now (readings .entry)) bits word ⌝ }

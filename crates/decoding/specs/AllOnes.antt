@@ -61,7 +61,7 @@ both-bare onward onward′ x x′ u p s s′ same size below =
 finished-bare : (u u′ : List ℕ) (p : ℕ) (s s′ : State) → bare s′ ≡ bare s → bare (finished u′ p s′) ≡ bare (finished u p s)
 finished-bare u u′ p s s′ same = sym (finished-by (λ u. []) u′ p s′) ∙ ap (finished [] p) same ∙ finished-by (λ u. []) u p s
 
--- ---- a row v that is zero before its last index changes no path that is not full
+-- ---- a row v that is zero before its last index changes only full paths
 changed-early : (u v : List ℕ) → length u ≤ length v → Bits u → ((i : ℕ) → i < length u → getD v i 0 ≡ 0) → changed u v ≡ u
 changed-early [] v g h z = refl
 changed-early (a ∷ u) [] g h z = absurd (not-suc-le-zero g)

@@ -1,4 +1,4 @@
--- What readings of the wrong sign cost over a set without the all-ones word, as shortening can leave one: RM(r,m) has that word, so its penalty cannot tell.
+-- What readings of the wrong sign cost over a set without the all-ones word, as shortening can leave one. RM(r,m) has that word, so its penalty shows no sign.
 -- Where the best word of RM(r,m) is in that set, each of its words has, for the negated readings, at least the gap of RM(r,m) more than the best word had.
 use mathlib.Core.Path.{_≡_, refl, ap, sym, subst, _∙_}
 use mathlib.Core.List.{List, map}

@@ -27,7 +27,7 @@ use Rattle.encode.specs.Demands.{view, encodeChecks, frozenCheck, invers
 long-or-not : (a b : ℕ) → (a ≡ b) ⊎ (a ≡ b → ⊥)
 long-or-not a b = elim (ℕ-discrete a b) [ yes e ↦ inl e | no e ↦ inr e ]
 
--- the tests of an input of bits, and then what is left
+-- the tests of an input of bits, and then the rest
 module _ (r m : ℕ) (input : List ℕ) (due : ℕ) (output : List ℕ) (room : ℕ) (rest : Outcome) (more : Checks) where
   good : Sound (rm r m) → made r m ≡ Good (rm r m)
   good s = made-good r m (s .m-small) (s .r-small)
@@ -45,7 +45,7 @@ module _ (r m : ℕ) (input : List ℕ) (due : ℕ) (output : List ℕ) (room : 
         else = λ s i o h. rw (← tested-all r m input due output room rest (good s) refl i refl o refl h) (then i (good-bits input h));
       })
 
--- the frozen indices, of any row of kinds
+-- the frozen indices, for any row of kinds
 pub decides-frozen : (m : ℕ) (ks : List ℕ) → length ks ≡ 2 ^ m → Bits ks → (word bits : List ℕ) → length word ≡ 2 ^ m → Bits word
     → Decides (bits ∷ []) (view (takingBack (takenBack m ks word) bits)) (frozenCheck m ks word)
 unfolding takenBack

@@ -26,7 +26,7 @@ buffer-told : (a : Completed) (x : List ℕ) → outcomeOf a x .buffer ≡ x
 buffer-told Done x = refl
 buffer-told (Refused why) x = refl
 
--- of any outcome that is none of the search's
+-- for any outcome that is not one of the search
 pub outcome-only : (o : Outcome) → (o .number ≡ 6 → ⊥) → (o .number ≡ 7 → ⊥)
     → (a b : Completed) (x y : List ℕ) → outcomeOf a x ≡ o → outcomeOf b y ≡ o → (a ≡ b) × (x ≡ y)
 outcome-only o six seven a b x y e f =

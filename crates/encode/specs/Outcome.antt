@@ -48,15 +48,15 @@ tested r m input long output room rest =
     (cond (not (eqb (length output) room)) (refused OutputLength output)
     (cond (ltb place (length input)) (refused (Entry place) output) rest)))
 
--- of r, m, the information bits, and the buffer for the word
+-- from r, m, the information bits, and the buffer for the word
 unfoldable pub encoding : ℕ → ℕ → List ℕ → List ℕ → Outcome
 encoding r m bits word = tested r m bits (dimension r m) word (2 ^ m) (done (encoded m (kinds r m) bits))
 
--- of what is taken back from a word, and the buffer for the information bits
+-- from what is taken back from a word, and the buffer for the information bits
 abbrev pub takingBack : TakenBack → List ℕ → Outcome
 takingBack (taken b) bits = done b
 takingBack (frozenOne i) bits = refused (NotAWord i) bits
 
--- of r, m, the word, and the buffer for the information bits
+-- from r, m, the word, and the buffer for the information bits
 unfoldable pub inverting : ℕ → ℕ → List ℕ → List ℕ → Outcome
 inverting r m word bits = tested r m word (2 ^ m) bits (dimension r m) (takingBack (takenBack m (kinds r m) word) bits)

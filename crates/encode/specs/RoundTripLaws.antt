@@ -27,7 +27,7 @@ is-frozen : (bits : List ℕ) (i : ℕ) (t : TakenBack) → takingBack t bits �
 is-frozen bits i (taken c) e = absurd (omega (arith, ap (λ (o : Outcome). o .number) e))
 is-frozen bits i (frozenOne j) e = ap (λ (o : Outcome). frozenOne (o .place)) e
 
--- a row of n kinds, with so many information bits expected
+-- a row of n kinds, with this number of information bits expected
 module _ (r m due : ℕ) (ks : List ℕ) (long : length ks ≡ 2 ^ m) (are : Bits ks) (is : sum ks ≡ due) where
   abbrev encodes : List ℕ → List ℕ → Outcome
   encodes bits word = tested r m bits due word (2 ^ m) (done (encoded m ks bits))
@@ -84,7 +84,7 @@ module _ (r m due : ℕ) (ks : List ℕ) (long : length ks ≡ 2 ^ m) (are : Bit
       pub no-bits-give : Word m ks word → ⊥
       no-bits-give = refused-no-word m ks word long are (five-passed .1) (five-passed .3) i five-frozen
 
-    -- and the other way: what no information bits give is refused so
+    -- and conversely: what no information bits give is refused as 5
     pub refused-five : Given → (Word m ks word → ⊥) → (i : ℕ) × (inverts word bits ≡ refused (NotAWord i) bits)
     refused-five p none =
         let f = no-word-refused m ks word long are (p .long-word) (p .entries) none in

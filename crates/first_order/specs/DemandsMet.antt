@@ -107,7 +107,7 @@ module _ (m : ℕ) (l : List ℤ) (bits word : List ℕ) where
   first-order-demand-1 r =
       demand-1 (bits ∷ word ∷ []) (view (firstOrdering r m l bits word)) (firstOrderChecks r m l bits word) (first-decides r)
 
-  -- ---- beside the search
+  -- ---- compared with the search
   not-out : searching 1 m (tree (kinds 1 m)) l bits word .number ≡ 6 → ⊥
   not-out n =
       let all = tree (kinds 1 m) in

@@ -1,4 +1,4 @@
--- Laws of the memory's arrays where the sums are floats: what is read of them. The laws of `memory` do the rest.
+-- Laws of the memory's arrays where the sums are floats: what is read from them. The laws of `memory` do the rest.
 use mathlib.Core.Path.{_≡_, ap, sym, _∙_, subst}
 use mathlib.Core.List.{List}
 use Prim.Native.Nat.{ℕ, suc, _+_, _-_, _^_, _≤_, _<_}

@@ -34,7 +34,7 @@ Stand (x ∷ f) (z ∷ l) = Stands x z × Stand f l
 abbrev pub outside : ℤ
 outside = pos (2 ^ 24)
 
--- the whole number that x is; `outside` where x is none
+-- the whole number that x is; `outside` if x is not one
 unfoldable pub wholeOf : Float → ℤ
 wholeOf nan = outside
 wholeOf (inf s) = outside

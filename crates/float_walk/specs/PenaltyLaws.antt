@@ -60,7 +60,7 @@ no-count = ap natAbs whole-zero
 pub no-penalty : Penalty (Ieee.ofBits binary32 0)
 no-penalty = record { is = zero-is ∙ ap float (sym no-count); small = rw no-count (omega arith) }
 
--- ---- what two penalties are apart, and a penalty as a whole number
+-- ---- the difference of two penalties, and a penalty as a whole number
 pub penalty-sub : {x y : Float} → Penalty x → Penalty y → count y ≤ count x → Ieee.sub binary32 x y ≡ float (count x - count y)
 penalty-sub {x} {y} p q h = ap₂ (Ieee.sub binary32) (p .is) (q .is) ∙ float-sub (count x) (count y) (omega (arith, p .small)) h
 
@@ -68,7 +68,7 @@ in-float : (n : ℕ) → n < sumLimit → T (Ieee.inFloat binary32 (pos n))
 unfolding Ieee.inFloat
 in-float n h = le→leb n (2 ^ 24) (omega arith)
 
--- the cast asks nothing more, and gives the count
+-- the cast requires nothing more, and gives the count
 pub penalty-cast : {x : Float} → Penalty x → T (Ieee.inUnsigned binary32 32 x) × (Ieee.toUnsigned 32 x ≡ count x)
 penalty-cast {x} p =
     let n = count x in

@@ -1,4 +1,4 @@
--- The Hadamard transform of a row of 2^m whole numbers, the words of RM(1,m) that its entries stand for, and what a look at all its entries finds.
+-- The Hadamard transform of a row of 2^m whole numbers, the words of RM(1,m) that its entries stand for, and what looking at all its entries finds.
 -- A word of RM(1,m) is named by a place s below 2^m and a bit e; its correlation with the row is entry s, negated where e is 1.
 use mathlib.Core.Path.{_≡_}
 use mathlib.Core.Bool.{cond}
@@ -64,7 +64,7 @@ placeNamed (suc m) (a ∷ b) = a * 2 ^ m + placeNamed m b
 unfoldable pub correlations : ℕ → List ℤ → List ℤ
 correlations m l = map (λ b. correlation l (encoded m (kinds 1 m) b)) (allBits (sum (kinds 1 m)))
 
--- the same entries with the same repeats, in some order: any count of the one is that of the other
+-- the same entries with the same repeats, in some order: any count over one is the count over the other
 abbrev pub SameEntries : List ℤ → List ℤ → Type 0
 SameEntries k l = (g : ℤ → ℕ) → sum (map g k) ≡ sum (map g l)
 

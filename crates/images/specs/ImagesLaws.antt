@@ -66,7 +66,7 @@ image-zero m A =
     number-same m (imageBit m A [] (λ q. digit q 0)) (λ p. digit p 0) none ∙ number-digits m 0 (pow-pos m)
 
 -- ---- the images of positions with bit q
--- bit q alone is more
+-- only bit q is added
 digit-more : (q i k : ℕ) → i < 2 ^ q → digit k (2 ^ q + i) ≡ digit k i + is k q
 digit-more q i k h =
     ⊎-elim

@@ -21,7 +21,7 @@ use Rattle.index.specs.Own.{Own, Belongs, FoundInUse}
 use Rattle.index.specs.OwnMet.{own-start}
 use Rattle.index.specs.BelongsMet.{take-taken}
 
--- an entry of its own is read alike
+-- an entry of its own is read the same
 same-start : (s own table : List ℕ) (w : ℕ) → take (length own) table ≡ own → w / block < length own → startIn s table w ≡ startIn s own w
 unfolding startIn
 same-start s own table w front there =

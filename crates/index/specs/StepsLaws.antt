@@ -34,7 +34,7 @@ module _ (s : List ℕ) (at : ℕ) where
       unfolding stepped
       step-next h = rw (lt-leb (length s) at inside, ne-eqb (bytesAt s at) 0 some, le-ltb (length s - at) (bytesAt s at) h)
 
--- ---- and back: what a step shows that goes on
+-- ---- and back: what a step that is not refused shows
 pub record Goes (s : List ℕ) (at next : ℕ) : Type 0 where
   pub inside : at < length s
   pub further : at < next

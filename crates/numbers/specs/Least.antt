@@ -10,7 +10,7 @@ least [] = 0
 least (x ∷ []) = x
 least (x ∷ y ∷ l) = min x (least (y ∷ l))
 
--- the list less its first entry that is a
+-- the list without its first entry that is a
 unfoldable pub without : ℕ → List ℕ → List ℕ
 without a [] = []
 without a (x ∷ l) = cond (eqb x a) l (x ∷ without a l)

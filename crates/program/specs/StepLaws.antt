@@ -1,4 +1,4 @@
--- Laws of the work on one record: what the search's answer says of its result.
+-- Laws of the work on one record: what the search's answer says about its result.
 use mathlib.Core.Path.{_≡_, refl, ap, sym, _∙_, subst}
 use mathlib.Core.List.{List}
 use Prim.Native.Nat.{ℕ, _-_, _^_, _≤_}

@@ -20,7 +20,7 @@ const ALLOWANCE: u32 = 1000000;
 
 // What becomes of a record.
 pub struct Step {
-    // the next record starts so many bytes on
+    // the next record starts this many bytes further on
     pub taken: usize,
     // the place after its line
     pub end: usize,
@@ -94,7 +94,7 @@ fn search_into(
         (now (out .entry)) at t (now (out .exit)) ⌝ }
 {
     let answer = record::search_framed(s, code, ALLOWANCE, bits, word);
-    // the line says nothing of the runner-up
+    // the line says nothing about the runner-up
     let result = answer.result;
     match result {
         Searched::Found {

@@ -32,7 +32,7 @@ word-told : (a : Read) (x y : List ℕ) → outcomeOf a x y .word ≡ y
 word-told (Done penalty) x y = refl
 word-told (Refused why) x y = refl
 
--- of any outcome that is none of the search's
+-- for any outcome that is not one of the search
 pub outcome-only : (o : Outcome) → (o .number ≡ 6 → ⊥) → (o .number ≡ 7 → ⊥)
     → (a b : Read) (x y v w : List ℕ) → outcomeOf a x y ≡ o → outcomeOf b v w ≡ o → (a ≡ b) × (x ≡ v) × (y ≡ w)
 outcome-only o six seven a b x y v w e f =

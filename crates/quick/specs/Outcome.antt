@@ -39,6 +39,6 @@ outcomeOf (Refused why) = refused why
 abbrev pub readingBy : Code → List ℤ → Outcome
 readingBy c l = let ks = kinds (c .r) (c .m) in done (quickPenalty (c .m) ks l) (quickBits (c .m) ks l) (quickWord (c .m) ks l)
 
--- of r, m, the readings, and the buffers for the information bits and the word
+-- from r, m, the readings, and the buffers for the information bits and the word
 unfoldable pub quickReading : ℕ → ℕ → List ℤ → List ℕ → List ℕ → Outcome
 quickReading r m l bits word = afterTest (admitted r m l (length bits) (length word)) (λ why. refused why bits word) (λ c. readingBy c l)

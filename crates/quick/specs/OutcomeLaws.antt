@@ -1,4 +1,4 @@
--- The outcome at each place where `quick` returns, and what the work between asks.
+-- The outcome at each place where `quick` returns, and what the work in between requires.
 use mathlib.Core.Path.{_≡_, ap, sym, _∙_}
 use mathlib.Core.List.{List}
 use Prim.Native.Nat.{ℕ, _-_, _^_, _<_}

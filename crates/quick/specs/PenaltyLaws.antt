@@ -1,4 +1,4 @@
--- The loop that sums the penalty: one position more.
+-- The loop that sums the penalty: one more position.
 use mathlib.Core.Path.{_≡_}
 use mathlib.Core.List.{List, [], _∷_}
 use Prim.Native.Nat.{ℕ, zero, suc, _+_, _≤_, _<_, zero-le}

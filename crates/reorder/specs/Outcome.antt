@@ -16,7 +16,7 @@ use Rattle.code.specs.declared.Completed.the-variants.{Done, Refused}
 
 -- B is what is lent to be written: one buffer, or two
 pub record Outcome (B : Type 0) : Type 0 where
-  -- all 0 where the call is done, else what the refusal carries
+  -- all 0 if the call is done, else what the refusal carries
   pub carry : Carried
   -- what is lent, as the call leaves it
   pub lent : B
@@ -53,20 +53,20 @@ abbrev pub entryTested : {B : Type 0} → B → ℕ → ℕ → Outcome B → Ou
 entryTested lent place n rest = cond (ltb place n) (refused lent (Entry place)) rest
 
 -- ---- the outcomes where all lengths are right
--- of m, a table, a row, readings, and the buffer for the reordered readings
+-- from m, a table, a row, readings, and the buffer for the reordered readings
 abbrev pub reorderingLong : ℕ → List ℕ → List ℕ → List ℤ → List ℤ → Outcome (List ℤ)
 reorderingLong m A b l out =
     mapTested out (isMap m A b) (entryTested out (firstBadReading largestReading l) (length l) (done (reordered (pos 0) m A b l)))
 
--- of a word instead of readings
+-- with a word instead of readings
 abbrev pub reorderingWordLong : ℕ → List ℕ → List ℕ → List ℕ → List ℕ → Outcome (List ℕ)
 reorderingWordLong m A b x out = mapTested out (isMap m A b) (entryTested out (firstBadBit x) (length x) (done (reordered 0 m A b x)))
 
--- of m, a table, a row, and the buffers for the undo map's
+-- from m, a table, a row, and the buffers for those of the undo map
 abbrev pub undoingLong : ℕ → List ℕ → List ℕ → List ℕ → List ℕ → Outcome (List ℕ × List ℕ)
 undoingLong m A b C c = mapTested (C, c) (isMap m A b) (done (undoTable m A, undoRow m A b))
 
--- of m, the first map's table and row, the second's, and the buffers for the product's
+-- from m, the first map's table and row, the second's, and the buffers for the product's
 abbrev pub multiplyingLong : ℕ → List ℕ → List ℕ → List ℕ → List ℕ → List ℕ → List ℕ → Outcome (List ℕ × List ℕ)
 multiplyingLong m A b C c D d = mapTested (D, d) (isMap m A b && isMap m C c) (done (productTable m A C, productRow m A b c))
 

@@ -1,4 +1,4 @@
--- Reordering by one call and then by another is reordering by their product, over what the calls tell and leave.
+-- Reordering by one call and then by another is reordering by their product, over what the calls report and leave.
 use mathlib.Core.Path.{_≡_, refl, ap, sym, _∙_}
 use mathlib.Core.Bool.{true, _&&_}
 use mathlib.Core.List.{List}

@@ -19,7 +19,7 @@ enum Sizes {
     Wrong(Refusal),
 }
 
-// Writes the readings in the map's order: position j reads position A·j + b.
+// Writes the readings in the map's order: position j gets the reading at A·j + b.
 pub fn reorder(m: u32, table: &[u8], row: &[u8], readings: &[i16], out: &mut [i16]) -> Completed
     ensures { λ answer. ⌜ outcomeOf answer (now (out .exit))
         ≡ reordering m (now (table .entry)) (now (row .entry)) (now (readings .entry))
@@ -84,7 +84,7 @@ pub fn product_map(
     }
 }
 
-// The number of positions, 0 where m is too large.
+// The number of positions, 0 if m is too large.
 fn length(m: u32) -> usize
     ensures { λ n. ⌜ n ≡ lengthOf m ⌝ }
 {

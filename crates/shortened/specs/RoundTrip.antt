@@ -81,7 +81,7 @@ module _ (r m : ℕ) (named : List ℕ) where
         no-bits-give r m (sum ks) ks (long-left named (rm r m)) (are-left named (rm r m)) refl word bits i
         (inverting-left r m named (rm r m) five-left word bits ∙ e)
 
-  -- and the other way: what no information bits give is refused so
+  -- and conversely: what no information bits give is refused as 5
   pub shortened-no-word-five : GoodRow named (kinds r m) → (word bits : List ℕ) → SoundFor (rm r m) (sum ks) (length bits) (length word) (Bits word)
       → (Word m ks word → ⊥) → (i : ℕ) × (invertingShortened r m named word bits ≡ encoder.refused (NotAWord i) bits)
   shortened-no-word-five g word bits p none =

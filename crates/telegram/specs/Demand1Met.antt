@@ -102,7 +102,7 @@ module _ (t : Telegram) (word : List ℕ) where
   written-is (beyond e g h) = tested (Bad Field) e (rw (tilt-good t g, field-beyond t h))
   written-is (good e w) = tested Good e (writer-good t w)
 
-  -- what each number says of the case
+  -- what each number says about the case
   three : (c : WriterCase t word) → writtenBy c .carry .number ≡ 3 → length word ≡ 32 → ⊥
   three (short e) n = e
   three (tilted e h) n = absurd (omega arith)
@@ -251,7 +251,7 @@ module _ (checks : Checks) (before : List (List ℕ)) (v : View) (checked : Dema
   read-is (upright none m h) = judged-as (Bad ZeroTilt) none (rw (m, tilt-level (telegramOf b) (h .0) (h .1)))
   read-is (clear none m g) = judged-as Good none (rw (m, tilt-good (telegramOf b) g))
 
-  -- what each number says of the case
+  -- what each number says about the case
   below-thirteen : (c : Case) (n : ℕ) → 0 < n → n < 13 → readBy c .carry .number ≡ n → First (λ why. numberOf why ≡ n) checks
   below-thirteen (linked why f) n some few e = checked .number n some .0 (link-number why f ∙ e)
   below-thirteen (marked none m) n some few e = absurd (omega arith)
@@ -337,7 +337,7 @@ module _ (checks : Checks) (before : List (List ℕ)) (v : View) (checked : Dema
         no-place = λ n. ap (λ (o : ReadOutcome). o .carry .place) is ∙ is-clear c (same ∙ n) .1;
       }
 
--- ---- of readings, by the search
+-- ---- for readings, by the search
 module _ (allowed : ℕ) (l : List ℤ) where
   abbrev searchTold : Search.Outcome
   searchTold = linkSearch allowed l
@@ -356,9 +356,9 @@ module _ (allowed : ℕ) (l : List ℤ) where
       → let n = readingTelegram allowed l .carry .number in (n ≡ 0) ⊎ (n ≡ 14) ⊎ (n ≡ 15)
   unmarked = not-marked (linkChecks allowed l) _ _ searched _ _ _ _ _ after-search
 
--- ---- of information bits
+-- ---- for information bits
 module _ (b : List ℕ) where
-  -- what the two checks tell
+  -- what the two checks show
   abbrev bitsTold : View
   bitsTold =
       cond (not (eqb (length b) 16)) (refusedAs InputLength [])

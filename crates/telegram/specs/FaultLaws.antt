@@ -1,4 +1,4 @@
--- Laws of the faults: which telegrams have none, and that a fault is known by what it carries.
+-- Laws of the faults: which telegrams have none, and that a fault is determined by what it carries.
 use mathlib.Core.Path.{_≡_, refl, ap, sym, _∙_}
 use mathlib.Core.Bool.{_&&_}
 use mathlib.Core.Logic.{_⊎_, inl, inr, ⊎-elim}
@@ -109,7 +109,7 @@ good-before Good y e = (refl, e)
 good-before (Bad why) y e = absurd (omega (arith, ap testNumber e, fault-above why))
 
 module _ (t : Telegram) where
-  -- each test where it finds its fault
+  -- each test when it finds its fault
   pub tilt-high : largestTilt < t .tilt → tiltFault t ≡ Bad Tilt
   tilt-high h = rw (lt-ltb largestTilt (t .tilt) h)
 

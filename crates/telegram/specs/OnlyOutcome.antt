@@ -18,7 +18,7 @@ same-heard (hear.Shown t p g v) (hear.Refused why) e = absurd (omega (arith, ap 
 same-heard (hear.Refused why) (hear.Shown t p g v) e = absurd (omega (arith, ap (λ (o : ReadOutcome). o .carry .number) e, fault-above why))
 same-heard (hear.Refused why) (hear.Refused why′) e = ap hear.Refused (fault-only why why′ (ap (λ (o : ReadOutcome). o .carry) e))
 
--- whatever outcome is promised
+-- for any promised outcome
 pub read-only : (o : ReadOutcome) (a b : Heard) → outcomeOf a ≡ o → outcomeOf b ≡ o → a ≡ b
 read-only o a b e f = same-heard a b (e ∙ sym f)
 

@@ -202,7 +202,7 @@ module _ (allowed : ℕ) (l : List ℤ) where
   pub found-bits : FoundBest allowed l → Bits (linkSearch allowed l .bits)
   found-bits f = f .best .information .1
 
-  -- so in the reader, with what the search's answer is
+  -- so in the reader, for the search's answer
   module _ (p g v : ℕ) (b w : List ℕ) (e : Search.foundWith p g v b w ≡ linkSearch allowed l) where
     pub judged-bits : Bits b × (length b ≡ 16)
     judged-bits =
