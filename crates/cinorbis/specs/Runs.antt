@@ -60,8 +60,8 @@ pub record Ran (s : Situation) (input output : List ℕ) : Type 0 where
 
 -- What was handed over is what the definition gives for all bytes of the input: those that came and those not read, of which there are none if a read
 -- returned 0.
-pub record Tells (p : Passed) : Type 0 where
-  pub tells : (rest : List ℕ) → (p .over ≡ true → rest ≡ []) → p .handed ≡ output (p .came ++ rest)
+pub record HandsOver (p : Passed) : Type 0 where
+  pub output-is : (rest : List ℕ) → (p .over ≡ true → rest ≡ []) → p .handed ≡ output (p .came ++ rest)
 
 pub record Beginning (handed all : List ℕ) : Type 0 where
   pub more : List ℕ

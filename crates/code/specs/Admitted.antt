@@ -22,15 +22,15 @@ ifMade Bad f = Refused Parameters
 
 -- tests 2 to 4 of a code, with this number of information bits expected: readings l, and outputs of k and n bits
 abbrev pub admittedBy : Code → ℕ → List ℤ → ℕ → ℕ → Admitted
-admittedBy c due l k n =
+admittedBy c expected l k n =
     let place = firstBadReading largestReading l in
     cond (not (eqb (length l) (2 ^ c .m))) (Refused InputLength)
-    (cond (not (eqb k due)) (Refused OutputLength)
+    (cond (not (eqb k expected)) (Refused OutputLength)
     (cond (not (eqb n (2 ^ c .m))) (Refused OutputLength)
     (cond (ltb place (length l)) (Refused (Entry place)) (Allowed c))))
 
 unfoldable pub admittedFor : (Code → ℕ) → ℕ → ℕ → List ℤ → ℕ → ℕ → Admitted
-admittedFor due r m l k n = ifMade (made r m) (λ c. admittedBy c (due c) l k n)
+admittedFor expected r m l k n = ifMade (made r m) (λ c. admittedBy c (expected c) l k n)
 
 -- the k information bits of RM(r,m)
 abbrev pub admitted : ℕ → ℕ → List ℤ → ℕ → ℕ → Admitted

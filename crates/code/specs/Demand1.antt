@@ -62,19 +62,19 @@ pub record LowestBad {A : Type 0} (d : A) (size : A → ℕ) (limit : ℕ) (l : 
 
 -- the input l should have this length, and `outputs` says that the lent outputs have theirs
 abbrev pub firstChecks : {A : Type 0} → A → (A → ℕ) → ℕ → ℕ → ℕ → List A → ℕ → Type 0 → Checks → Checks
-firstChecks d size limit r m l due outputs rest =
+firstChecks d size limit r m l expected outputs rest =
     check Parameters ((largestM < m) ⊎ (m < r))
-    (check InputLength (length l ≡ due → ⊥)
+    (check InputLength (length l ≡ expected → ⊥)
     (check OutputLength (outputs → ⊥)
     (checkAt Entry (LowestBad d size limit l) rest)))
 
 -- of readings, and the lengths of the lent outputs for the information bits, of which this many are expected, and the word
 abbrev pub readingChecksFor : ℕ → ℕ → ℕ → List ℤ → ℕ → ℕ → Checks → Checks
-readingChecksFor due r m l bits word = firstChecks (pos 0) natAbs largestReading r m l (2 ^ m) ((bits ≡ due) × (word ≡ 2 ^ m))
+readingChecksFor expected r m l bits word = firstChecks (pos 0) natAbs largestReading r m l (2 ^ m) ((bits ≡ expected) × (word ≡ 2 ^ m))
 
 abbrev pub readingChecks : ℕ → ℕ → List ℤ → ℕ → ℕ → Checks → Checks
 readingChecks r m = readingChecksFor (dimension r m) r m
 
 -- of bits, an output of this length, and the lengths that they should have
 abbrev pub bitChecks : ℕ → ℕ → List ℕ → ℕ → ℕ → ℕ → Checks → Checks
-bitChecks r m input due output room = firstChecks 0 (λ b. b) 1 r m input due (output ≡ room)
+bitChecks r m input expected output room = firstChecks 0 (λ b. b) 1 r m input expected (output ≡ room)

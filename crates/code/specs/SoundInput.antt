@@ -9,9 +9,9 @@ use Rattle.code.specs.declared.Code.{Code}
 use Rattle.code.specs.Sound.{Sound, largestReading}
 
 -- rows of these lengths for the information bits, of which this many are expected, and for the word; and all given entries are good
-pub record SoundFor (c : Code) (due bits word : ℕ) (good : Type 0) : Type 0 where
+pub record SoundFor (c : Code) (expected bits word : ℕ) (good : Type 0) : Type 0 where
   pub sound : Sound c
-  pub long-bits : bits ≡ due
+  pub long-bits : bits ≡ expected
   pub long-word : word ≡ 2 ^ c .m
   pub entries : good
 

@@ -253,15 +253,21 @@ pub fn admit(r: u32, m: u32, readings: &[i16], bits: usize, word: usize) -> Admi
 }
 
 // The tests 2 to 4, with this number of information bits expected.
-pub fn admit_for(code: Code, due: usize, readings: &[i16], bits: usize, word: usize) -> Admitted
+pub fn admit_for(
+    code: Code,
+    expected: usize,
+    readings: &[i16],
+    bits: usize,
+    word: usize,
+) -> Admitted
     requires { ⌜ Sound code ⌝ }
-    ensures { λ answer. ⌜ answer ≡ admittedBy code due (now (readings .entry)) bits word ⌝ }
+    ensures { λ answer. ⌜ answer ≡ admittedBy code expected (now (readings .entry)) bits word ⌝ }
 {
     let n = code.length();
     if readings.len() != n {
         return Admitted::Refused(Refusal::InputLength);
     }
-    if bits != due {
+    if bits != expected {
         return Admitted::Refused(Refusal::OutputLength);
     }
     if word != n {

@@ -14,12 +14,12 @@ use Rattle.search.specs.RunnerUp.{searchingWithRunnerUp}
 use Rattle.search.specs.Demands.{SearchDemand1, SoundSearch, PlusWord, OutcomeDemands, RunnerUpDemand, LargerAllowance}
 use Rattle.decoding.specs.Readings.{turns}
 use Rattle.decoding.specs.Walk.{start, NeverZero}
-use Rattle.float_numbers.specs.Whole.{Stands, Stand, wholeOf, wholes}
+use Rattle.float_numbers.specs.Whole.{Represents, RowRepresents, wholeOf, wholes}
 
 -- a float that is a whole number in range
 pub record FloatReading (x : Float) : Type 0 where
   pub number : ℤ
-  pub stands : Stands x number
+  pub represents : Represents x number
   pub within : natAbs number ≤ largestReading
 
 -- an entry is refused as 4 exactly if it is not one: it has a fraction, is beyond the range, is not a number at all, or is infinite
@@ -38,7 +38,7 @@ pub record SameAnswers (r m : ℕ) (f : List Float) (l : List ℤ) (bits word : 
   -- number by number and byte by byte what the search reports and writes for l, the runner-up too
   pub outcome : (allowed : ℕ) → searchingWithRunnerUp r m allowed (wholes f) bits word ≡ searchingWithRunnerUp r m allowed l bits word
   -- negated by a word, they are l negated by it
-  pub negated : (c : List ℕ) → Stand (turnedFloats c f) (turns c l)
+  pub negated : (c : List ℕ) → RowRepresents (turnedFloats c f) (turns c l)
 
 -- what the float search reports and leaves, except for the runner-up
 abbrev pub floatSearching : ℕ → ℕ → ℕ → List Float → List ℕ → List ℕ → Outcome

@@ -9,8 +9,8 @@ use lib.Ieee as Ieee
 use lib.Ieee.{Float, binary32}
 use lib.Ieee.Back.{unsigned-back}
 use Rattle.decoding.specs.Readings.{sumLimit}
-use Rattle.float_numbers.specs.Whole.{Stands, wholeOf, float}
-use Rattle.float_numbers.specs.WholeLaws.{stands-small, whole-zero, whole-float, float-add, float-sub, lt-float, le-float}
+use Rattle.float_numbers.specs.Whole.{Represents, wholeOf, float}
+use Rattle.float_numbers.specs.WholeLaws.{represents-small, whole-zero, whole-float, float-add, float-sub, lt-float, le-float}
 use Rattle.float_walk.specs.declared.Penalties.{Penalties}
 use Rattle.float_walk.specs.declared.Extension.the-variants.{Kept}
 use Rattle.float_walk.specs.Held.{count, secondOf, Penalty, Extends}
@@ -28,7 +28,7 @@ count-of n e h = rw e (count-float n (omega arith))
 -- what a loss adds
 pub penalty-add : {x : Float} (y : Float) (b : ℕ) → Penalty x → wholeOf y ≡ pos b → count x + b < sumLimit → Ieee.add binary32 x y ≡ float (count x + b)
 penalty-add {x} y b p e h =
-    let is : Stands y (pos b) = subst (Stands y) e (stands-small y (rw e (omega arith))) in
+    let is : Represents y (pos b) = subst (Represents y) e (represents-small y (rw e (omega arith))) in
     ap (λ (z : Float). Ieee.add binary32 z y) (p .is) ∙ float-add (count x) b (omega (arith, p .small)) is
 
 -- order

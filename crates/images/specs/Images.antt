@@ -42,12 +42,12 @@ pub record Mapped (m : ℕ) (A b : List ℕ) : Type 0 where
 
 -- whether it is a map, and for one the images without its row and their places
 pub record Taken (m : ℕ) (A b : List ℕ) (good : Bool) (images places : List ℕ) : Type 0 where
-  pub tells : good ≡ isMap m A b
+  pub decides : good ≡ isMap m A b
   pub images-are : good ≡ true → Shows (image m A []) (2 ^ m) images
   pub places-are : good ≡ true → Shows (λ v. whereIs (image m A []) v (2 ^ m)) 256 places
 
 pub record MapTested (m : ℕ) (A b : List ℕ) (good : Bool) (images : List ℕ) : Type 0 where
-  pub tells : good ≡ isMap m A b
+  pub decides : good ≡ isMap m A b
   pub images-are : good ≡ true → Shows (image m A []) (2 ^ m) images
 
 -- each image, with x added, is the place of an entry, and there is room for that many

@@ -74,7 +74,7 @@ set-behind (x ∷ e) (y ∷ t) u f h =
     let d : suc (length e) + 1 ≡ suc (length e + 1) = omega arith in
     rw (d, head) (ap (λ (z : List ℕ). x ∷ z) (set-behind e t u tail (omega arith)))
 
-module _ (all : List ℕ) (u : ℕ) (t : List ℕ) (stands : take (length (entriesOf all)) t ≡ entriesOf all) where
+module _ (all : List ℕ) (u : ℕ) (t : List ℕ) (begins : take (length (entriesOf all)) t ≡ entriesOf all) where
   abbrev own : List ℕ
   own = entriesOf all
 
@@ -82,7 +82,7 @@ module _ (all : List ℕ) (u : ℕ) (t : List ℕ) (stands : take (length (entri
   longer = entriesOf (all ++ (u ∷ []))
 
   fits : length own ≤ length t
-  fits = omega (arith, ap length stands, length-take (length own) t)
+  fits = omega (arith, ap length begins, length-take (length own) t)
 
   pub record Entered : Type 0 where
     pub enough : length longer ≤ length t
@@ -99,13 +99,13 @@ module _ (all : List ℕ) (u : ℕ) (t : List ℕ) (stands : take (length (entri
             let free : length own < length t = omega (arith, room z, place) in
             record {
               enough = omega arith;
-              same = rw (long, hit, eq-eqb (length all % block) 0 z, place) (set-behind own t u stands free);
+              same = rw (long, hit, eq-eqb (length all % block) 0 z, place) (set-behind own t u begins free);
             }
         | no n ↦
             let miss : longer ≡ own = every-miss 0 all u (omega arith) (λ z. n (omega arith)) in
             record {
               enough = omega (arith, ap length miss, fits);
-              same = rw (miss, ne-eqb (length all % block) 0 n) (ap (λ (x : List ℕ). x ++ drop (length own) t) (sym stands) ∙ take-append-drop (length own) t);
+              same = rw (miss, ne-eqb (length all % block) 0 n) (ap (λ (x : List ℕ). x ++ drop (length own) t) (sym begins) ∙ take-append-drop (length own) t);
             }
       ]
 

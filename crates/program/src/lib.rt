@@ -50,7 +50,7 @@ fn refuse(w: u64, s: &[u8], why: Refusal, out: &mut [u8], at: usize) -> Step
     }
 }
 
-fn tell(
+fn report(
     w: u64,
     s: &[u8],
     bits: &[u8],
@@ -101,7 +101,7 @@ fn search_into(
             penalty,
             gap,
             visits,
-        } => tell(w, s, bits, penalty, gap, visits, out, at),
+        } => report(w, s, bits, penalty, gap, visits, out, at),
         Searched::Refused(why) => refuse(w, s, why, out, at),
     }
 }

@@ -126,11 +126,11 @@ answer-only (Next n) (Refused why) x y e = absurd (omega (arith, number-above wh
 answer-only (Refused why) (Next n) x y e = absurd (omega (arith, number-above why, ap (λ (o : WrittenOutcome). o .carry .number) e))
 answer-only (Refused why) (Refused why′) x y e = ap Refused (refusal-only why why′ (ap (λ (o : WrittenOutcome). o .carry) e))
 
-buffer-told : (a : Written) (x : List ℕ) → outcomeOf a x .buffer ≡ x
-buffer-told (Next n) x = refl
-buffer-told (Refused why) x = refl
+outcome-buffer : (a : Written) (x : List ℕ) → outcomeOf a x .buffer ≡ x
+outcome-buffer (Next n) x = refl
+outcome-buffer (Refused why) x = refl
 
 pub write-only : (o : WrittenOutcome) (a b : Written) (x y : List ℕ) → outcomeOf a x ≡ o → outcomeOf b y ≡ o → (a ≡ b) × (x ≡ y)
 write-only o a b x y e f =
     let same : outcomeOf a x ≡ outcomeOf b y = e ∙ sym f in
-    (answer-only a b x y same, sym (buffer-told a x) ∙ ap (λ (o : WrittenOutcome). o .buffer) same ∙ buffer-told b y)
+    (answer-only a b x y same, sym (outcome-buffer a x) ∙ ap (λ (o : WrittenOutcome). o .buffer) same ∙ outcome-buffer b y)

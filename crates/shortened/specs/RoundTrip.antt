@@ -30,10 +30,10 @@ module _ (r m : ℕ) (named : List ℕ) where
   -- a call with another number than 1 and 12 has an allowed row
   row-let : (n : ℕ) → ((why : Refusal) → Refused why ≡ rowAdmitted r m named → numberOf why ≡ n) → (n ≡ 1 → ⊥) → (n ≡ 12 → ⊥)
       → Allowed (rm r m) ≡ rowAdmitted r m named
-  row-let n tells one twelve =
+  row-let n shows one twelve =
       elim (row-decided r m named) [
-        | bad-parameters b e ↦ absurd (one (sym (tells Parameters e)))
-        | bad-row s bad e ↦ absurd (twelve (sym (tells Named e)))
+        | bad-parameters b e ↦ absurd (one (sym (shows Parameters e)))
+        | bad-row s bad e ↦ absurd (twelve (sym (shows Named e)))
         | sound-row s g e ↦ e
       ]
 

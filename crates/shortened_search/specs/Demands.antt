@@ -34,7 +34,7 @@ ShortenedLargerAllowance r m named l bits word = (allowed more : ℕ) → allowe
 abbrev pub smallerSet : ℕ → ℕ → List ℕ → Searching
 smallerSet r m named =
     let ks = leftOf named (rm r m) in
-    record { code = rm r m; kinds = ks; due = sum ks; by = λ allowed l bits word. searchingShortened r m allowed named l bits word .outcome }
+    record { code = rm r m; kinds = ks; expected = sum ks; by = λ allowed l bits word. searchingShortened r m allowed named l bits word .outcome }
 
 abbrev pub ShortenedDemands : ℕ → ℕ → List ℕ → List ℤ → List ℕ → List ℕ → Type 0
 ShortenedDemands r m named = DemandsOf (smallerSet r m named)

@@ -74,9 +74,9 @@ module _ (t : Telegram) (x : List ℕ) (cylinder : x ≡ digits 3 (t .cylinder))
       bits-put = rw (tilt, direction, cylinder)
 
 -- the encoder writes the telegram's word
-buffer-told : (a : Completed) (x : List ℕ) → Encode.outcomeOf a x .buffer ≡ x
-buffer-told encode.Done x = refl
-buffer-told (encode.Refused why) x = refl
+outcome-buffer : (a : Completed) (x : List ℕ) → Encode.outcomeOf a x .buffer ≡ x
+outcome-buffer encode.Done x = refl
+outcome-buffer (encode.Refused why) x = refl
 
 pub word-written : (t : Telegram) (word : List ℕ) → length word ≡ 32 → (a : Completed) (x : List ℕ)
     → Encode.outcomeOf a x ≡ Encode.encoding 2 5 (telegramBits t) word → x ≡ wordOf t
@@ -89,7 +89,7 @@ word-written t word e a x is =
       long-word = e;
       entries = bits-bits 0 t (omega arith);
     }) in
-    sym (buffer-told a x) ∙ ap (λ (o : Encode.Outcome). o .buffer) (is ∙ done)
+    sym (outcome-buffer a x) ∙ ap (λ (o : Encode.Outcome). o .buffer) (is ∙ done)
 
 module _ (cylinder direction tilt : ℕ) (word : List ℕ) where
   abbrev pub given : Telegram
