@@ -81,7 +81,7 @@ layer-doubles k (suc c) x e =
     ∙ rw twice (sym right)
 
 -- ---- all layers
--- where the blocks of 2^k bits are words, the layers that are left give the word by halves of all 2^m bits
+-- if the blocks of 2^k bits are words, the remaining layers give the word by halves of all 2^m bits
 pub layers-double : (k c m : ℕ) → c + k ≡ m → (x : List ℕ) → length x ≡ 2 ^ m
     → layers c (2 ^ k) (blocks (transform k) (2 ^ k) x) ≡ transform m x
 unfolding layers

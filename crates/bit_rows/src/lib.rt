@@ -371,7 +371,7 @@ fn some_frozen_one(kinds: &[u8], row: &[u8]) -> bool
     some
 }
 
-// The lowest frozen index where the row is 1, or the row's length where there is none.
+// The lowest frozen index where the row is 1, or the row's length if there is none.
 pub fn first_frozen_one(kinds: &[u8], row: &[u8]) -> usize
     requires { ⌜ length (now row) ≡ length (now kinds) ⌝ }
     ensures { λ i. ⌜ i ≡ firstFrozenOne (now (kinds .entry)) (now (row .entry)) ⌝ }

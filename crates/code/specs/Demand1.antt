@@ -50,7 +50,7 @@ pub record Demand1 (checks : Checks) (before : List (List ℕ)) (o : View) : Typ
   -- with what that refusal carries, 0 for everything else, and the buffers unchanged
   pub refused : (why : Refusal) → First (λ given. given ≡ why) checks → o ≡ refusedAs why before
   pub kept : 0 < o .number → o .buffers ≡ before
-  -- where nothing is refused there is no place
+  -- if nothing is refused there is no place
   pub no-place : o .number ≡ 0 → o .place ≡ 0
 
 -- ---- the checks 1 to 4, which all calls on readings or bits begin with

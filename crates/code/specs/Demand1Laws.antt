@@ -27,7 +27,7 @@ use Rattle.code.specs.Demand1.{View, refusedAs, Checks, passed, check, c
 use Rattle.code.specs.Demand1.{firstChecks, readingChecksFor, readingChecks}
 
 module _ (before : List (List ℕ)) (o : View) where
-  -- the first check that applies refuses; where none does, nothing is refused
+  -- the first check that applies refuses; if none does, nothing is refused
   abbrev pub Decides : Checks → Type 0
   Decides passed = (o .number ≡ 0) × (o .place ≡ 0)
   Decides (check why applies rest) = (applies × (o ≡ refusedAs why before)) ⊎ ((applies → ⊥) × Decides rest)

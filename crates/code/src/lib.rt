@@ -48,7 +48,7 @@ pub enum Refusal {
 }
 
 // What a refusal reports: the rules' number, and the place, penalty and visits that it carries, 0
-// where it carries none.
+// for those that it does not carry.
 pub struct Shown {
     pub number: u32,
     pub place: usize,
@@ -169,7 +169,7 @@ fn some_bad_bit(bits: &[u8]) -> bool
     some
 }
 
-// The lowest place of a byte above 1, or the length where there is none.
+// The lowest place of a byte above 1, or the length if there is none.
 pub fn first_bad_bit(bits: &[u8]) -> usize
     ensures { λ place. ⌜ place ≡ firstBadBit (now (bits .entry)) ⌝ }
 {
@@ -211,7 +211,7 @@ fn some_beyond(readings: &[i16], largest: i16) -> bool
     some
 }
 
-// The lowest place of a reading beyond the largest, or the length where there is none.
+// The lowest place of a reading beyond the largest, or the length if there is none.
 fn first_beyond(readings: &[i16], largest: i16) -> usize
     requires { ⌜ down largest ≡ 0 ⌝ }
     ensures { λ place. ⌜ place ≡ firstBadReading (up largest) (now (readings .entry)) ⌝ }

@@ -108,7 +108,7 @@ turns-ones zero (r ∷ l) e = absurd (suc-ne-zero (length l) e)
 turns-ones (suc n) [] e = absurd (suc-ne-zero n (sym e))
 turns-ones (suc n) (r ∷ l) e = ap (λ (k : List ℤ). negℤ r ∷ k) (turns-ones n l (suc-inj e))
 
--- where the all-ones word is a word of the set
+-- if the all-ones word is a word of the set
 module _ (m : ℕ) (ks : List ℕ) (l : List ℤ) (g : length ks ≡ 2 ^ m) (e : length l ≡ 2 ^ m) (w : Word m ks (allOnes m)) where
   pub walked-negated : bare (walked m ks (turns (allOnes m) l)) ≡ bare (walked m ks l)
   unfolding walked

@@ -88,7 +88,7 @@ pub record Demand3 (m : ℕ) (ks : List ℕ) (l : List ℤ) (c bits : List ℕ) 
   pub both-run-out : NeverZero m l ks [] 0 start → (allowed : ℕ) → (answer m ks (turns c l) allowed ≡ outOfVisits) ↔ (answer m ks l allowed ≡ outOfVisits)
   pub same-answer : NeverZero m l ks [] 0 start → (allowed : ℕ) → answer m ks (turns c l) allowed ≡ plusWord bits c (answer m ks l allowed)
 
--- By the all-ones word, where it is a word of the set, all readings are negated: as many visits and the same answer, with no premise at all.
+-- By the all-ones word, if it is a word of the set, all readings are negated: as many visits and the same answer, with no premise at all.
 pub record Demand3AllOnes (m : ℕ) (ks : List ℕ) (l : List ℤ) (bits : List ℕ) : Type 0 where
   pub all-negated : turns (allOnes m) l ≡ map negℤ l
   pub same-visits : needed m ks (map negℤ l) ≡ needed m ks l

@@ -23,7 +23,7 @@ pub never-zero-00 : NeverZero 0 (pos 3 ∷ []) (kinds 0 0) [] 0 start
 unfolding kinds kind ones digit tabulate NeverZero value walk
 never-zero-00 = (λ e. omega (arith, ap natAbs e), (λ e. tt), (λ e. tt))
 
--- where the only reading is 0 it is false
+-- if the only reading is 0 it is false
 pub zero-met-00 : NeverZero 0 (pos 0 ∷ []) (kinds 0 0) [] 0 start → ⊥
 unfolding kinds kind ones digit tabulate NeverZero value walk
 zero-met-00 n = n .0 refl

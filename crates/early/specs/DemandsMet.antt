@@ -195,7 +195,7 @@ module _ {r m : ℕ} {l : List ℤ} (bits word : List ℕ) (x : SoundSearch r m 
         word-added = λ z. quickWord-turned r m of-code (x .sound .r-small) inside l (x .entries .long) c w p;
       })
 
-  -- where the test does not pass: as the search, of whose answer only the word is kept
+  -- if the test does not pass: as the search, of whose answer only the word is kept
   module _ (p : passes r m of-code l ≡ false) where
     first-is : (allowed : ℕ) → answering r m allowed l bits word ≡ wordOnly (searching r m allowed l bits word)
     first-is allowed = failed-is bits word x allowed p

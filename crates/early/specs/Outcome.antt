@@ -1,4 +1,4 @@
--- What `early_within` reports and leaves, for every input (docs/RULES.md, §10): the quick reading where the test passes, else
+-- What `early_within` reports and leaves, for every input (docs/RULES.md, §10): the quick reading if the test passes, else
 -- what the search gives.
 use mathlib.Core.Bool.{cond}
 use mathlib.Core.List.{List}
@@ -32,7 +32,7 @@ outcomeOf a bits word = Search.outcomeOf (asSearched a) bits word
 abbrev pub wordOnly : Outcome → Outcome
 wordOnly o = cond (eqb (o .number) 0) (foundWith (o .penalty) 0 0 (o .bits) (o .word)) o
 
--- where tests 1 to 4 refuse nothing: the quick reading if the test passes, else by the search
+-- if tests 1 to 4 refuse nothing: the quick reading if the test passes, else by the search
 abbrev pub earlyBy : Code → ℕ → List ℤ → List ℕ → List ℕ → Outcome
 earlyBy c allowed l bits word =
     let ks = kinds (c .r) (c .m) in

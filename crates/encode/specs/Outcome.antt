@@ -16,7 +16,7 @@ use Rattle.code.specs.declared.Completed.{Completed}
 use Rattle.code.specs.declared.Completed.the-variants.{Done, Refused}
 
 pub record Outcome : Type 0 where
-  -- 0 where the call is done, else the refusal's number
+  -- 0 if the call is done, else the refusal's number
   pub number : ℕ
   -- the place that 4 and 5 carry, else 0
   pub place : ℕ
@@ -39,7 +39,7 @@ abbrev pub isGood : Made → Bool
 isGood (Good code) = true
 isGood Bad = false
 
--- tests 1 to 4 in their order, over an input of bits and a lent output with the lengths that they should have; `rest` where no test applies
+-- tests 1 to 4 in their order, over an input of bits and a lent output with the lengths that they should have; `rest` if no test applies
 unfoldable pub tested : ℕ → ℕ → List ℕ → ℕ → List ℕ → ℕ → Outcome → Outcome
 tested r m input long output room rest =
     let place = firstBadBit input in

@@ -34,17 +34,17 @@ FirstOrderDemand1 r m l bits word =
 pub record FirstOrderAsSearch (m : ℕ) (l : List ℤ) (bits word : List ℕ) : Type 0 where
   -- with any allowance at least as large as the whole tree the search reports and leaves the same, except for the visits
   pub as-search : (allowed : ℕ) → tree (kinds 1 m) ≤ allowed → firstOrdering 1 m l bits word ≡ withoutVisits (searching 1 m allowed l bits word)
-  -- so a tie is refused where the search refuses it, and 6 is never given
+  -- so a tie is refused exactly if the search refuses it, and 6 is never given
   pub never-out : (r : ℕ) → firstOrdering r m l bits word .number ≡ 6 → ⊥
   pub no-visits : (r : ℕ) → firstOrdering r m l bits word .visits ≡ 0
 
--- ---- Demands 2 and 3, where tests 1 to 4 find nothing
+-- ---- Demands 2 and 3, if tests 1 to 4 find nothing
 -- o is the call's outcome
 pub record FirstOrderDemand2 (m : ℕ) (l : List ℤ) (bits word : List ℕ) (o : Outcome) : Type 0 where
-  -- where the gap is not 0: the one word of least penalty, its bits, that penalty and the gap to the next best
+  -- if the gap is not 0: the one word of least penalty, its bits, that penalty and the gap to the next best
   pub answers : (o .number ≡ 0) ↔ (0 < gap m (kinds 1 m) l)
   pub best : o .number ≡ 0 → BestFound m (kinds 1 m) l (o .bits) (o .word) (o .penalty) (o .gap)
-  -- where it is 0: refused as tied, with the least penalty, which two words have
+  -- if it is 0: refused as tied, with the least penalty, which two words have
   pub tied : gap m (kinds 1 m) l ≡ 0 → o ≡ refused (Tied (leastPenalty m (kinds 1 m) l) 0) bits word
   pub two-have-it : gap m (kinds 1 m) l ≡ 0 → BestTied m (kinds 1 m) l (leastPenalty m (kinds 1 m) l)
 

@@ -27,7 +27,7 @@ pub struct Seen {
     pub second: u32,
 }
 
-// Writes the information bits and the word of least penalty of RM(1,m), where no other word has
+// Writes the information bits and the word of least penalty of RM(1,m), if no other word has
 // that penalty. There are no visits.
 pub fn first_order(r: u32, m: u32, readings: &[i16], bits: &mut [u8], word: &mut [u8]) -> Searched
     ensures { λ answer. ⌜ outcomeOf answer (now (bits .exit)) (now (word .exit))

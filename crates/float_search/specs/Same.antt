@@ -61,7 +61,7 @@ pub record FloatDemands (r m : ℕ) (f : List Float) (bits word : List ℕ) : Ty
   pub demand-1 : (allowed : ℕ) → SearchDemand1 r m allowed (wholes f) bits word
   pub larger : LargerAllowance r m (wholes f) bits word
   pub runner-up : (allowed : ℕ) → RunnerUpDemand r m allowed (wholes f) bits word
-  -- demands 2 and 3, where tests 1 to 4 find nothing
+  -- demands 2 and 3, if tests 1 to 4 find nothing
   pub demands : SoundSearch r m (wholes f) bits word → OutcomeDemands r m (wholes f) bits word
   -- demand 3 in floats
   pub demand-3 : SoundSearch r m (wholes f) bits word → (c : List ℕ) (w : Word m (kinds r m) c) (bits′ word′ : List ℕ)

@@ -80,7 +80,7 @@ pub record LargestTwo (h : List ℤ) (place best second : ℕ) : Type 0 where
   pub differs : other ≡ place → ⊥
   pub other-has : natAbs (getD h other (pos 0)) ≡ second
 
--- ---- the answer that they give, with these visits; the word is that of the place, with bit 1 exactly where its entry is negative
+-- ---- the answer that they give, with these visits; the word is that of the place, with bit 1 exactly if its entry is negative
 abbrev pub byPlace : ℕ → List ℤ → ℕ → ℕ → ℕ → ℕ → Answer
 byPlace m l place best second visits =
     let e = hard (entry m l place) in

@@ -30,7 +30,7 @@ pub record Doubled (h i x : ℕ) (l k : List ℕ) : Type 0 where
   pub same : Shows (λ j. getD l j 0) h k
   pub added : (j : ℕ) → j < i → getD k (h + j) 0 ≡ bitXor (getD l j 0) x
 
--- at v, the highest of the first n places where the entry is v; 0 where there is none
+-- at v, the highest of the first n places where the entry is v; 0 if there is none
 pub record Placed (n : ℕ) (images places : List ℕ) : Type 0 where
   pub is-place : Shows (λ v. whereIs (λ j. getD images j 0) v n) 256 places
 

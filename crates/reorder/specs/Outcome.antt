@@ -37,7 +37,7 @@ refused lent why = outcomeOf (Refused why) lent
 abbrev pub isLong : ℕ → ℕ → ℕ → Bool
 isLong m table row = eqb table (m * m) && eqb row m
 
--- 1, 2 and 3 in their order, by whether the inputs' and the outputs' lengths are right; `rest` where no test applies
+-- 1, 2 and 3 in their order, by whether the inputs' and the outputs' lengths are right; `rest` if no test applies
 abbrev pub sized : {B : Type 0} → B → ℕ → Bool → Bool → Outcome B → Outcome B
 sized lent m inputs outputs rest =
     cond (ltb largestM m) (refused lent Parameters)
@@ -52,7 +52,7 @@ mapTested lent maps rest = cond (not maps) (refused lent Map) rest
 abbrev pub entryTested : {B : Type 0} → B → ℕ → ℕ → Outcome B → Outcome B
 entryTested lent place n rest = cond (ltb place n) (refused lent (Entry place)) rest
 
--- ---- the outcomes where all lengths are right
+-- ---- the outcomes if all lengths are right
 -- from m, a table, a row, readings, and the buffer for the reordered readings
 abbrev pub reorderingLong : ℕ → List ℕ → List ℕ → List ℤ → List ℤ → Outcome (List ℤ)
 reorderingLong m A b l out =

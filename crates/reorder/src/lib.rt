@@ -118,7 +118,7 @@ fn test_sizes(m: u32, inputs: bool, outputs: bool) -> Sizes
     Sizes::Right
 }
 
-// The tests 11 and 4, and the work, where all lengths are right.
+// The tests 11 and 4, and the work, if all lengths are right.
 fn reorder_long(m: usize, table: &[u8], row: &[u8], readings: &[i16], out: &mut [i16]) -> Completed
     requires { ⌜ Mapped m (now table) (now row)
         × (length (now readings) ≡ 2 ^ m) × (length (now out) ≡ 2 ^ m) ⌝ }

@@ -45,7 +45,7 @@ runnerUpOutcomeOf a bits word = record { outcome = outcomeOf (a .result) bits wo
 abbrev pub withNone : Searched → WithRunnerUp
 withNone a = record { result = a; «runner_up» = replicate 256 0 }
 
--- where tests 1 to 4 refuse nothing, over the words of any row of kinds: by the answer
+-- if tests 1 to 4 refuse nothing, over the words of any row of kinds: by the answer
 abbrev pub runnerUpOutcomeBy : ℕ → List ℕ → List ℤ → ℕ → List ℕ → List ℕ → RunnerUpOutcome
 runnerUpOutcomeBy m ks l allowed bits word = shownWith (runnerUp m ks l) (byAnswer allowed bits word (answer m ks l allowed))
 

@@ -99,7 +99,7 @@ module _ (t : Telegram) where
   own-reader marker = own-before (markerFault marker) (tiltFault t) (cond-by Own (eqb marker 0) Good (Bad Marker) (λ e. tt) (λ e. omega arith)) own-tilt
 
 -- ---- the telegrams that have no fault
--- 0 where the tests find nothing, else the fault's number
+-- 0 if the tests find nothing, else the fault's number
 abbrev testNumber : Tested → ℕ
 testNumber Good = 0
 testNumber (Bad why) = faultNumber why

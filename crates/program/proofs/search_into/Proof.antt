@@ -35,7 +35,7 @@ module _ (r : tie.After-search-framed) where
       searched-result (g .args .s .now) (g .args .code) bits (r .search-framed .last .1 .1 .1 .1 .0) (g .args .bits .now) (g .args .word .now)
       (g .pre .0 .0) (g .pre .0 .1) (g .pre .0 .2) (r .search-framed .result .result) (ap (λ (o : RunnerUpOutcome). o .outcome) (r .search-framed .ensures))
 
--- and where it is an answer
+-- and if it is an answer
 module _ (c : tie.After-known-told) where
   abbrev at-search : tie.After-search-framed
   at-search = c .before .before .before .before .before .before .before
