@@ -119,7 +119,7 @@ static answer product_map(uint32_t m, const map *a, size_t tn, size_t rn, const 
          ron);
 }
 
-/* nothing but a refusal's number and place is told, and nothing is written */
+/* nothing but a refusal's number and place is reported, and nothing is written */
 static void refused(answer a, uint32_t number, size_t place) {
     CHECK(a.refusal == number && a.place == place, "%u at %u, not %u at %zu", a.refusal, a.place,
           number, place);

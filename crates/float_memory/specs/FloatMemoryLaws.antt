@@ -1,4 +1,4 @@
--- Laws of the memory's arrays where the sums are floats: what is read of them. The laws of `memory` do the rest.
+-- Laws of the memory's arrays where the sums are floats: what is read from them. The laws of `memory` do the rest.
 use mathlib.Core.Path.{_≡_, ap, sym, _∙_, subst}
 use mathlib.Core.List.{List}
 use Prim.Native.Nat.{ℕ, suc, _+_, _-_, _^_, _≤_, _<_}
@@ -41,7 +41,7 @@ single-read {m = m} {i = i} {y = y} l₀ {s = s} z long =
     let e = single-value {i = i} {y = y} (wholes l₀) {s = s} z in
     (wholes-entry l₀ 0 nan (pos 0) some ∙ e .0, e .1)
 
--- where the row of 2^t sums is the highest that changes: it and those below it, made by straight code
+-- if the row of 2^t sums is the highest that changes: it and those below it, made by straight code
 module _ {m j i t : ℕ} {y : List ℕ} {l : List ℤ} (s : List Float) (v : ValueReady m l y j i (wholes s)) (top : Top m j i t)
     (long : length s ≡ 256) (path : length y ≡ 256) (more : suc t < m) where
   arrays : Arrays (wholes s) y
