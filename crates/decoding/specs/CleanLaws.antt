@@ -147,7 +147,7 @@ module _ (r m : ℕ) (below : r ≤ m) (c : List ℕ) (w : Word m (kinds r m) c)
       (clean-apart m ks e bits c w s above (sum-kinds-pos r m) (2 ^ (m - r)) (λ x u z. distance-least r m c x below w u z))
 
   -- so noise whose sizes add up to less than s × 2^(m-r) is corrected, wherever it falls
-  pub noise-borne : (l : List ℤ) → length l ≡ 2 ^ m → drift (clean s c) l < s * 2 ^ (m - r) → (bestWord m (kinds r m) l ≡ c) × (0 < gap m (kinds r m) l)
-  noise-borne l e small =
+  pub noise-corrected : (l : List ℤ) → length l ≡ 2 ^ m → drift (clean s c) l < s * 2 ^ (m - r) → (bestWord m (kinds r m) l ≡ c) × (0 < gap m (kinds r m) l)
+  noise-corrected l e small =
       let kept = undrifted-code r m (clean s c) l (long-clean m (kinds r m) (length-kinds r m) (bits-kinds r m) c w s above) e (rw clean-gap small) in
       (kept .same-word ∙ clean-best-code .clean-word, kept .gap-left)

@@ -56,9 +56,9 @@ module _ (r m : ℕ) (ks : List ℕ) (l : List ℤ) (e : length l ≡ 2 ^ m) (f 
       rw (penalty-negated m l x e long-x bits-x, ← (v .gives)) (others-more m js l (sum-kinds-pos r m) (v .bits) (v .long, v .are-bits) other)
 
   -- so the search over the smaller set has a least penalty that is larger by the gap, for the wrong sign
-  pub sign-told : leastPenalty m ks l + gap m (kinds r m) l ≤ leastPenalty m ks (map negℤ l)
+  pub sign-shown : leastPenalty m ks l + gap m (kinds r m) l ≤ leastPenalty m ks (map negℤ l)
   unfolding bestWord
-  sign-told =
+  sign-shown =
       let negated = map negℤ l in
       let b = best-bits-are m ks negated in
       let here : leastPenalty m ks l ≤ penalty l (bestWord m (kinds r m) l) =

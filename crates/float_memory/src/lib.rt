@@ -6,7 +6,7 @@ ghost use lib.ListN.{length, take};
 ghost use Rattle.decoding.specs.Readings.{sizes, sumLimit};
 ghost use Rattle.decoding.specs.Walk.{value};
 ghost use Rattle.rows.specs.Rows.{rowOf, withRow};
-ghost use Rattle.memory.specs.Memory.{below, newRow, remade, Arrays, Made, Stands};
+ghost use Rattle.memory.specs.Memory.{below, newRow, remade, Arrays, Made, RowsFor};
 ghost use Rattle.memory.specs.Memory.{LowReady, RowsReady, ValueReady};
 ghost use Rattle.float_numbers.specs.Whole.{wholeOf, wholes};
 
@@ -146,7 +146,7 @@ fn any_value(
         (wholes (now rows)) ⌝ }
     ensures { λ r. ⌜ (wholeOf r
         ≡ value m (take (2 ^ m) (wholes (now (readings .entry)))) (take i (now (path .entry))))
-        × Stands m (take (2 ^ m) (wholes (now (readings .entry)))) (now (path .entry)) i i
+        × RowsFor m (take (2 ^ m) (wholes (now (readings .entry)))) (now (path .entry)) i i
         (wholes (now (rows .exit))) ⌝ }
 {
     if m == 0 {
@@ -173,7 +173,7 @@ pub fn value(
         (wholes (now rows)) ⌝ }
     ensures { λ r. ⌜ (wholeOf r
         ≡ value m (take (2 ^ m) (wholes (now (readings .entry)))) (take i (now (path .entry))))
-        × Stands m (take (2 ^ m) (wholes (now (readings .entry)))) (now (path .entry)) i i
+        × RowsFor m (take (2 ^ m) (wholes (now (readings .entry)))) (now (path .entry)) i i
         (wholes (now (rows .exit))) ⌝ }
 {
     if m < 4 {

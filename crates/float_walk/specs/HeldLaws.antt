@@ -33,7 +33,7 @@ module _ (h : Penalties) where
   unfolding over
   visit-over {σ} v =
       let w = seen σ in
-      record { tells = v .tells; shows = record { long = refl; is = ap over (v .shows .is) ∙ either (allows w) (more w) (stopped w) } }
+      record { answers = v .answers; shows = record { long = refl; is = ap over (v .shows .is) ∙ either (allows w) (more w) (stopped w) } }
 
   pub asked-over : {l s : List ℤ} {y σ : List ℕ} {i : ℕ} → length σ ≡ 8 → ValueAsked l s y (eightOf h σ) i → ValueAsked l s y σ i
   asked-over long a = record { long = long; ready = a .ready }

@@ -107,7 +107,7 @@ fn value_at(
         (now (state .entry)) i (wholeOf r) (wholes (now (rows .exit))) (now (state .exit)) ⌝ }
 {
     let m = state[walk::EXPONENT];
-    let was = walk::stands(state, i);
+    let was = walk::made_for(state, i);
     float_memory::value(readings, rows, path, word, walk::wide(m), was, i)
 }
 
