@@ -1,9 +1,10 @@
 /* Stack and instructions of calls on a controller without an operating system, in qemu with
  * `-icount shift=0`, where an instruction takes 1 ns of the emulated time. On the Cortex-M boards
- * mps2-an385, an386 and an500 a timer counts at 25 MHz, so that a tick is 40 instructions; RISC-V
- * counts instructions itself. Instructions are not cycles: a real core waits for its flash, its
- * loads and its branches. bench/boxes runs this; it prints the lines of bench/stack.c, and lines
- * that begin with "time": visits, instructions, what was called. */
+ * mps2-an385, an386 and an500 a timer counts at 25 MHz, so that a tick is 40 instructions, and on
+ * mps2-an505 at 20 MHz, 50 instructions; RISC-V counts instructions itself. Instructions are not
+ * cycles: a real core waits for its flash, its loads and its branches. bench/boxes runs this; it
+ * prints the lines of bench/stack.c, and lines that begin with "time": visits, instructions, what
+ * was called. */
 #include "../examples/box/box.h"
 #include "calls.h"
 
@@ -15,9 +16,15 @@ static uint32_t now(void) {
 }
 #define STACK_POINTER "mv %0, sp"
 #else
-#define TIMER ((volatile uint32_t *)0x40000000u) /* 0: control, 1: value, which falls, 2: reload   \
-                                                  */
-static uint32_t now(void) { return 40 * (UINT32_MAX - TIMER[1]); }
+/* 0: control, 1: value, which falls, 2: reload */
+#if defined(__ARM_ARCH_8M_MAIN__)
+#define TIMER ((volatile uint32_t *)0x50000000u)
+#define A_TICK 50
+#else
+#define TIMER ((volatile uint32_t *)0x40000000u)
+#define A_TICK 40
+#endif
+static uint32_t now(void) { return A_TICK * (UINT32_MAX - TIMER[1]); }
 #define STACK_POINTER "mov %0, sp"
 #endif
 

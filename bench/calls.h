@@ -1,5 +1,5 @@
-/* The calls whose stack and time are measured, each at its deepest: m = 8, a telegram m = 5. What
- * they are given stands in memory of their own, so that nothing of it is on the stack. */
+/* The calls whose stack and time are measured, each at its deepest: m = 8, a telegram m = 5. Their
+ * arguments are in memory of their own, so that nothing of it is on the stack. */
 #ifndef CALLS_H
 #define CALLS_H
 #include "../include/cinorbis.h"

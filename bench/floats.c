@@ -111,7 +111,7 @@ static int figures(uint32_t r, uint32_t m) {
 }
 
 int main(void) {
-    puts("| search, random readings | floats, ns a visit | whole numbers | ratio | plain C in "
+    puts("| search, random readings | floats, ns per visit | whole numbers | ratio | plain C in "
          "floats | ratio |");
     puts("|---|---|---|---|---|---|");
     return figures(4, 8) | figures(3, 8) | figures(2, 8) | figures(2, 5);

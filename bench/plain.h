@@ -63,7 +63,7 @@ static inline int32_t plain_upper(int32_t x, int32_t y, uint8_t a) {
     return a == 0 ? y + x : y - x;
 }
 
-/* the row of 2h sums stands at rows + 2h, the half's row goes to rows + h */
+/* the row of 2h sums is at rows + 2h, the half's row goes to rows + h */
 static void plain_lower_row(int32_t *restrict rows, size_t h) {
     for (size_t j = 0; j < h; j++) rows[h + j] = plain_lower(rows[2 * h + j], rows[3 * h + j]);
 }
@@ -138,7 +138,7 @@ typedef struct {
     int out;
 } plain_state;
 
-/* makes all rows below the row of n sums stand for index i of its block */
+/* makes all rows below the row of n sums, for index i of its block */
 static void plain_make_rows(int32_t *rows, const uint8_t *half, size_t n, size_t i) {
     for (size_t h = n / 2; h > 0; h /= 2) {
         if (i < h) {
@@ -151,8 +151,8 @@ static void plain_make_rows(int32_t *rows, const uint8_t *half, size_t n, size_t
     }
 }
 
-/* the value at index i of the path; where fresh the rows stand for the index before, and only those
- * of blocks that start at i change */
+/* the value at index i of the path; where fresh the rows are those of the index before, and only
+ * those of blocks that start at i change */
 static int32_t plain_value(const int16_t *l, int32_t *rows, const uint8_t *half, size_t n,
                            int fresh, size_t i) {
     if (n == 1) return l[0];

@@ -34,7 +34,7 @@ def table(data, path):
         "# How the search's cost grows",
         "",
         "`bench/run grow`: the search with the default allowance, 200,000 visits, of 64 random words for each code and noise.",
-        "The columns are mean visits, mean time a word, and how many words ran out of visits.",
+        "The columns are mean visits, mean time per word, and how many words ran out of visits.",
         "Noise is normal, as a multiple of the word's size.",
         f"Visits are those of the written walk, the same on every machine; times are of one run on {machine()}, not emulated.",
         "",

@@ -1,4 +1,4 @@
-"""bench/rows.py [WORDS]: noisy words of RM(2,5) searched from Python: a call a word, and the loop in C by one thread and by all.
+"""bench/rows.py [WORDS]: noisy words of RM(2,5) searched from Python: one call per word, and the loop in C by one thread and by all.
 
 Needs the package cinorbis (tools/wheel). The sides take turns, the least of five rounds counts, and all must agree."""
 

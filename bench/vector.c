@@ -119,7 +119,7 @@ int vector_encode(uint32_t r, uint32_t m, const uint8_t *bits, size_t k, uint8_t
     return 0;
 }
 
-/* ---- rows: the row of n sums stands at rows + n */
+/* ---- rows: the row of n sums is at rows + n */
 static inline int32_t vector_lower(int32_t x, int32_t y) {
     int32_t least = x < y ? x : y, most = x < y ? y : x;
     return least > -most ? least : -most;
@@ -211,7 +211,7 @@ int vector_quick(uint32_t r, uint32_t m, const int16_t *l, size_t ll, uint8_t *b
     return 0;
 }
 
-/* ---- search: the path holds the bits u; the rows stand for index `at` */
+/* ---- search: the path holds the bits u; the rows are those of index `at` */
 typedef struct {
     const int16_t *l;
     const uint8_t *kinds;

@@ -16,7 +16,7 @@ import sys
 TOP = os.path.join(os.path.dirname(os.path.abspath(__file__)), "..")
 
 # The program has no public function: these say how it runs and what it writes.
-PROGRAM = [("spec", "crates/cinorbis/specs/Runs.antt", name) for name in ("Ran", "Tells")]
+PROGRAM = [("spec", "crates/cinorbis/specs/Runs.antt", name) for name in ("Ran", "HandsOver")]
 
 
 def read(path):
@@ -324,7 +324,7 @@ def show(names):
     for path in reach.order():
         print(f"==== {path}\n\n{reach.text(path)}\n")
     for call in wanted:
-        print(f"==== {call}\n\n{known[call][0] or 'Ran, of what one run leaves, and Tells, of what it has written'}\n")
+        print(f"==== {call}\n\n{known[call][0] or 'Ran, of what one run leaves, and HandsOver, of what it has written'}\n")
     print(amount({key: item.lines for key, item in reach.items.items()}))
 
 

@@ -62,7 +62,7 @@ export class Capture {
             [bytes.buffer]);
     }
 
-    /* each worker tells this before anything else; the first one counts */
+    /* each worker reports this before anything else; the first one counts */
     loaded({ records, used, ended }) {
         const { state } = this;
         if (state.loaded) return;
@@ -206,7 +206,7 @@ export class Capture {
         state.counts = countInto(counts, state, 0, state.done, this.limit);
     }
 
-    /* lists anew, and keeps the chosen record in the list if it is still there */
+    /* lists again, and keeps the chosen record in the list if it is still there */
     refilter(top) {
         const { state, list } = this;
         this.rows = listed(state, this.limit);

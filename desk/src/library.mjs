@@ -78,7 +78,7 @@ export class Library {
 
     /* ---- memory */
 
-    /* makes the views anew after the memory has grown to hold `end` bytes */
+    /* makes the views again after the memory has grown to hold `end` bytes */
     reach(end) {
         const more = end - this.memory.buffer.byteLength;
         if (more > 0) this.memory.grow(Math.ceil(more / 65536));

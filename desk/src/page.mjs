@@ -54,12 +54,12 @@ function worker() {
     const source = new Blob([byId('worker-source').textContent], { type: 'text/javascript' });
     const made = new Worker(URL.createObjectURL(source));
     made.onerror = (e) => stopped(e.message);
-    made.onmessage = ({ data }) => told(made, data);
+    made.onmessage = ({ data }) => received(made, data);
     return made;
 }
 
 /* what belongs to a capture that is no longer open is dropped */
-function told(from, data) {
+function received(from, data) {
     const { capture, hand } = desk;
     if (data.kind === 'ready') return ready(from, data);
     if (data.kind === 'fault') return stopped(data.text);

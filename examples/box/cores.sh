@@ -6,11 +6,16 @@ CORES="cortex-m0plus cortex-m3 cortex-m4 cortex-m7 cortex-m33 rv32imac rv32imafc
 
 # core CPU: sets gcc (the compiler), core (its words for the processor), emulator (the command that
 # runs a program, up to its options), flash and ram (where the emulated board has them) and packages
-# (of Debian). FLOAT is as in tools/archive. Returns 1, having said so, for an unknown core.
+# (of Debian). FLOAT is as in tools/archive. Returns 1, having said so, for an unknown core or
+# FLOAT.
 core() {
     gcc=arm-none-eabi-gcc emulator=qemu-system-arm flash=0x00000000 ram=0x20000000
     packages="gcc-arm-none-eabi libnewlib-arm-none-eabi qemu-system-arm"
     arm="-mcpu=$1 -mthumb"
+    case ${FLOAT:-hard} in
+    hard | softfp | soft) ;;
+    *) echo "FLOAT is hard, softfp or soft, not $FLOAT" >&2 && return 1 ;;
+    esac
     case $1 in
     cortex-m0plus) core="$arm -mfloat-abi=soft" board=microbit ;;
     cortex-m3) core="$arm -mfloat-abi=soft" board=mps2-an385 ;;

@@ -174,7 +174,7 @@ fact('none after the last', nextTrouble(state, sea.records - 1, 1, 200), -1);
 const torn = { ...state, ended: 8, rows: sea.records + 1, show: 'refused', order: false };
 fact('what is torn off is refused', Array.from(listed(torn, 200)), [...refused, sea.records]);
 
-/* ---- the stack of the module, which lies from 0 on: painted, it is used to a quarter at the most */
+/* ---- the stack of the module, which starts at 0: painted, it is used to a quarter at the most */
 
 const STACK = 262144;
 let deepest = 0;

@@ -1,4 +1,4 @@
-/* The standing allowance (C-17). The stored record tests/captures/long_walk.bin needs more visits
+/* The default allowance (C-17). The stored record tests/captures/long_walk.bin needs more visits
  * than the short calls allow and fewer than the program: its readings, taken from its bytes here,
  * are searched by the short calls, with the program's allowance, and just at the border, against
  * the walk by its text. And whatever is answered or tied under some allowance stays so, number by

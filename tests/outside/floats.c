@@ -25,7 +25,7 @@ static float by_bits(uint32_t bits) {
     return x;
 }
 
-/* a whole number in range, told by the bits alone: sign, exponent, and no 1 below the point */
+/* a whole number in range, judged by the bits alone: sign, exponent, and no 1 below the point */
 static int is_reading(uint32_t bits) {
     uint32_t size = bits & 0x7fffffff, exponent = size >> 23, fraction = size & 0x7fffff;
     if (size == 0) return 1;

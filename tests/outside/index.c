@@ -267,15 +267,15 @@ static void fronts(void) {
     for (int t = 0; t < 1000; t++) {
         cinorbis_size n = any_bytes(t % 5), count, used;
         uint32_t ended = at_front(capture + EDGE, n, starts, &count, &used);
-        cinorbis_size due = (count + 15) / 16;
+        cinorbis_size needed = (count + 15) / 16;
         cinorbis_front front;
-        for (cinorbis_size room = 0; room <= due; room++) {
+        for (cinorbis_size room = 0; room <= needed; room++) {
             memset(&front, 0xA5, sizeof front);
             keep();
             CHECK(cinorbis_index_front(capture + EDGE, n, table + EDGE, room, &front) ==
-                      (room < due ? 3u : 0u),
-                  "%" PRI_SIZE " entries of %" PRI_SIZE, room, due);
-            if (room < due)
+                      (room < needed ? 3u : 0u),
+                  "%" PRI_SIZE " entries of %" PRI_SIZE, room, needed);
+            if (room < needed)
                 CHECK(kept() && front.index.records == 0 && front.index.used == 0 &&
                           front.ended == 0,
                       "written under 3");
@@ -293,7 +293,7 @@ static void carried_on(void) {
     for (int t = 0; t < 300; t++) {
         cinorbis_size n = any_bytes(1 + t % 4);
         cinorbis_front front;
-        cinorbis_index afresh;
+        cinorbis_index fresh;
         cinorbis_written w;
         CHECK(cinorbis_index_front(capture + EDGE, n, table + EDGE, ENTRIES, &front) == 0,
               "refused");
@@ -306,10 +306,10 @@ static void carried_on(void) {
         }
         keep();
         CHECK(cinorbis_index_make(capture + EDGE, front.index.used, table + EDGE, ENTRIES,
-                                  &afresh) == 0,
-              "not made afresh");
-        CHECK(kept() && memcmp(&afresh, &front.index, sizeof afresh) == 0,
-              "another index or table afresh");
+                                  &fresh) == 0,
+              "not made");
+        CHECK(kept() && memcmp(&fresh, &front.index, sizeof fresh) == 0,
+              "another index or table when made from scratch");
     }
     end();
 }
@@ -367,7 +367,7 @@ static void pads(void) {
 }
 
 static void appends(void) {
-    begin("appends one after another: both buffers, the index, and the same made afresh");
+    begin("appends one after another: both buffers, the index, and the same made from scratch");
     for (int t = 0; t < 12; t++) {
         scramble();
         cinorbis_index index = {0, 0};
@@ -378,7 +378,7 @@ static void appends(void) {
             int16_t l[4];
             cinorbis_size n = (cinorbis_size)1 << m, k = bytes_of((uint8_t)(16 * m + r));
             for (cinorbis_size i = 0; i < n; i++) l[i] = (int16_t)random_between(-2047, 2047);
-            cinorbis_index before = index, afresh;
+            cinorbis_index before = index, fresh;
             cinorbis_written w;
             memset(&w, 0xA5, sizeof w);
             keep();
@@ -405,11 +405,11 @@ static void appends(void) {
             memcpy(capture + EDGE + before.used, record, k);
             if (before.records % 16 == 0) table[EDGE + before.records / 16] = before.used;
             keep();
-            CHECK(cinorbis_index_make(capture + EDGE, index.used, table + EDGE, entries, &afresh) ==
+            CHECK(cinorbis_index_make(capture + EDGE, index.used, table + EDGE, entries, &fresh) ==
                       0,
-                  "not made afresh");
-            CHECK(kept() && afresh.records == index.records && afresh.used == index.used,
-                  "another index or table afresh");
+                  "not made");
+            CHECK(kept() && fresh.records == index.records && fresh.used == index.used,
+                  "another index or table when made from scratch");
         }
     }
     end();

@@ -1,5 +1,5 @@
 /* docs/RULES.md written down as plainly as C allows, for comparing: brute force over all words, and
- * the walk by its text. It shares nothing with the library. Values are computed anew from the
+ * the walk by its text. It shares nothing with the library. Values are computed again from the
  * readings for every visit, which is slow and simple. */
 #ifndef REFERENCE_H
 #define REFERENCE_H

@@ -119,7 +119,7 @@ static answer product_map(uint32_t m, const map *a, size_t tn, size_t rn, const 
          ron);
 }
 
-/* nothing but a refusal's number and place is told, and nothing is written */
+/* nothing but a refusal's number and place is reported, and nothing is written */
 static void refused(answer a, uint32_t number, size_t place) {
     CHECK(a.refusal == number && a.place == place, "%u at %u, not %u at %zu", a.refusal, a.place,
           number, place);
@@ -165,23 +165,29 @@ static void reorders(const map *a) {
     CHECK(only_first(&first, 2 * n) && only_first(&second, n), "wrote outside");
 }
 
+/* the call gave this map, and wrote nothing else, or refused where there is none */
+static void gives(answer r, const map *made) {
+    if (!made) {
+        refused(r, CINORBIS_MAP, 0);
+        return;
+    }
+    size_t m = (size_t)made->m;
+    done(r);
+    CHECK(memcmp(contents(&first), made->table, square(made)) == 0 &&
+              memcmp(contents(&second), made->row, m) == 0,
+          "another map");
+    CHECK(only_first(&first, square(made)) && only_first(&second, m), "wrote outside");
+}
+
 /* the undo map is the one that elimination gives, or the map is refused */
 static void undoes(const map *a) {
     uint32_t m = (uint32_t)a->m;
     map u;
     int good = undone(a, &u);
     both_armed();
-    answer r = undo_map(m, a->table, square(a), a->row, m, contents(&first), square(a),
-                        contents(&second), m);
-    if (!good) {
-        refused(r, CINORBIS_MAP, 0);
-        return;
-    }
-    done(r);
-    CHECK(memcmp(contents(&first), u.table, square(a)) == 0 &&
-              memcmp(contents(&second), u.row, m) == 0,
-          "another undo map");
-    CHECK(only_first(&first, square(a)) && only_first(&second, m), "wrote outside");
+    gives(undo_map(m, a->table, square(a), a->row, m, contents(&first), square(a),
+                   contents(&second), m),
+          good ? &u : NULL);
 }
 
 static void multiplies(const map *a, const map *b) {
@@ -189,17 +195,9 @@ static void multiplies(const map *a, const map *b) {
     map u, v, c = product(a, b);
     int good = undone(a, &u) && undone(b, &v);
     both_armed();
-    answer r = product_map(m, a, square(a), m, b, square(b), m, contents(&first), square(a),
-                           contents(&second), m);
-    if (!good) {
-        refused(r, CINORBIS_MAP, 0);
-        return;
-    }
-    done(r);
-    CHECK(memcmp(contents(&first), c.table, square(a)) == 0 &&
-              memcmp(contents(&second), c.row, m) == 0,
-          "another product");
-    CHECK(only_first(&first, square(a)) && only_first(&second, m), "wrote outside");
+    gives(product_map(m, a, square(a), m, b, square(b), m, contents(&first), square(a),
+                      contents(&second), m),
+          good ? &c : NULL);
 }
 
 /* all 512 tables and 8 rows: 168 × 8 maps can be undone */

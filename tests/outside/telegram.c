@@ -190,7 +190,7 @@ static void with_noise(void) {
             both_ways(i % 5 == 0 ? (uint32_t)random_between(0, 300) : CINORBIS_DEFAULT_ALLOWANCE,
                       l);
             heard h = read_default(l, 32);
-            CHECK(h.a.refusal != 6, "the standing allowance was too small");
+            CHECK(h.a.refusal != 6, "the default allowance was too small");
             /* noise below the signal spoils nothing that the sign shows */
             if (noise[k] < 100) shows(h, c, d, t);
         }
@@ -202,7 +202,7 @@ static void with_noise(void) {
         int most = i % 3 == 0 ? LARGEST : i % 3 == 1 ? 2 : 40;
         for (int j = 0; j < 32; j++) l[j] = (int16_t)random_between(-most, most);
         both_ways(i % 4 == 0 ? (uint32_t)random_between(0, 2000) : CINORBIS_DEFAULT_ALLOWANCE, l);
-        CHECK(read_default(l, 32).a.refusal != 6, "the standing allowance was too small");
+        CHECK(read_default(l, 32).a.refusal != 6, "the default allowance was too small");
     }
     CHECK(met[0] && met[6] && met[7] && met[13] && met[14], "not met: %lu %lu %lu %lu %lu", met[0],
           met[6], met[7], met[13], met[14]);
@@ -354,7 +354,7 @@ static void reader_refusals(void) {
     memset(l, 0, sizeof l);
     shows_nothing(read_default(l, 32), 7, 0, 32 + 16, 0);
     end();
-    begin("the whole tree is below the standing allowance");
+    begin("the whole tree is below the default allowance");
     CHECK(ref_tree(2, 5) == 131759 && ref_tree(2, 5) <= CINORBIS_DEFAULT_ALLOWANCE, "%llu visits",
           ref_tree(2, 5));
     end();

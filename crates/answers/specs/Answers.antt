@@ -10,7 +10,7 @@ use Rattle.search.specs.declared.Searched.{Searched}
 use Rattle.search.specs.declared.Searched.the-variants.{Found, Refused}
 use Rattle.answers.specs.Reported.{numbers}
 
--- ---- of a header, beside a packed part of so many bytes
+-- ---- of a header, beside a packed part of this many bytes
 abbrev pub headerNumber : Header → ℕ
 headerNumber h = Reader.outcomeOf h .carry .number
 

@@ -60,7 +60,7 @@ reported-entry answer header start part out returned e f g =
     ap₂ (λ (n : ℕ) (l : List ℕ). reported n l []) f g
     ∙ ap (λ (k : Located). reported (headerNumber (k .header)) (entryNumbers (k .header) (k .start) (k .length)) []) e
 
--- what is handed over of an append, by the variant that it is
+-- what an append reports, by its variant
 pub handed-append : (before : List ℕ) (answer a : Indexed) (returned : ℕ) (after out : List ℕ) → answer ≡ a
     → returned ≡ indexedNumber a → after ≡ pairAfter before a → out ≡ appendedNumbers a
     → (returned ≡ indexedNumber answer) × (after ≡ pairAfter before answer) × (out ≡ appendedNumbers answer)

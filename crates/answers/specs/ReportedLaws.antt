@@ -24,7 +24,7 @@ use Rattle.answers.specs.Answers.{readNumber, readNumbers, searchedNumbe
 abbrev beside : Search.Outcome → List ℕ → RunnerUpOutcome
 beside o x = record { outcome = o; runnerUp = x }
 
--- what is handed over of an answer, by the variant that it is
+-- what an answer reports, by its variant
 pub handed : {A : Type 0} (number : A → ℕ) (numbersOf : A → List ℕ) (answer a : A) (returned : ℕ) (out : List ℕ) → answer ≡ a
     → returned ≡ number a → out ≡ numbersOf a → (returned ≡ number answer) × (out ≡ numbersOf answer)
 handed number numbersOf answer a returned out e f g = (rw e f, rw e g)

@@ -17,7 +17,7 @@ abbrev pub writtenNumber : Written → ℕ
 writtenNumber Done = 0
 writtenNumber (Refused why) = faultCarries why .number
 
--- an outcome of the writer, whose refusals carry no more than their number
+-- an outcome of the writer, whose refusals carry only their number
 abbrev pub shownWritten : WriteOutcome → Reported
 shownWritten o = reported (o .carry .number) (numbers 0 0 0 0) (o .word ∷ [])
 

@@ -33,7 +33,7 @@ pub fn put_numbers(out: &mut [u64; 4], penalty: u32, gap: u32, visits: u32, plac
     *out = [penalty as u64, gap as u64, visits as u64, place as u64];
 }
 
-// A refusal by a call whose refusals show their place alone.
+// A refusal by a call whose refusals show only their place.
 fn put_place(why: Refusal, out: &mut [u64; 4]) -> u32
     ensures { λ number. ⌜ (number ≡ carried why .number)
         × (now (out .exit) ≡ numbers 0 0 0 (carried why .place)) ⌝ }
@@ -97,7 +97,7 @@ pub fn put_searched(answer: Searched, out: &mut [u64; 4]) -> u32
     }
 }
 
-// An answer with a runner-up, which goes into the lent bytes, zeros as they are.
+// An answer with a runner-up, which goes into the lent bytes, zeros included.
 pub fn put_with_runner_up(
     answer: WithRunnerUp,
     runner_up: &mut [u8; 256],
@@ -172,7 +172,7 @@ pub fn put_wrote(answer: record::Written, out: &mut [u64; 2]) -> u32
     }
 }
 
-// A telegram's writer reports no more than its number.
+// A telegram's writer reports only its number.
 pub fn put_written(answer: telegram::Written, out: &mut [u64; 4]) -> u32
     ensures { λ number. ⌜ (number ≡ writtenNumber answer) × (now (out .exit) ≡ numbers 0 0 0 0) ⌝ }
 {

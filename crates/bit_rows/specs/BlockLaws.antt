@@ -1,4 +1,4 @@
--- Laws of a list taken block by block, and of a loop that takes a block a pass.
+-- Laws of a list taken block by block, and of a loop that takes one block per pass.
 use mathlib.Core.Path.{_≡_, refl, ap, sym, _∙_, subst}
 use mathlib.Core.List.{List, _++_, append-assoc}
 use Prim.Native.Nat.{ℕ, zero, suc, _+_, _*_, _-_, _^_, _/_, _≤_, _<_, zero-le}
@@ -65,7 +65,7 @@ module _ (f : List ℕ → List ℕ) (b : ℕ) where
     unfolding blocks
     bits-blocks x = bits-first-blocks (length x / b) x (div-mul-le-self (length x) b)
 
--- a fold and a transform keep so
+-- a fold and a transform do so
 pub keeps-folded : (h : ℕ) → Keeps (folded h) (h + h)
 keeps-folded h = record {
   long = λ x e.
@@ -78,7 +78,7 @@ keeps-folded h = record {
 pub keeps-transform : (k : ℕ) → Keeps (transform k) (2 ^ k)
 keeps-transform k = record { long = length-transform k; bits = λ x e. bits-transform k x }
 
--- ---- a loop that takes a block a pass, from the front; the blocks before s are done
+-- ---- a loop that takes one block per pass, from the front; the blocks before s are done
 pub record Blockwise (f : List ℕ → List ℕ) (b : ℕ) (x word : List ℕ) (s : ℕ) : Type 0 where
   pub within : s ≤ length word
   pub same : length word ≡ length x

@@ -1,4 +1,4 @@
--- The kinds of eight indices in a row, and what filling a code's row eight at a time asks.
+-- The kinds of eight indices in a row, and what filling a code's row eight at a time requires.
 use mathlib.Core.Path.{_≡_}
 use mathlib.Core.Bool.{cond}
 use mathlib.Core.List.{List}

@@ -131,7 +131,7 @@ bits-eightKinds d i =
     (λ h. rw (List·getD-eq-default (tabulate f 8) 0 {n = i} (rw (length-tabulate f 8) h)) (omega arith))
     (lt-or-le i 8)
 
--- ---- a loop that fills eight indices a pass: those before s are filled and took `used` bits
+-- ---- a loop that fills eight indices per pass: those before s are filled and took `used` bits
 pub record ByEights (r m : ℕ) (bits row : List ℕ) (s used : ℕ) : Type 0 where
   pub whole : s % 8 ≡ 0
   pub within : s ≤ 2 ^ m
@@ -151,7 +151,7 @@ module _ (r m : ℕ) (bits row : List ℕ) (s used : ℕ) (w : ByEights r m bits
       ∙ w .is
 
   module _ (eight : 3 ≤ m) (more : s < 2 ^ m) where
-    -- a block is there as a whole
+    -- a whole block is there
     pub block-within : s + 8 ≤ 2 ^ m
     block-within =
         let q : 3 + (m - 3) ≡ m = omega arith in
@@ -197,7 +197,7 @@ module _ (r m : ℕ) (bits row : List ℕ) (s used : ℕ) (w : ByEights r m bits
           room = omega (arith, sums, w .room);
         }
 
-    -- the same of the parts that are lent, where code has counted the ones of s
+    -- the same for the parts that are lent, when the code has counted the ones of s
     module _ (d : ℕ) (counted : d ≡ m - r - Count.ones s) where
       is-needed : d ≡ m - r - ones m s
       is-needed = counted ∙ ap (λ (n : ℕ). m - r - n) (ones-counted m s more)

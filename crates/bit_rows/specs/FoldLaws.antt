@@ -28,7 +28,7 @@ module _ (d : List ℕ) (h : ℕ) (e : h + h ≤ length d) where
   length-sums = length-xors (take h d) (take h (drop h d)) equal-parts ∙ length-first
 
   module _ (s : List ℕ) (j : ℕ) (more : j < h) (is : s ≡ front d (sums d h) j) where
-    -- what a pass reads is as it was
+    -- what a pass reads is unchanged
     pub unread : (i : ℕ) → j ≤ i → getD s i 0 ≡ getD d i 0
     unread i k = rw is (front-after d (sums d h) j i 0 (omega arith) (omega (arith, length-sums)) k)
 

@@ -1,4 +1,4 @@
--- That the layers give the word by halves, and laws of a loop that makes a layer a pass.
+-- That the layers give the word by halves, and laws of a loop that makes one layer per pass.
 use mathlib.Core.Path.{_≡_, refl, ap, ap₂, sym, _∙_, subst}
 use mathlib.Core.List.{List, [], _++_, append-nil, append-assoc}
 use Prim.Native.Nat.{ℕ, zero, suc, _+_, _*_, _-_, _^_, _/_, _≤_, _<_}
@@ -54,7 +54,7 @@ module _ (k : ℕ) (x : List ℕ) (e : 2 ^ k + 2 ^ k ≤ length x) where
       rw (take-at firstWord secondWord h length-firstWord, drop-at firstWord secondWord h length-firstWord) refl in
       both ∙ sym joined-words
 
--- ---- one layer makes of the words of 2^k bits those of twice as many; x has c pairs of them
+-- ---- one layer turns the words of 2^k bits into those of twice as many; x has c pairs of them
 layer-doubles : (k c : ℕ) (x : List ℕ) → length x ≡ c * 2 ^ suc k
     → layer (2 ^ k) (blocks (transform k) (2 ^ k) x) ≡ blocks (transform (suc k)) (2 ^ suc k) x
 layer-doubles k zero x e =
@@ -81,7 +81,7 @@ layer-doubles k (suc c) x e =
     ∙ rw twice (sym right)
 
 -- ---- all layers
--- where the blocks of 2^k bits are words, the layers that are left give the word by halves of all 2^m bits
+-- if the blocks of 2^k bits are words, the remaining layers give the word by halves of all 2^m bits
 pub layers-double : (k c m : ℕ) → c + k ≡ m → (x : List ℕ) → length x ≡ 2 ^ m
     → layers c (2 ^ k) (blocks (transform k) (2 ^ k) x) ≡ transform m x
 unfolding layers
@@ -110,7 +110,7 @@ pub layers-transform : (m : ℕ) (x : List ℕ) → length x ≡ 2 ^ m → layer
 unfolding blocks
 layers-transform m x e = ap (layers m 1) (sym (ones-alone (length x / 1) x)) ∙ layers-double 0 m m (add-zero m) x e
 
--- ---- a loop that makes a layer a pass; so many are left, the next of step h
+-- ---- a loop that makes one layer per pass; this many are left, the next of step h
 pub record Layering (first count : ℕ) (x word : List ℕ) (h left : ℕ) : Type 0 where
   pub some : 0 < h
   pub room : h * 2 ^ left ≤ length word

@@ -1,4 +1,4 @@
--- Picking by parts: the bits of a part come in front of those that are left, and a loop that picks a part a pass.
+-- Picking by parts: the bits of a part come before the remaining ones, and a loop that picks one part per pass.
 use mathlib.Core.Path.{_≡_, refl, ap, ap₂, sym, _∙_, subst}
 use mathlib.Core.List.{List, [], _∷_, _++_, append-nil, append-assoc}
 use Prim.Native.Nat.{ℕ, zero, suc, _+_, _-_, _≤_, _<_, zero-le}
@@ -24,7 +24,7 @@ pick-append (k ∷ p) q [] h = absurd (not-suc-le-zero h)
 pick-append (zero ∷ p) q (a ∷ u) h = pick-append p q u (le-of-suc-le-suc h)
 pick-append (suc k ∷ p) q (a ∷ u) h = ap (λ (l : List ℕ). a ∷ l) (pick-append p q u (le-of-suc-le-suc h))
 
--- no more of a row is seen than there are kinds
+-- no more of a row is read than there are kinds
 pick-take : (p u : List ℕ) → pick p u ≡ pick p (take (length p) u)
 pick-take [] u = refl
 pick-take (k ∷ p) [] = refl
@@ -58,7 +58,7 @@ module _ (ks u b : List ℕ) (a : Pickable ks u b) where
         let rest : drop (sum ks) b ≡ drop (sum q) (drop (sum p) b) = ap (λ (n : ℕ). drop n b) sum-parts ∙ sym (drop-drop (sum q) (sum p) b) in
         ap₂ _++_ cut rest ∙ append-assoc (pick p u) (pick q (drop c u)) (drop (sum q) (drop (sum p) b))
 
--- a row and a buffer that do not go on
+-- a row and a buffer that are not longer
 module _ (ks u b : List ℕ) (whole : (length u ≡ length ks) × (length b ≡ sum ks) × Bits ks) where
   pub all-pickable : Pickable ks u b
   all-pickable = record { long = omega arith; room = omega arith; bits-kinds = whole .2 }
@@ -66,7 +66,7 @@ module _ (ks u b : List ℕ) (whole : (length u ≡ length ks) × (length b ≡ 
   pub picked-all : pickFront ks u b ≡ pick ks u
   picked-all = ap (λ (l : List ℕ). pick ks u ++ l) (drop-of-length-le b {i = sum ks} (omega arith)) ∙ append-nil (pick ks u)
 
--- ---- a loop that picks a part a pass: the kinds before i are passed and gave `taken` bits
+-- ---- a loop that picks one part per pass: the kinds before i are done and gave `taken` bits
 pub record Picked (ks u b₀ b : List ℕ) (i taken : ℕ) : Type 0 where
   pub within : i ≤ length ks
   pub is : take taken b ++ pickFront (drop i ks) (drop i u) (drop taken b) ≡ pickFront ks u b₀

@@ -1,4 +1,4 @@
--- Laws of sixteen bits as two numbers: three layers on each at once, the fourth between them. And of a loop that puts the words of a list's blocks
+-- Laws of sixteen bits as two numbers: three layers on each at once, the fourth between them. And laws of a loop that puts the words of a list's blocks
 -- into a row of its own.
 use mathlib.Core.Path.{_≡_, refl, ap, ap₂, sym, _∙_, subst}
 use mathlib.Core.List.{List, [], _∷_, _++_, append-nil, append-assoc}
@@ -95,7 +95,7 @@ module _ (w : List ℕ) (long : 16 ≤ length w) (bits : Bits w) (x y : ℕ) (fi
       ∙ sym (append-assoc front (unpacked y) (drop 16 row))
       ∙ ap (λ (l : List ℕ). l ++ drop 16 row) word
 
--- ---- a loop that puts f of a block of x into a row a pass, from the front; the blocks before s are done
+-- ---- a loop that puts f of one block of x into a row per pass, from the front; the blocks before s are done
 pub record Putting (f : List ℕ → List ℕ) (x row : List ℕ) (s : ℕ) : Type 0 where
   pub within : s ≤ length x
   pub whole : s % 16 ≡ 0

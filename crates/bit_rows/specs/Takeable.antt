@@ -1,4 +1,4 @@
--- What taking a word's information bits asks: as many kinds as bits of the word, and room for as many as there are information indices.
+-- What taking a word's information bits requires: as many kinds as bits of the word, and room for as many as there are information indices.
 use mathlib.Core.Path.{_≡_}
 use mathlib.Core.List.{List}
 use Prim.Native.Nat.{ℕ, _^_}

@@ -18,7 +18,7 @@ ghost use Rattle.bit_rows.specs.EightKinds.{eightKinds, Fillable};
 ghost use Rattle.bit_rows.specs.Pick.{Pickable, pickFront};
 ghost use Rattle.bit_rows.specs.Takeable.{Takeable};
 
-// Adds the second h bits of a word into its first h, modulo 2; the word may go on after them.
+// Adds the second h bits of a word into its first h, modulo 2; the word may be longer.
 fn fold_front(word: &mut [u8], h: usize)
     requires { ⌜ (h + h ≤ length (now word)) × Bits (now word) ⌝ }
     ensures { λ _. ⌜ now (word .exit) ≡ onFront (folded h) (h + h) (now (word .entry)) ⌝ }
@@ -68,7 +68,7 @@ fn layer(word: &mut [u8], h: usize)
     }
 }
 
-// So many layers, of which the first has step `first`; each step is twice the one before.
+// This many layers, of which the first has step `first`; each step is twice the one before.
 fn layers(word: &mut [u8], first: usize, count: usize)
     requires { ⌜ (0 < first) × (first * 2 ^ count ≤ length (now word)) × Bits (now word) ⌝ }
     ensures { λ _. ⌜ now (word .exit) ≡ layers count first (now (word .entry)) ⌝ }
@@ -89,7 +89,7 @@ fn wide(x: u8) -> u64
 }
 
 // The first eight bytes as one number, the first byte lowest. The compiler makes one load of bytes
-// that are joined by `|`, and vector code of a loop over such loads; not so of their sum.
+// that are joined by `|`, and vector code of a loop over such loads; it does not for their sum.
 fn load(word: &[u8]) -> u64
     requires { ⌜ 8 ≤ length (now word) ⌝ }
     ensures { λ x. ⌜ x ≡ packed (now (word .entry)) ⌝ }
@@ -286,7 +286,7 @@ fn still_needed(need: u32, ones: u32) -> u32
     if need <= ones { 0 } else { need - ones }
 }
 
-// The row u of RM(r,m), eight indices at a time: the ones of a block's start are spared.
+// The row u of RM(r,m), eight indices at a time: only the ones of a block's start are counted.
 pub fn fill_code(r: u32, m: u32, bits: &[u8], row: &mut [u8])
     requires { ⌜ Fillable r m (now bits) (now row) ⌝ }
     ensures { λ _. ⌜ now (row .exit) ≡ fill (kinds r m) (now (bits .entry)) ⌝ }
@@ -302,8 +302,8 @@ pub fn fill_code(r: u32, m: u32, bits: &[u8], row: &mut [u8])
     }
 }
 
-// Copies what a row has at the information indices to the front of bits, one by one; how many they
-// are.
+// Copies what a row has at the information indices to the front of bits, one by one; gives how
+// many they are.
 fn pick_each(kinds: &[u8], row: &[u8], bits: &mut [u8]) -> usize
     requires { ⌜ Pickable (now kinds) (now row) (now bits) ⌝ }
     ensures { λ taken. ⌜ (now (bits .exit)
@@ -322,7 +322,7 @@ fn pick_each(kinds: &[u8], row: &[u8], bits: &mut [u8]) -> usize
     taken
 }
 
-// The same of the first eight kinds. The five rows of eight that codes are made of are constants
+// The same for the first eight kinds. The five rows of eight that codes are made of are constants
 // here, and the compiler leaves neither loop nor tests of them; any other eight keep both.
 fn pick_eight(kinds: &[u8], row: &[u8], bits: &mut [u8]) -> usize
     requires { ⌜ (8 ≤ length (now kinds)) × Pickable (now kinds) (now row) (now bits) ⌝ }
@@ -371,7 +371,7 @@ fn some_frozen_one(kinds: &[u8], row: &[u8]) -> bool
     some
 }
 
-// The lowest frozen index where the row is 1, or the row's length where there is none.
+// The lowest frozen index where the row is 1, or the row's length if there is none.
 pub fn first_frozen_one(kinds: &[u8], row: &[u8]) -> usize
     requires { ⌜ length (now row) ≡ length (now kinds) ⌝ }
     ensures { λ i. ⌜ i ≡ firstFrozenOne (now (kinds .entry)) (now (row .entry)) ⌝ }

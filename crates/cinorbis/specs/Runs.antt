@@ -58,10 +58,10 @@ pub record Ran (s : Situation) (input output : List ℕ) : Type 0 where
   pub chain : Chain rounds s input output passed
   pub ends : (s .going ≡ false) ⊎ (2 ^ 62 < length (passed .came))
 
--- What was handed over is what the definition says of all bytes of the input: those that came, and whatever was not read, which is nothing where a read
+-- What was handed over is what the definition gives for all bytes of the input: those that came and those not read, of which there are none if a read
 -- returned 0.
-pub record Tells (p : Passed) : Type 0 where
-  pub tells : (rest : List ℕ) → (p .over ≡ true → rest ≡ []) → p .handed ≡ output (p .came ++ rest)
+pub record HandsOver (p : Passed) : Type 0 where
+  pub output-is : (rest : List ℕ) → (p .over ≡ true → rest ≡ []) → p .handed ≡ output (p .came ++ rest)
 
 pub record Beginning (handed all : List ℕ) : Type 0 where
   pub more : List ℕ

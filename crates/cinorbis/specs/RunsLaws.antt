@@ -21,14 +21,14 @@ use Rattle.program.specs.OutputLaws.{linesOf, linesAfter, lines-end, lines-firs
 use Rattle.rounds.specs.Situation.{starting, Ready, unread, isThere, after, afterRead, afterWrite, Took, Finished}
 use Rattle.rounds.specs.SituationLaws.{next-shown, there-first, there-whole, absent-none}
 use Rattle.cinorbis.specs.Runs.{RoundTaken, writes, takes, totals, reads, Passed, nothing, withText, withRead, passing}
-use Rattle.cinorbis.specs.Runs.{Chain, start, round, Ran, Tells, Beginning}
+use Rattle.cinorbis.specs.Runs.{Chain, start, round, Ran, HandsOver, Beginning}
 
 -- what is still to be handed over, if these bytes are still to come
-abbrev pub toTell : Situation → List ℕ → List ℕ → List ℕ
-toTell s input rest = cond (s .closed) [] (linesOf (s .read) (s .refused) (unread s input ++ cond (s .ended) [] rest))
+abbrev pub toHandOver : Situation → List ℕ → List ℕ → List ℕ
+toHandOver s input rest = cond (s .closed) [] (linesOf (s .read) (s .refused) (unread s input ++ cond (s .ended) [] rest))
 
 -- what holds after n rounds: bounds, counts and ends
-pub record Stands (n : ℕ) (s : Situation) (input output₁ : List ℕ) (p : Passed) : Type 0 where
+pub record Bounded (n : ℕ) (s : Situation) (input output₁ : List ℕ) (p : Passed) : Type 0 where
   pub ready : Ready s input output₁
   pub counts : s .read + s .refused ≤ n
   pub over : p .over ≡ true → s .ended ≡ true
@@ -36,8 +36,8 @@ pub record Stands (n : ℕ) (s : Situation) (input output₁ : List ℕ) (p : Pa
 
 -- and that what was handed over, what waits and what is still to be handed over are the output
 pub record Holds (n : ℕ) (s : Situation) (input output₁ : List ℕ) (p : Passed) : Type 0 where
-  pub stands : Stands n s input output₁ p
-  pub tells : (rest : List ℕ) → (p .over ≡ true → rest ≡ []) → p .handed ++ take (s .text) output₁ ++ toTell s input rest ≡ output (p .came ++ rest)
+  pub bounded : Bounded n s input output₁ p
+  pub output-is : (rest : List ℕ) → (p .over ≡ true → rest ≡ []) → p .handed ++ take (s .text) output₁ ++ toHandOver s input rest ≡ output (p .came ++ rest)
 
 clash : true ≡ false → ⊥
 clash e = let z : _≡_ {A = ℕ} 0 1 = cc in omega arith
@@ -52,7 +52,7 @@ take-min j l =
     (λ k. let e : min j (length l) ≡ length l = omega arith in rw (e, take-length l, take-all j l k))
     (lt-or-le j (length l))
 
--- ---- texts: a line that was put comes behind the text that waited
+-- ---- texts: a line that was put comes after the text that waited
 put-text : (d : List ℕ) (at : ℕ) (t : List ℕ) («end» : ℕ) (d′ : List ℕ) → Put d at t «end» d′ → at ≤ length d → take «end» d′ ≡ take at d ++ t
 put-text d at t «end» d′ p h =
     let long : length (take at d ++ t) ≡ «end» = omega (arith, length-append (take at d) t, length-take-le at d h, p .end-is) in
@@ -76,51 +76,52 @@ holds-start : (input output₁ : List ℕ) → Holds 0 starting input output₁ 
 unfolding output
 holds-start input output₁ =
     record {
-      stands =
+      bounded =
           record {
             ready = record { order = omega arith; within = omega arith; waiting = omega arith };
             counts = omega arith;
             over = λ e. absurd (clash (sym e));
             done = λ e f. absurd (clash e);
           };
-      tells = λ rest h. refl;
+      output-is = λ rest h. refl;
     }
 
 module _ (n : ℕ) (s : Situation) (input output₁ : List ℕ) (p : Passed) (h : Holds n s input output₁ p) (g : s .going ≡ true) where
   abbrev r : Ready s input output₁
-  r = h .stands .ready
+  r = h .bounded .ready
 
   -- ---- the text that waits is handed to the writer
   holds-written : (done : Bool) → Holds (suc n) (afterWrite done s) input output₁ (withText p (take (s .text) output₁))
   holds-written true =
       record {
-        stands =
+        bounded =
             record {
               ready = record { order = r .order; within = r .within; waiting = omega arith };
-              counts = omega (arith, h .stands .counts);
-              over = h .stands .over;
+              counts = omega (arith, h .bounded .counts);
+              over = h .bounded .over;
               done = λ e f. (not-false (s .closed) e, refl);
             };
-        tells = λ rest z. rw (append-nil (p .handed ++ take (s .text) output₁)) (h .tells rest z);
+        output-is = λ rest z. rw (append-nil (p .handed ++ take (s .text) output₁)) (h .output-is rest z);
       }
   holds-written false =
       record {
-        stands =
+        bounded =
             record {
               ready = record { order = r .order; within = r .within; waiting = omega arith };
-              counts = omega (arith, h .stands .counts);
-              over = h .stands .over;
+              counts = omega (arith, h .bounded .counts);
+              over = h .bounded .over;
               done = λ e f. absurd (clash f);
             };
-        tells = λ rest z. rw (append-nil (p .handed ++ take (s .text) output₁)) (h .tells rest z);
+        output-is = λ rest z. rw (append-nil (p .handed ++ take (s .text) output₁)) (h .output-is rest z);
       }
 
-  -- ---- a line is put behind it
-  -- if what is to be handed over begins with the line
-  tells-more : (t : Situation) (line output′ rest : List ℕ) → Put output₁ (s .text) line (t .text) output′ → toTell s input rest ≡ line ++ toTell t input rest
-      → (p .over ≡ true → rest ≡ []) → p .handed ++ take (t .text) output′ ++ toTell t input rest ≡ output (p .came ++ rest)
-  tells-more t line output′ rest k e z =
-      let old = rw e at (h .tells rest z) in
+  -- ---- a line is put after it
+  -- if what is still to be handed over begins with the line
+  output-more : (t : Situation) (line output′ rest : List ℕ) → Put output₁ (s .text) line (t .text) output′
+      → toHandOver s input rest ≡ line ++ toHandOver t input rest → (p .over ≡ true → rest ≡ [])
+      → p .handed ++ take (t .text) output′ ++ toHandOver t input rest ≡ output (p .came ++ rest)
+  output-more t line output′ rest k e z =
+      let old = rw e at (h .output-is rest z) in
       rw (put-text output₁ (s .text) line (t .text) output′ k (r .waiting)) (simp append-assoc (simp append-assoc at old))
 
   -- ---- the next record is taken
@@ -138,7 +139,7 @@ module _ (n : ℕ) (s : Situation) (input output₁ : List ℕ) (p : Passed) (h 
         ∙ getD-drop (s .at) input 0 0
         ∙ ap (λ (k : ℕ). getD input k 0) z
 
-    -- what follows does not change the record: nothing does, or it is there as a whole
+    -- what follows does not change the record: nothing follows, or the record is there completely
     same : (ended : Bool) → s .ended ≡ ended → (rest : List ℕ) → resultOf (u ++ cond ended [] rest) ≡ resultOf u
     same true e rest = ap resultOf (append-nil u)
     same false e rest =
@@ -151,31 +152,31 @@ module _ (n : ℕ) (s : Situation) (input output₁ : List ℕ) (p : Passed) (h 
         rw e (sym (drop-take k (s .«end» - s .at) (drop (s .at) input) ∙ ap (take (s .«end» - s .at - k)) (drop-drop k (s .at) input)))
 
     left-after : (result : Result) (text : ℕ) (rest : List ℕ)
-        → toTell (after s result text (s .at + nextStart u)) input rest
+        → toHandOver (after s result text (s .at + nextStart u)) input rest
         ≡ linesAfter (s .read) (s .refused) result (drop (nextStart u) u ++ cond (s .ended) [] rest)
     left-after (answered bits penalty gap visits) text rest = rw (closed, unread-after, add-one)
     left-after (refused why) text rest =
         let none : s .«end» - s .«end» ≡ 0 = omega arith in
-        cond-two (λ (t : Situation) (l : List ℕ). toTell t input rest ≡ l) (stops (refused why)) _ _ _ _
+        cond-two (λ (t : Situation) (l : List ℕ). toHandOver t input rest ≡ l) (stops (refused why)) _ _ _ _
         (λ e. rw (closed, none, add-one) (lines-end (s .read) (suc (s .refused))))
         (λ e. rw (closed, unread-after, add-one))
 
-    stands-after : (result : Result) (text : ℕ) (output′ : List ℕ) → resultOf u ≡ result → text ≤ length output′
-        → Stands (suc n) (after s result text (s .at + nextStart u)) input output′ p
-    stands-after (answered bits penalty gap visits) text output′ e w =
+    bounded-after : (result : Result) (text : ℕ) (output′ : List ℕ) → resultOf u ≡ result → text ≤ length output′
+        → Bounded (suc n) (after s result text (s .at + nextStart u)) input output′ p
+    bounded-after (answered bits penalty gap visits) text output′ e w =
         let there = goes-on-there u (rw e) in
         record {
           ready = record { order = omega (arith, there .whole, length-unread s input output₁ r, r .order); within = r .within; waiting = w };
-          counts = omega (arith, h .stands .counts);
-          over = h .stands .over;
+          counts = omega (arith, h .bounded .counts);
+          over = h .bounded .over;
           done = λ a b. absurd (clash (sym g ∙ a));
         }
-    stands-after (refused why) text output′ e w =
-        cond-by (λ (t : Situation). Stands (suc n) t input output′ p) (stops (refused why)) _ _
+    bounded-after (refused why) text output′ e w =
+        cond-by (λ (t : Situation). Bounded (suc n) t input output′ p) (stops (refused why)) _ _
         (λ z.
         record {
           ready = record { order = omega arith; within = r .within; waiting = w };
-          counts = omega (arith, h .stands .counts);
+          counts = omega (arith, h .bounded .counts);
           over = λ a. refl;
           done = λ a b. absurd (clash (sym g ∙ a));
         })
@@ -183,8 +184,8 @@ module _ (n : ℕ) (s : Situation) (input output₁ : List ℕ) (p : Passed) (h 
         let there = goes-on-there u (rw e z) in
         record {
           ready = record { order = omega (arith, there .whole, length-unread s input output₁ r, r .order); within = r .within; waiting = w };
-          counts = omega (arith, h .stands .counts);
-          over = h .stands .over;
+          counts = omega (arith, h .bounded .counts);
+          over = h .bounded .over;
           done = λ a b. absurd (clash (sym g ∙ a));
         })
 
@@ -194,12 +195,12 @@ module _ (n : ℕ) (s : Situation) (input output₁ : List ℕ) (p : Passed) (h 
         let is = k .counts in
         let within : t .text ≤ length output′ = omega (arith, put-within output₁ (s .text) _ (t .text) output′ (k .line) (r .waiting) e) in
         record {
-          stands = subst (λ (t : Situation). Stands (suc n) t input output′ p) (sym is) (stands-after result (t .text) output′ refl within);
-          tells = λ rest z.
-              tells-more t (lineOf (s .read + s .refused) result) output′ rest (k .line)
+          bounded = subst (λ (t : Situation). Bounded (suc n) t input output′ p) (sym is) (bounded-after result (t .text) output′ refl within);
+          output-is = λ rest z.
+              output-more t (lineOf (s .read + s .refused) result) output′ rest (k .line)
               (rw closed (lines-first (s .read) (s .refused) u (cond (s .ended) [] rest) some (same (s .ended) refl rest))
               ∙ ap (λ (l : List ℕ). lineOf (s .read + s .refused) result ++ l)
-              (sym (ap (λ (t : Situation). toTell t input rest) is ∙ left-after result (t .text) rest))) z;
+              (sym (ap (λ (t : Situation). toHandOver t input rest) is ∙ left-after result (t .text) rest))) z;
         }
 
   -- ---- the total
@@ -210,18 +211,18 @@ module _ (n : ℕ) (s : Situation) (input output₁ : List ℕ) (p : Passed) (h 
       let within : t .text ≤ length output′ = omega (arith, put-within output₁ (s .text) total (t .text) output′ (k .line) (r .waiting) e) in
       let none : s .«end» - s .at ≡ 0 = omega (arith, absent-none s input absent ended) in
       record {
-        stands =
-            subst (λ (t : Situation). Stands (suc n) t input output′ p) (sym (k .closes))
+        bounded =
+            subst (λ (t : Situation). Bounded (suc n) t input output′ p) (sym (k .closes))
             (record {
               ready = record { order = r .order; within = r .within; waiting = within };
-              counts = omega (arith, h .stands .counts);
-              over = h .stands .over;
+              counts = omega (arith, h .bounded .counts);
+              over = h .bounded .over;
               done = λ a b. absurd (clash (sym g ∙ a));
             });
-        tells = λ rest z.
-            tells-more t total output′ rest (k .line)
+        output-is = λ rest z.
+            output-more t total output′ rest (k .line)
             (rw (closed, none, ended) (lines-end (s .read) (s .refused))
-            ∙ sym (ap (λ (l : List ℕ). total ++ l) (ap (λ (t : Situation). toTell t input rest) (k .closes)) ∙ append-nil total)) z;
+            ∙ sym (ap (λ (l : List ℕ). total ++ l) (ap (λ (t : Situation). toHandOver t input rest) (k .closes)) ∙ append-nil total)) z;
       }
 
   -- ---- a read, when the unread bytes are in front
@@ -245,37 +246,37 @@ module _ (n : ℕ) (s : Situation) (input output₁ : List ℕ) (p : Passed) (h 
     holds-read : (got : ℤ) → Holds (suc n) (afterRead got (length input - k) s) input′ output₁ (withRead p got fresh)
     holds-read (negsuc j) =
         record {
-          stands =
+          bounded =
               record {
                 ready = record { order = omega arith; within = omega (arith, r .within); waiting = r .waiting };
-                counts = omega (arith, h .stands .counts);
-                over = h .stands .over;
+                counts = omega (arith, h .bounded .counts);
+                over = h .bounded .over;
                 done = λ a b. absurd (clash b);
               };
-          tells = λ rest z. rw front (h .tells rest z);
+          output-is = λ rest z. rw front (h .output-is rest z);
         }
     holds-read (pos zero) =
         record {
-          stands =
+          bounded =
               record {
                 ready = record { order = omega arith; within = omega (arith, r .within); waiting = r .waiting };
-                counts = omega (arith, h .stands .counts);
+                counts = omega (arith, h .bounded .counts);
                 over = λ a. refl;
                 done = λ a b. absurd (clash (sym g ∙ a));
               };
-          tells = λ rest z. rw (front, z refl) (rw (ended, z refl) at (h .tells rest (λ a. z refl)));
+          output-is = λ rest z. rw (front, z refl) (rw (ended, z refl) at (h .output-is rest (λ a. z refl)));
         }
     holds-read (pos (suc j)) =
         record {
-          stands =
+          bounded =
               record {
                 ready = record { order = omega arith; within = omega (arith, r .within); waiting = r .waiting };
-                counts = omega (arith, h .stands .counts);
-                over = h .stands .over;
+                counts = omega (arith, h .bounded .counts);
+                over = h .bounded .over;
                 done = λ a b. absurd (clash (sym g ∙ a));
               };
-          tells = λ rest z.
-              let old = rw ended at (h .tells (take (suc j) fresh ++ rest) (λ a. absurd (clash (sym (h .stands .over a) ∙ ended)))) in
+          output-is = λ rest z.
+              let old = rw ended at (h .output-is (take (suc j) fresh ++ rest) (λ a. absurd (clash (sym (h .bounded .over a) ∙ ended)))) in
               rw (behind (suc j), ended, append-assoc (p .came) (take (suc j) fresh) rest, append-assoc (unread s input) (take (suc j) fresh) rest) old;
         }
 
@@ -304,17 +305,18 @@ pub chain-begins : (n : ℕ) (s : Situation) (input output₁ : List ℕ) (p : P
     → Beginning (p .handed) (output (p .came ++ rest))
 chain-begins n s input output₁ p c rest z =
     record {
-      more = take (s .text) output₁ ++ toTell s input rest;
-      is = sym (append-assoc (p .handed) (take (s .text) output₁) (toTell s input rest)) ∙ chain-holds n s input output₁ p c .tells rest z;
+      more = take (s .text) output₁ ++ toHandOver s input rest;
+      is = sym (append-assoc (p .handed) (take (s .text) output₁) (toHandOver s input rest)) ∙ chain-holds n s input output₁ p c .output-is rest z;
     }
 
 -- The theorem. A program that has ended without an error has handed over the output of all bytes.
-pub chain-tells : (n : ℕ) (s : Situation) (input output₁ : List ℕ) (p : Passed) → Chain n s input output₁ p → s .going ≡ false → s .failed ≡ false → Tells p
-chain-tells n s input output₁ p c g f =
+pub chain-hands-over : (n : ℕ) (s : Situation) (input output₁ : List ℕ) (p : Passed) → Chain n s input output₁ p → s .going ≡ false
+    → s .failed ≡ false → HandsOver p
+chain-hands-over n s input output₁ p c g f =
     let h = chain-holds n s input output₁ p c in
-    let d = h .stands .done g f in
-    record { tells = λ rest z. sym (append-nil (p .handed)) ∙ (rw (d .0, d .1, append-nil) at (h .tells rest z)) }
+    let d = h .bounded .done g f in
+    record { output-is = λ rest z. sym (append-nil (p .handed)) ∙ (rw (d .0, d .1, append-nil) at (h .output-is rest z)) }
 
 -- and so has a run of the program
-pub ran-tells : (s : Situation) (input output₁ : List ℕ) (x : Ran s input output₁) → s .going ≡ false → s .failed ≡ false → Tells (x .passed)
-ran-tells s input output₁ x = chain-tells (x .rounds) s input output₁ (x .passed) (x .chain)
+pub ran-hands-over : (s : Situation) (input output₁ : List ℕ) (x : Ran s input output₁) → s .going ≡ false → s .failed ≡ false → HandsOver (x .passed)
+ran-hands-over s input output₁ x = chain-hands-over (x .rounds) s input output₁ (x .passed) (x .chain)

@@ -9,8 +9,8 @@ use Rattle.numbers.specs.Choice.{cond-by}
 use Rattle.rounds.specs.declared.Situation.{Situation}
 use Rattle.program.specs.Program.{Result, answered, refused, resultOf, stops, nextStart}
 use Rattle.rounds.specs.Situation.{unread, after, afterRead, afterWrite}
-use Rattle.cinorbis.specs.Runs.{RoundTaken, writes, takes, totals, reads, Passed, Chain, start, round, Ran, Tells}
-use Rattle.cinorbis.specs.RunsLaws.{ran-tells}
+use Rattle.cinorbis.specs.Runs.{RoundTaken, writes, takes, totals, reads, Passed, Chain, start, round, Ran, HandsOver}
+use Rattle.cinorbis.specs.RunsLaws.{ran-hands-over}
 
 -- a read returned no number below 0
 abbrev pub Came : ℤ → Type 0
@@ -60,6 +60,6 @@ chain-went n s input output p (round m s₀ input₀ output₀ p₀ t input′ o
     went-kept s₀ input₀ output₀ t input′ output′ w (h .0) ∙ chain-went m s₀ input₀ output₀ p₀ c (h .1)
 
 -- A run that has ended, and in which no read and no write failed, has handed over the output of all bytes.
-pub went-tells : (s : Situation) (input output : List ℕ) (x : Ran s input output) → s .going ≡ false
-    → AllWent (x .rounds) s input output (x .passed) (x .chain) → Tells (x .passed)
-went-tells s input output x g h = ran-tells s input output x g (chain-went (x .rounds) s input output (x .passed) (x .chain) h)
+pub went-hands-over : (s : Situation) (input output : List ℕ) (x : Ran s input output) → s .going ≡ false
+    → AllWent (x .rounds) s input output (x .passed) (x .chain) → HandsOver (x .passed)
+went-hands-over s input output x g h = ran-hands-over s input output x g (chain-went (x .rounds) s input output (x .passed) (x .chain) h)

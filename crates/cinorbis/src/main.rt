@@ -1,5 +1,5 @@
-// The program: records in, lines out. Here alone the operating system is called. What it is handed,
-// and what is done with what it gave, functions on slices say.
+// The program: records in, lines out. Only here is the operating system called. What it is given,
+// and what is done with its answers, is decided by functions on slices.
 use libc::STDERR_FILENO;
 use libc::STDIN_FILENO;
 use libc::STDOUT_FILENO;
@@ -24,7 +24,7 @@ fn flush(output: &[u8], s: Situation) -> Situation
     t
 }
 
-// Reads behind the bytes that are not yet used.
+// Reads into the room after the bytes that are not yet used.
 fn refill(input: &mut [u8], s: Situation) -> Situation
     requires { ⌜ (s .at ≤ s .«end») × (s .«end» ≤ length (now input))
         × (s .«end» - s .at < length (now input)) ⌝ }

@@ -19,7 +19,7 @@ pub record View : Type 0 where
   pub visits : ℕ
   pub buffers : List (List ℕ)
 
--- refused: the number, what the refusal carries, 0 for all else, and the buffers as they came
+-- refused: the number, what the refusal carries, 0 for everything else, and the buffers unchanged
 abbrev pub refusedAs : Refusal → List (List ℕ) → View
 refusedAs why before =
     let c = carried why in
@@ -47,10 +47,10 @@ pub record Demand1 (checks : Checks) (before : List (List ℕ)) (o : View) : Typ
   -- each number is given exactly if the first check that applies gives it
   pub number : (n : ℕ) → 0 < n → (o .number ≡ n) ↔ First (λ why. numberOf why ≡ n) checks
   pub done : (o .number ≡ 0) ↔ NoneApplies checks
-  -- with what that refusal carries, 0 for all else, and the buffers as they came
+  -- with what that refusal carries, 0 for everything else, and the buffers unchanged
   pub refused : (why : Refusal) → First (λ given. given ≡ why) checks → o ≡ refusedAs why before
   pub kept : 0 < o .number → o .buffers ≡ before
-  -- where nothing is refused there is no place
+  -- if nothing is refused there is no place
   pub no-place : o .number ≡ 0 → o .place ≡ 0
 
 -- ---- the checks 1 to 4, which all calls on readings or bits begin with
@@ -62,19 +62,19 @@ pub record LowestBad {A : Type 0} (d : A) (size : A → ℕ) (limit : ℕ) (l : 
 
 -- the input l should have this length, and `outputs` says that the lent outputs have theirs
 abbrev pub firstChecks : {A : Type 0} → A → (A → ℕ) → ℕ → ℕ → ℕ → List A → ℕ → Type 0 → Checks → Checks
-firstChecks d size limit r m l due outputs rest =
+firstChecks d size limit r m l expected outputs rest =
     check Parameters ((largestM < m) ⊎ (m < r))
-    (check InputLength (length l ≡ due → ⊥)
+    (check InputLength (length l ≡ expected → ⊥)
     (check OutputLength (outputs → ⊥)
     (checkAt Entry (LowestBad d size limit l) rest)))
 
--- of readings, and the lengths of the lent outputs for the information bits, of which so many are expected, and the word
+-- of readings, and the lengths of the lent outputs for the information bits, of which this many are expected, and the word
 abbrev pub readingChecksFor : ℕ → ℕ → ℕ → List ℤ → ℕ → ℕ → Checks → Checks
-readingChecksFor due r m l bits word = firstChecks (pos 0) natAbs largestReading r m l (2 ^ m) ((bits ≡ due) × (word ≡ 2 ^ m))
+readingChecksFor expected r m l bits word = firstChecks (pos 0) natAbs largestReading r m l (2 ^ m) ((bits ≡ expected) × (word ≡ 2 ^ m))
 
 abbrev pub readingChecks : ℕ → ℕ → List ℤ → ℕ → ℕ → Checks → Checks
 readingChecks r m = readingChecksFor (dimension r m) r m
 
 -- of bits, an output of this length, and the lengths that they should have
 abbrev pub bitChecks : ℕ → ℕ → List ℕ → ℕ → ℕ → ℕ → Checks → Checks
-bitChecks r m input due output room = firstChecks 0 (λ b. b) 1 r m input due (output ≡ room)
+bitChecks r m input expected output room = firstChecks 0 (λ b. b) 1 r m input expected (output ≡ room)

@@ -1,4 +1,4 @@
--- Demand 1 follows where the checks are made in their order, each on what the checks before it leave.
+-- Demand 1 follows if the checks are made in their order, each on what the checks before it leave.
 use mathlib.Core.Path.{_≡_, refl, ap, sym, subst, _∙_}
 use mathlib.Core.Logic.{_⊎_, inl, inr, ⊎-elim}
 use mathlib.Core.List.{List, [], _∷_}
@@ -27,7 +27,7 @@ use Rattle.code.specs.Demand1.{View, refusedAs, Checks, passed, check, c
 use Rattle.code.specs.Demand1.{firstChecks, readingChecksFor, readingChecks}
 
 module _ (before : List (List ℕ)) (o : View) where
-  -- the first check that applies refuses; where none does, nothing is refused
+  -- the first check that applies refuses; if none does, nothing is refused
   abbrev pub Decides : Checks → Type 0
   Decides passed = (o .number ≡ 0) × (o .place ≡ 0)
   Decides (check why applies rest) = (applies × (o ≡ refusedAs why before)) ⊎ ((applies → ⊥) × Decides rest)
@@ -127,17 +127,17 @@ module _ {A : Type 0} (d : A) (size : A → ℕ) (limit : ℕ) where
       (lt-or-le (firstAbove size limit l) (length l))
 
   -- each check by the call, on what the checks before it leave
-  pub record MadeFirst (r m : ℕ) (l : List A) (due : ℕ) (outputs : Type 0) (before : List (List ℕ)) (o : View) (rest : Checks) : Type 0 where
+  pub record MadeFirst (r m : ℕ) (l : List A) (expected : ℕ) (outputs : Type 0) (before : List (List ℕ)) (o : View) (rest : Checks) : Type 0 where
     pub decidable : outputs ⊎ (outputs → ⊥)
     pub one : made r m ≡ Bad → o ≡ refusedAs Parameters before
-    pub two : Sound (rm r m) → (length l ≡ due → ⊥) → o ≡ refusedAs InputLength before
-    pub three : Sound (rm r m) → length l ≡ due → (outputs → ⊥) → o ≡ refusedAs OutputLength before
-    pub four : Sound (rm r m) → length l ≡ due → outputs → firstAbove size limit l < length l → o ≡ refusedAs (Entry (firstAbove size limit l)) before
-    pub else : Sound (rm r m) → length l ≡ due → outputs → length l ≤ firstAbove size limit l → Decides before o rest
+    pub two : Sound (rm r m) → (length l ≡ expected → ⊥) → o ≡ refusedAs InputLength before
+    pub three : Sound (rm r m) → length l ≡ expected → (outputs → ⊥) → o ≡ refusedAs OutputLength before
+    pub four : Sound (rm r m) → length l ≡ expected → outputs → firstAbove size limit l < length l → o ≡ refusedAs (Entry (firstAbove size limit l)) before
+    pub else : Sound (rm r m) → length l ≡ expected → outputs → length l ≤ firstAbove size limit l → Decides before o rest
 
-  pub decides-first : (r m : ℕ) (l : List A) (due : ℕ) (outputs : Type 0) (before : List (List ℕ)) (o : View) (rest : Checks)
-      → MadeFirst r m l due outputs before o rest → Decides before o (firstChecks d size limit r m l due outputs rest)
-  decides-first r m l due outputs before o rest by =
+  pub decides-first : (r m : ℕ) (l : List A) (expected : ℕ) (outputs : Type 0) (before : List (List ℕ)) (o : View) (rest : Checks)
+      → MadeFirst r m l expected outputs before o rest → Decides before o (firstChecks d size limit r m l expected outputs rest)
+  decides-first r m l expected outputs before o rest by =
       ⊎-elim
       (λ large. inl (inl large, by .one (made-large r m large)))
       (λ small. ⊎-elim
@@ -146,7 +146,7 @@ module _ {A : Type 0} (d : A) (size : A → ℕ) (limit : ℕ) where
       let sound : Sound (rm r m) = record { r-small = within; m-small = small } in
       inr (
         λ x. ⊎-elim (λ y. omega arith) (λ y. omega arith) x,
-        elim (ℕ-discrete (length l) due) [
+        elim (ℕ-discrete (length l) expected) [
           | no e ↦ inl (e, by .two sound e)
           | yes e ↦ inr (
             λ f. f e,
@@ -164,7 +164,7 @@ module _ {A : Type 0} (d : A) (size : A → ℕ) (limit : ℕ) where
       (lt-or-le largestM m)
 
 -- of readings, by the tests that `quick` and the search share
-module _ (due : Code → ℕ) (r m : ℕ) (l : List ℤ) (k n : ℕ) where
+module _ (expected : Code → ℕ) (r m : ℕ) (l : List ℤ) (k n : ℕ) where
   both-long : (b : ℕ) → ((k ≡ b) × (n ≡ 2 ^ m)) ⊎ ((k ≡ b) × (n ≡ 2 ^ m) → ⊥)
   both-long b =
       elim (ℕ-discrete k b) [
@@ -176,17 +176,17 @@ module _ (due : Code → ℕ) (r m : ℕ) (l : List ℤ) (k n : ℕ) where
       ]
 
   pub decides-readings-for : (before : List (List ℕ)) (o : View) (rest : Checks)
-      → ((why : Refusal) → Refused why ≡ admittedFor due r m l k n → o ≡ refusedAs why before)
-      → (SoundFor (rm r m) (due (rm r m)) k n (GoodReadings (rm r m) l) → Decides before o rest)
-      → Decides before o (readingChecksFor (due (rm r m)) r m l k n rest)
+      → ((why : Refusal) → Refused why ≡ admittedFor expected r m l k n → o ≡ refusedAs why before)
+      → (SoundFor (rm r m) (expected (rm r m)) k n (GoodReadings (rm r m) l) → Decides before o rest)
+      → Decides before o (readingChecksFor (expected (rm r m)) r m l k n rest)
   decides-readings-for before o rest by then =
       let c = rm r m in
-      let b = due c in
-      let after : Sound c → _ = λ s. tested-made due r m l k n c (made-good r m (s .m-small) (s .r-small)) in
+      let b = expected c in
+      let after : Sound c → _ = λ s. tested-made expected r m l k n c (made-good r m (s .m-small) (s .r-small)) in
       decides-first (pos 0) natAbs largestReading r m l (2 ^ m) ((k ≡ b) × (n ≡ 2 ^ m)) before o rest
       (record {
         decidable = both-long b;
-        one = λ e. by Parameters (refused-parameters due r m l k n e);
+        one = λ e. by Parameters (refused-parameters expected r m l k n e);
         two = λ s e. by InputLength (refused-input c b l k n e ∙ after s);
         three = λ s e f. by OutputLength (elim (ℕ-discrete k b) [
           | no g ↦ refused-bits c b l k n e g ∙ after s

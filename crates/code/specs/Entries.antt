@@ -5,7 +5,7 @@ use Prim.Native.Nat.{ℕ, suc}
 use lib.IntN.{ℤ, natAbs}
 use lib.Dec.{ltb}
 
--- the place of the first entry whose number is above the limit, or the length where there is none
+-- the place of the first entry whose number is above the limit, or the length if there is none
 unfoldable pub firstAbove : {A : Type 0} → (A → ℕ) → ℕ → List A → ℕ
 firstAbove number limit [] = 0
 firstAbove number limit (x ∷ l) = cond (ltb limit (number x)) 0 (suc (firstAbove number limit l))

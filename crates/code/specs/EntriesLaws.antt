@@ -1,4 +1,4 @@
--- Laws of the lowest bad place: where it is, and what holds of all entries where there is none.
+-- Laws of the lowest bad place: where it is, and what holds for all entries if there is none.
 use mathlib.Core.Path.{_≡_, refl, ap, sym, _∙_}
 use mathlib.Core.Bool.{Bool, true, false, true≢false, _||_, or-false}
 use mathlib.Core.List.{List, [], _∷_}
@@ -34,7 +34,7 @@ module _ {A : Type 0} (d : A) (number : A → ℕ) (limit : ℕ) where
   first-here (x ∷ l) (suc i) g h k =
       rw (le-ltb limit (number x) (g 0 (omega arith))) (ap suc (first-here l i (λ j m. g (suc j) (omega arith)) (le-of-suc-le-suc h) k))
 
-  -- a good entry more
+  -- one more good entry
   pub good-more : (l : List A) (i : ℕ) → GoodBefore l i → number (getD l i d) ≤ limit → GoodBefore l (i + 1)
   good-more l i g h j m =
       ⊎-elim (λ k. g j k) (λ k. let e : j ≡ i = omega arith in rw e h) (lt-or-le j i)
@@ -47,7 +47,7 @@ module _ {A : Type 0} (d : A) (number : A → ℕ) (limit : ℕ) where
   first-none (x ∷ l) (suc i) g e =
       rw (le-ltb limit (number x) (g 0 (omega arith))) (ap suc (first-none l i (λ j m. g (suc j) (omega arith)) (suc-inj e)))
 
-  -- and back: where the place is the length, every entry is good
+  -- and back: if the place is the length, every entry is good
   pub all-good : (l : List A) → length l ≤ firstAbove number limit l → GoodBefore l (length l)
   unfolding firstAbove
   all-good [] h j m = absurd (not-suc-le-zero m)
@@ -58,7 +58,7 @@ module _ {A : Type 0} (d : A) (number : A → ℕ) (limit : ℕ) where
       (λ k. all-good l (le-of-suc-le-suc (rw (le-ltb limit (number x) k) at h)) j (le-of-suc-le-suc m))
       (lt-or-le limit (number x))
 
-  -- the same at every place, where the default is good too
+  -- the same at every place, if the default is good too
   pub all-good-everywhere : (l : List A) → length l ≤ firstAbove number limit l → number d ≤ limit → (i : ℕ) → number (getD l i d) ≤ limit
   all-good-everywhere l h k i = ⊎-elim (all-good l h i) (λ m. rw (List·getD-eq-default l d {n = i} m) k) (lt-or-le i (length l))
 
@@ -87,7 +87,7 @@ module _ {A : Type 0} (d : A) (number : A → ℕ) (limit : ℕ) (l : List A) wh
   asked-all i some h a =
       sym (or-false some) ∙ ap (λ (r : List A). some || someAbove number limit r) (sym (drop-of-length-le l {i = i} h)) ∙ a .1
 
--- where there is none, the place is the length
+-- if there is none, the place is the length
 pub none-above : {A : Type 0} (number : A → ℕ) (limit : ℕ) (l : List A) → someAbove number limit l ≡ false → length l ≡ firstAbove number limit l
 unfolding someAbove firstAbove
 none-above number limit [] e = refl
@@ -102,7 +102,7 @@ good-bits l h i = omega (arith, all-good-everywhere 0 (λ b. b) 1 l h zero-le i)
 pub good-readings : (largest : ℕ) (l : List ℤ) → length l ≤ firstBadReading largest l → (i : ℕ) → natAbs (getD l i (pos 0)) ≤ largest
 good-readings largest l h = all-good-everywhere (pos 0) natAbs largest l h zero-le
 
--- the two signed tests of the code are one on the size
+-- the two signed tests of the code are one test on the size
 up-fits : (z : ℤ) → down z ≡ 0 → SFits w16 z → up z < 2 ^ hbits w16
 up-fits (pos n) e f = f .sfits
 up-fits (negsuc n) e f = absurd (omega arith)

@@ -1,4 +1,4 @@
--- A refusal is known by its number and the values that it carries. Only 6 and 7 carry more than a place.
+-- A refusal is determined by its number and the values that it carries. Only 6 and 7 carry more than a place.
 use mathlib.Core.Path.{_≡_, refl, ap, sym, _∙_}
 use mathlib.Core.Bool.{cond}
 use Prim.Native.Nat.{_<_}
@@ -58,7 +58,7 @@ number-above NoEntry = omega arith
 number-above Map = omega arith
 number-above Named = omega arith
 
--- an answer is known by what it carries
+-- an answer is determined by what it carries
 pub completed-only : (a b : Completed) → completed a ≡ completed b → a ≡ b
 completed-only Done Done e = refl
 completed-only Done (Refused why) e = absurd (omega (arith, number-above why, ap (λ (c : Carried). c .number) e))

@@ -37,7 +37,7 @@ rm r m = record { r = r; m = m }
 unfoldable pub made : ℕ → ℕ → Made
 made r m = cond (leb m largestM && leb r m) (Good (rm r m)) Bad
 
--- what a refusal reports: its number, and the place, penalty and visits that it carries, 0 where it carries none
+-- what a refusal reports: its number, and the place, penalty and visits that it carries, 0 for those that it does not carry
 pub record Carried : Type 0 where
   pub number : ℕ
   pub place : ℕ

@@ -1,4 +1,4 @@
--- Sound input: what holds of a call's arguments exactly if none of the tests 1 to 4 applies (AdmittedLaws; for bits, the laws of `encode`).
+-- Sound input: what holds for a call's arguments exactly if none of the tests 1 to 4 applies (AdmittedLaws; for bits, the laws of `encode`).
 use mathlib.Core.Path.{_≡_}
 use mathlib.Core.List.{List}
 use Prim.Native.Nat.{ℕ, _^_, _≤_}
@@ -8,10 +8,10 @@ use Rattle.words.specs.Kinds.{dimension}
 use Rattle.code.specs.declared.Code.{Code}
 use Rattle.code.specs.Sound.{Sound, largestReading}
 
--- rows of these lengths for the information bits, of which so many are expected, and for the word; and the entries that are given are good ones
-pub record SoundFor (c : Code) (due bits word : ℕ) (good : Type 0) : Type 0 where
+-- rows of these lengths for the information bits, of which this many are expected, and for the word; and all given entries are good
+pub record SoundFor (c : Code) (expected bits word : ℕ) (good : Type 0) : Type 0 where
   pub sound : Sound c
-  pub long-bits : bits ≡ due
+  pub long-bits : bits ≡ expected
   pub long-word : word ≡ 2 ^ c .m
   pub entries : good
 

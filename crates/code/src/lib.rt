@@ -39,16 +39,16 @@ pub enum Refusal {
     Tied { penalty: u32, visits: u32 },
     Torn,
     Pad,
-    // no entry of an index, or no record behind the last
+    // no entry in an index, or no record after the last
     NoEntry,
     // a map of positions that is not of bits, or that nothing undoes
     Map,
-    // a row that has not n bits, names a frozen index, or leaves no information index
+    // a row that does not have n bits, names a frozen index, or leaves no information index
     Named,
 }
 
 // What a refusal reports: the rules' number, and the place, penalty and visits that it carries, 0
-// where it carries none.
+// for those that it does not carry.
 pub struct Shown {
     pub number: u32,
     pub place: usize,
@@ -56,7 +56,7 @@ pub struct Shown {
     pub visits: u32,
 }
 
-// The answer of a call that reports no more than a refusal.
+// The answer of a call that reports only a refusal.
 pub enum Completed {
     Done,
     Refused(Refusal),
@@ -169,7 +169,7 @@ fn some_bad_bit(bits: &[u8]) -> bool
     some
 }
 
-// The lowest place of a byte above 1, or the length where there is none.
+// The lowest place of a byte above 1, or the length if there is none.
 pub fn first_bad_bit(bits: &[u8]) -> usize
     ensures { λ place. ⌜ place ≡ firstBadBit (now (bits .entry)) ⌝ }
 {
@@ -186,7 +186,7 @@ pub fn first_bad_bit(bits: &[u8]) -> usize
     i
 }
 
-// Whether a reading is beyond the largest, either way.
+// Whether a reading is beyond the largest, of either sign.
 fn beyond(reading: i16, largest: i16) -> bool
     requires { ⌜ down largest ≡ 0 ⌝ }
     ensures { λ r. ⌜ r ≡ ltb (up largest) (natAbs reading) ⌝ }
@@ -211,7 +211,7 @@ fn some_beyond(readings: &[i16], largest: i16) -> bool
     some
 }
 
-// The lowest place of a reading beyond the largest, or the length where there is none.
+// The lowest place of a reading beyond the largest, or the length if there is none.
 fn first_beyond(readings: &[i16], largest: i16) -> usize
     requires { ⌜ down largest ≡ 0 ⌝ }
     ensures { λ place. ⌜ place ≡ firstBadReading (up largest) (now (readings .entry)) ⌝ }
@@ -235,7 +235,7 @@ pub fn first_bad_reading(readings: &[i16]) -> usize
     first_beyond(readings, Code::LARGEST_READING)
 }
 
-// The same of readings that are to go into a record, or came out of one.
+// The same for readings that are to go into a record, or came out of one.
 pub fn first_bad_record_reading(readings: &[i16]) -> usize
     ensures { λ place. ⌜ place ≡ firstBadReading largestRecordReading (now (readings .entry)) ⌝ }
 {
@@ -252,16 +252,22 @@ pub fn admit(r: u32, m: u32, readings: &[i16], bits: usize, word: usize) -> Admi
     admit_for(code, code.dimension(), readings, bits, word)
 }
 
-// The tests 2 to 4, where so many information bits are expected.
-pub fn admit_for(code: Code, due: usize, readings: &[i16], bits: usize, word: usize) -> Admitted
+// The tests 2 to 4, with this number of information bits expected.
+pub fn admit_for(
+    code: Code,
+    expected: usize,
+    readings: &[i16],
+    bits: usize,
+    word: usize,
+) -> Admitted
     requires { ⌜ Sound code ⌝ }
-    ensures { λ answer. ⌜ answer ≡ admittedBy code due (now (readings .entry)) bits word ⌝ }
+    ensures { λ answer. ⌜ answer ≡ admittedBy code expected (now (readings .entry)) bits word ⌝ }
 {
     let n = code.length();
     if readings.len() != n {
         return Admitted::Refused(Refusal::InputLength);
     }
-    if bits != due {
+    if bits != expected {
         return Admitted::Refused(Refusal::OutputLength);
     }
     if word != n {

@@ -61,7 +61,7 @@ both-bare onward onward′ x x′ u p s s′ same size below =
 finished-bare : (u u′ : List ℕ) (p : ℕ) (s s′ : State) → bare s′ ≡ bare s → bare (finished u′ p s′) ≡ bare (finished u p s)
 finished-bare u u′ p s s′ same = sym (finished-by (λ u. []) u′ p s′) ∙ ap (finished [] p) same ∙ finished-by (λ u. []) u p s
 
--- ---- a row v that is zero before its last index changes no path that is not full
+-- ---- a row v that is zero before its last index changes only full paths
 changed-early : (u v : List ℕ) → length u ≤ length v → Bits u → ((i : ℕ) → i < length u → getD v i 0 ≡ 0) → changed u v ≡ u
 changed-early [] v g h z = refl
 changed-early (a ∷ u) [] g h z = absurd (not-suc-le-zero g)
@@ -108,7 +108,7 @@ turns-ones zero (r ∷ l) e = absurd (suc-ne-zero (length l) e)
 turns-ones (suc n) [] e = absurd (suc-ne-zero n (sym e))
 turns-ones (suc n) (r ∷ l) e = ap (λ (k : List ℤ). negℤ r ∷ k) (turns-ones n l (suc-inj e))
 
--- where the all-ones word is a word of the set
+-- if the all-ones word is a word of the set
 module _ (m : ℕ) (ks : List ℕ) (l : List ℤ) (g : length ks ≡ 2 ^ m) (e : length l ≡ 2 ^ m) (w : Word m ks (allOnes m)) where
   pub walked-negated : bare (walked m ks (turns (allOnes m) l)) ≡ bare (walked m ks l)
   unfolding walked

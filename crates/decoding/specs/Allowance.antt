@@ -1,4 +1,4 @@
--- The walk under an allowance (docs/RULES.md, §5): it stops before the first visit that is not allowed any more.
+-- The walk under an allowance (docs/RULES.md, §5): it stops before the first visit beyond the allowance.
 use mathlib.Core.List.{List, [], _∷_, _++_}
 use mathlib.Core.Bool.{cond}
 use Prim.Native.Nat.{ℕ, zero, suc, _+_, _-_}

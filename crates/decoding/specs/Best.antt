@@ -1,4 +1,4 @@
--- The best word, its penalty and the gap, over the list of all 2^k words, with no word about a search (docs/RULES.md, §3).
+-- The best word, its penalty and the gap, over the list of all 2^k words, without mentioning a search (docs/RULES.md, §3).
 use mathlib.Core.Path.{_≡_}
 use mathlib.Core.List.{List, [], map}
 use Prim.Native.Nat.{ℕ, _-_}
@@ -19,11 +19,11 @@ penalties m ks l = map (penaltyOf m ks l) (allBits (sum ks))
 unfoldable pub leastPenalty : ℕ → List ℕ → List ℤ → ℕ
 leastPenalty m ks l = least (penalties m ks l)
 
--- the next penalty less the least
+-- the next penalty minus the least
 unfoldable pub gap : ℕ → List ℕ → List ℤ → ℕ
 gap m ks l = next (penalties m ks l) - leastPenalty m ks l
 
--- the information bits of the first word with the least penalty: of the only one where the gap is above 0
+-- the information bits of the first word with the least penalty, which is the only one if the gap is above 0
 unfoldable pub bestBits : ℕ → List ℕ → List ℤ → List ℕ
 bestBits m ks l = firstWith (penaltyOf m ks l) (leastPenalty m ks l) [] (allBits (sum ks))
 

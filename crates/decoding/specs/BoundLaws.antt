@@ -1,5 +1,5 @@
--- How large a running sum can be (docs/RULES.md, §4): at most n times the largest reading, whatever that is; and one is as large.
--- Nor can a penalty be larger, and a penalty with the gap.
+-- How large a running sum can be (docs/RULES.md, §4): at most n times the largest reading, whatever that is; and one is that large.
+-- Nor can a penalty be larger, or a penalty plus the gap.
 use mathlib.Core.Path.{_≡_, refl, ap, sym, _∙_, subst}
 use mathlib.Core.List.{List, [], _∷_, _++_, Memᴰ·of-map, List·Memᴰ}
 use Prim.Native.Nat.{ℕ, zero, suc, _+_, _-_, _*_, _^_, _≤_}
@@ -24,7 +24,7 @@ use Rattle.decoding.specs.StepLaws.{entry-sizes, sizes-lowerRow, sizes-u
 use Rattle.decoding.specs.PathLaws.{value-sizes}
 use Rattle.decoding.specs.QuickLaws.{value-upper}
 
--- a row is cut at h, and gone on with its lower row, or with its upper row by the word a
+-- a row is cut at h and replaced by its lower row, or by its upper row for the word a
 pub data Step : Type 0 where
   toLower : ℕ → Step
   toUpper : ℕ → List ℕ → Step
@@ -41,7 +41,7 @@ sizes-after l [] = le-refl (sizes l)
 sizes-after l (toLower h ∷ s) = le-trans (sizes-after (lowerRow h l) s) (sizes-lowerRow h l)
 sizes-after l (toUpper h a ∷ s) = le-trans (sizes-after (upperRow h l a) s) (sizes-upperRow h l a)
 
--- every word's penalty is a sum of sizes of readings, so the next one is, which is the least one with the gap
+-- every word's penalty is a sum of sizes of readings, and so is the next penalty, which is the least plus the gap
 module _ (m : ℕ) (ks : List ℕ) (l : List ℤ) where
   penalty-entry : (p : ℕ) → List·Memᴰ p (penalties m ks l) → p ≤ sizes l
   unfolding penalties
@@ -67,7 +67,7 @@ module _ (largest : ℕ) (l : List ℤ) (within : Within largest l) where
   pub value-most : (m : ℕ) (u : List ℕ) → natAbs (value m l u) ≤ length l * largest
   value-most m u = le-trans (value-sizes m l u) (sizes-within largest l within)
 
-  -- the least penalty with the gap
+  -- the least penalty plus the gap
   pub gap-most : (m : ℕ) (ks : List ℕ) → 1 ≤ sum ks → leastPenalty m ks l + gap m ks l ≤ length l * largest
   gap-most m ks information = le-trans (next-sizes m ks l information) (sizes-within largest l within)
 

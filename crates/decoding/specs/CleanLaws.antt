@@ -1,6 +1,6 @@
 -- Readings without noise: s where the word c has 0 and -s where it has 1, s at least 1. Every word's penalty is s times its distance from c; so c is the
--- best word, with penalty 0, and the gap is s times the least distance: s × 2^(m-r) for RM(r,m). With the law of the gap (GapLaws) this is what noise
--- a code bears.
+-- best word, with penalty 0, and the gap is s times the least distance: s × 2^(m-r) for RM(r,m). With the law of the gap (GapLaws) this says what noise
+-- a code corrects.
 use mathlib.Core.Path.{_≡_, refl, ap, ap₂, sym, _∙_}
 use mathlib.Core.Bool.{cond}
 use mathlib.Core.List.{List, [], _∷_, map, List-discrete}
@@ -98,7 +98,7 @@ module _ (m : ℕ) (ks : List ℕ) (f : length ks ≡ 2 ^ m) (h : Bits ks) (c : 
   long-clean : length (clean s c) ≡ 2 ^ m
   long-clean = length-map c (λ b. turn b (pos s)) ∙ word-length m ks c f w
 
-  -- the gap is at least s times what all other words keep from c
+  -- the gap is at least s times the distance that all other words keep from c
   pub clean-apart : 1 ≤ sum ks → (d : ℕ) → ((x : List ℕ) → Word m ks x → (c ≡ x → ⊥) → d ≤ distance c x) → s * d ≤ gap m ks (clean s c)
   clean-apart information d far =
       let l = clean s c in
@@ -111,7 +111,7 @@ module _ (m : ℕ) (ks : List ℕ) (f : length ks ≡ 2 ^ m) (h : Bits ks) (c : 
       n .2 same in
       omega (arith, n .3, clean-best .clean-penalty, penalty-far x v, mul-le-mul-left s (far x v other))
 
--- of RM(r,m)
+-- for RM(r,m)
 module _ (r m : ℕ) (below : r ≤ m) (c : List ℕ) (w : Word m (kinds r m) c) (s : ℕ) (above : 1 ≤ s) where
   pub clean-best-code : CleanBest m (kinds r m) c (w .bits) (clean s c)
   clean-best-code = clean-best m (kinds r m) (length-kinds r m) (bits-kinds r m) c w s above
@@ -146,8 +146,8 @@ module _ (r m : ℕ) (below : r ≤ m) (c : List ℕ) (w : Word m (kinds r m) c)
       le-antisymm (rw (penalty-far m ks e bits c w s above y v, nearest) at most)
       (clean-apart m ks e bits c w s above (sum-kinds-pos r m) (2 ^ (m - r)) (λ x u z. distance-least r m c x below w u z))
 
-  -- so noise is borne whose sizes together stay below s × 2^(m-r), wherever it falls
-  pub noise-borne : (l : List ℤ) → length l ≡ 2 ^ m → drift (clean s c) l < s * 2 ^ (m - r) → (bestWord m (kinds r m) l ≡ c) × (0 < gap m (kinds r m) l)
-  noise-borne l e small =
+  -- so noise whose sizes add up to less than s × 2^(m-r) is corrected, wherever it falls
+  pub noise-corrected : (l : List ℤ) → length l ≡ 2 ^ m → drift (clean s c) l < s * 2 ^ (m - r) → (bestWord m (kinds r m) l ≡ c) × (0 < gap m (kinds r m) l)
+  noise-corrected l e small =
       let kept = undrifted-code r m (clean s c) l (long-clean m (kinds r m) (length-kinds r m) (bits-kinds r m) c w s above) e (rw clean-gap small) in
       (kept .same-word ∙ clean-best-code .clean-word, kept .gap-left)

@@ -10,7 +10,7 @@ use Rattle.numbers.specs.Parts.{up, down}
 use Rattle.numbers.specs.PartsLaws.{parts, sum-parts, negated, by-parts}
 use Rattle.decoding.specs.Readings.{loss, turn, penalty, correlation, sizes}
 
--- at one position: the turned reading is what is not lost, less what is lost
+-- at one position: the turned reading is what is not lost minus what is lost
 record Turned (r : ℤ) (b : ℕ) : Type 0 where
   up-turned : up (turn b r) + loss r b ≡ natAbs r
   down-turned : down (turn b r) ≡ loss r b

@@ -19,7 +19,7 @@ use Rattle.decoding.specs.Answer.{Answer, found, tied, outOfVisits, answ
 
 -- ---- Demand 1
 -- Any numbers at all may be handed in. Wrong parameters, lengths or entries get the refusal that the rules name; every refusal leaves the lent buffers
--- unchanged; every call ends. The contract of each public call asks nothing and fixes answer and buffers for all input by one equation; that the refusals are
+-- unchanged; every call ends. The contract of each public call requires nothing and fixes answer and buffers for all input by one equation; that refusals are
 -- those that the rules name is `Demand1` of the crate `code`, which the outcomes of each call meet.
 
 -- ---- Demand 2
@@ -28,13 +28,13 @@ pub record Published (m : ℕ) (ks : List ℕ) : Type 0 where
   -- the bits fill a row u; word bit x_j is the sum modulo 2 of all u_i where every one-bit of j is also a one-bit of i; this is u times the Kronecker power
   pub by-index : (b : List ℕ) → InformationBits ks b → encoded m ks b ≡ wordByIndex m (fill ks b)
   pub by-matrix : (b : List ℕ) → InformationBits ks b → encoded m ks b ≡ wordByMatrix m (fill ks b)
-  -- of n bits, exactly the information bits that give them are taken back
+  -- from n bits, exactly the information bits that give them are taken back
   pub taking-back : (x b : List ℕ) → length x ≡ 2 ^ m → Bits x → (takenBack m ks x ≡ taken b) ↔ (InformationBits ks b × (encoded m ks b ≡ x))
   -- they are refused exactly if no information bits give them, and the place is the lowest frozen index where the row that they come from is 1
   pub refusing : (x : List ℕ) → length x ≡ 2 ^ m → Bits x → ((i : ℕ) × (takenBack m ks x ≡ frozenOne i)) ↔ (Word m ks x → ⊥)
   pub place : (x : List ℕ) (i : ℕ) → length x ≡ 2 ^ m → Bits x → (takenBack m ks x ≡ frozenOne i) ↔ LowestFrozenOne ks (wordByIndex m x) i
 
--- of RM(r,m): k is the sum of binomials, and the words are the value tables of polynomials of degree at most r
+-- for RM(r,m): k is the sum of binomials, and the words are the value tables of polynomials of degree at most r
 pub record PublishedCode (r m : ℕ) : Type 0 where
   pub k-is : sum (kinds r m) ≡ dimension r m
   pub words-are : (x : List ℕ) → Word m (kinds r m) x ↔ Polynomial r m x
@@ -82,13 +82,13 @@ pub record Demand3 (m : ℕ) (ks : List ℕ) (l : List ℤ) (c bits : List ℕ) 
   -- the first ones plus that codeword's, modulo 2.
   pub together : (allowed allowed′ : ℕ) → (answer m ks l allowed ≡ outOfVisits → ⊥) → (answer m ks (turns c l) allowed′ ≡ outOfVisits → ⊥)
       → Together bits c (answer m ks l allowed) (answer m ks (turns c l) allowed′)
-  -- If the first walk, run without a limit, never meets a value of zero at an information position, the second needs exactly as many visits, so under one
-  -- allowance both run out or neither does. All else is as above.
+  -- If the first walk, run without a limit, never meets a value of zero at an information position, the second needs exactly as many visits, so under the same
+  -- allowance both run out or neither does. Everything else is as above.
   pub same-visits : NeverZero m l ks [] 0 start → needed m ks (turns c l) ≡ needed m ks l
   pub both-run-out : NeverZero m l ks [] 0 start → (allowed : ℕ) → (answer m ks (turns c l) allowed ≡ outOfVisits) ↔ (answer m ks l allowed ≡ outOfVisits)
   pub same-answer : NeverZero m l ks [] 0 start → (allowed : ℕ) → answer m ks (turns c l) allowed ≡ plusWord bits c (answer m ks l allowed)
 
--- By the all-ones word, where it is a word of the set, all readings are negated: as many visits and the same answer, with no premise at all.
+-- By the all-ones word, if it is a word of the set, all readings are negated: as many visits and the same answer, with no premise at all.
 pub record Demand3AllOnes (m : ℕ) (ks : List ℕ) (l : List ℤ) (bits : List ℕ) : Type 0 where
   pub all-negated : turns (allOnes m) l ≡ map negℤ l
   pub same-visits : needed m ks (map negℤ l) ≡ needed m ks l

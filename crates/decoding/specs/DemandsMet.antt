@@ -67,7 +67,7 @@ module _ (m : ℕ) (ks : List ℕ) (l : List ℤ) (e : length l ≡ 2 ^ m) (f : 
         two = subst (TwoWords m ks l (leastPenalty m ks l)) (ap (λ (g : ℕ). leastPenalty m ks l + g) none ∙ add-zero (leastPenalty m ks l)) best-of-two;
       }
 
-  -- the least penalty of all words, from what is said of the best one
+  -- the least penalty of all words, from what is said about the best one
   found-least : (b x : List ℕ) (p g : ℕ) → BestFound m ks l b x p g → p ≡ leastPenalty m ks l
   found-least b x p g r =
       let best = bestBits m ks l in
@@ -253,7 +253,7 @@ demands m ks l e f kinds information =
       demand-3-all-ones = λ w. demand-3-all-ones m ks l f e w;
     }
 
--- of RM(r,m), which always has the all-ones word
+-- for RM(r,m), which always has the all-ones word
 module _ (r m : ℕ) (l : List ℤ) (e : length l ≡ 2 ^ m) where
   pub demands-code : Demands m (kinds r m) l
   demands-code = demands m (kinds r m) l e (length-kinds r m) (bits-kinds r m) (sum-kinds-pos r m)

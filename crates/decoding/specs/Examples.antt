@@ -55,7 +55,7 @@ pub record Examples : Type 0 where
   pub visits-25 : needed 3 (kinds 1 3) zeroMet ≡ 25
   pub visits-21 : needed 3 (kinds 1 3) (turns (1 ∷ 1 ∷ 0 ∷ 0 ∷ 1 ∷ 1 ∷ 0 ∷ 0 ∷ []) zeroMet) ≡ 21
   pub value-zero : value 3 zeroMet (0 ∷ 0 ∷ 0 ∷ []) ≡ pos 0
-  -- a better word after the first equal pair: when all under the first bit at index 3 is done, penalties 1 and 1 are held; the walk ends with 0 and 1
+  -- a better word after the first equal pair: when everything below the first bit at index 3 is done, penalties 1 and 1 are held; the walk ends with 0 and 1
   pub equal-pair : walk 3 pairFirst (0 ∷ 1 ∷ 1 ∷ 1 ∷ []) (0 ∷ 0 ∷ 0 ∷ 0 ∷ []) 0 start .held
       ≡ two (full (0 ∷ 0 ∷ 0 ∷ 0 ∷ 0 ∷ 0 ∷ 0 ∷ 0 ∷ []) 1) (full (0 ∷ 0 ∷ 0 ∷ 0 ∷ 0 ∷ 0 ∷ 1 ∷ 1 ∷ []) 1)
   pub then-better : walked 3 (kinds 1 3) pairFirst .held ≡ two (full (0 ∷ 0 ∷ 0 ∷ 1 ∷ 0 ∷ 1 ∷ 0 ∷ 0 ∷ []) 0) (full (0 ∷ 0 ∷ 0 ∷ 0 ∷ 0 ∷ 0 ∷ 0 ∷ 0 ∷ []) 1)

@@ -1,5 +1,5 @@
--- What the gap is good for: it is how much all readings together must change before the answer can.
--- Readings that changed by less, Σ |l_j - l′_j| in all, keep the best word and a gap above 0; that no larger bound will do is in GapReachedLaws.
+-- What the gap means: it is how much all readings together must change before the answer can.
+-- Readings that changed by less, Σ |l_j - l′_j| in all, keep the best word and a gap above 0; that the bound cannot be raised is in GapReachedLaws.
 use mathlib.Core.Path.{_≡_, refl, ap, sym, _∙_}
 use mathlib.Core.Bool.{cond}
 use mathlib.Core.List.{List, [], _∷_, List-discrete}
@@ -27,7 +27,7 @@ drift [] l′ = 0
 drift (r ∷ l) [] = 0
 drift (r ∷ l) (s ∷ l′) = natAbs (r -ℤ s) + drift l l′
 
--- what the readings speak for x against y: the sum, over the places where the two differ, of the reading, negated where x has 1
+-- how much the readings favour x over y: the sum, over the places where the two differ, of the reading, negated where x has 1
 unfoldable pub leaning : List ℤ → List ℕ → List ℕ → ℤ
 leaning [] x y = pos 0
 leaning (r ∷ l) [] y = pos 0

@@ -1,4 +1,4 @@
--- The gap is reached: some change of all readings together by just the gap makes a tie, so no larger bound will do in GapLaws.
+-- The gap is reached: some change of all readings together by exactly the gap makes a tie, so the bound in GapLaws cannot be raised.
 -- It is enough to change one reading, at the first place where the best word and a next one differ.
 use mathlib.Core.Path.{_≡_, refl, ap, ap₂, sym, _∙_}
 use mathlib.Core.Bool.{cond}

@@ -1,4 +1,4 @@
--- The premise of demand 3, shown of four rows of readings, and false where the only reading is 0. At a frozen index it asks nothing of the value.
+-- The premise of demand 3, shown for four rows of readings, and false where the only reading is 0. At a frozen index it requires nothing of the value.
 use mathlib.Core.Path.{_≡_, refl, ap}
 use mathlib.Core.Bool.{false}
 use mathlib.Core.List.{List, [], _∷_, _++_}
@@ -12,7 +12,7 @@ use Rattle.words.specs.Kinds.{kind, kinds}
 use Rattle.decoding.specs.Readings.{loss}
 use Rattle.decoding.specs.Walk.{value, State, walk, start, dropped, visited, NeverZero}
 
--- at a frozen index: what is asked further on is enough
+-- at a frozen index: what is required further on is enough
 pub frozen-free : (m : ℕ) (l : List ℤ) (ks u : List ℕ) (p : ℕ) (s : State) → let q = p + loss (value m l u) 0 in
     (dropped (s .held) q ≡ false → NeverZero m l ks (u ++ 0 ∷ []) q (visited s)) → NeverZero m l (zero ∷ ks) u p s
 unfolding NeverZero
@@ -23,7 +23,7 @@ pub never-zero-00 : NeverZero 0 (pos 3 ∷ []) (kinds 0 0) [] 0 start
 unfolding kinds kind ones digit tabulate NeverZero value walk
 never-zero-00 = (λ e. omega (arith, ap natAbs e), (λ e. tt), (λ e. tt))
 
--- where the only reading is 0 it is false
+-- if the only reading is 0 it is false
 pub zero-met-00 : NeverZero 0 (pos 0 ∷ []) (kinds 0 0) [] 0 start → ⊥
 unfolding kinds kind ones digit tabulate NeverZero value walk
 zero-met-00 n = n .0 refl
@@ -56,7 +56,7 @@ never-zero-12 =
       )),
     ))
 
--- RM(1,2), readings 0, 1, 10, 3: the value at the frozen index is 0, and it holds all the same
+-- RM(1,2), readings 0, 1, 10, 3: the value at the frozen index is 0, and it still holds
 pub frozen-value-zero : value 2 (pos 0 ∷ pos 1 ∷ pos 10 ∷ pos 3 ∷ []) [] ≡ pos 0
 unfolding value
 frozen-value-zero = refl

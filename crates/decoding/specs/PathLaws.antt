@@ -156,7 +156,7 @@ module _ (m : ℕ) (l : List ℤ) (e : length l ≡ 2 ^ m) where
   pub path-below : (u w : List ℕ) → length u + length w ≡ 2 ^ m → Bits u → Bits w → pathPenalty m l u ≤ penalty l (transform m (u ++ w))
   path-below u w f h k = rw (← (path-full (u ++ w) (length-append u w ∙ f) (bits-append u w h k))) (path-rises m l u w)
 
-  -- and the row that goes on with them has as much
+  -- and the row that continues with them has exactly as much
   pub path-attained : (d : ℕ) (u : List ℕ) → length u + d ≡ 2 ^ m → Bits u → penalty l (transform m (u ++ onward m l d u)) ≡ pathPenalty m l u
   path-attained d u f h =
       let w = onward m l d u in

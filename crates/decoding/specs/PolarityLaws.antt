@@ -1,5 +1,5 @@
--- What readings of the wrong sign cost over a set without the all-ones word, as shortening can leave one: RM(r,m) has that word, so its penalty cannot tell.
--- Where the best word of RM(r,m) is in that set, each of its words has, for the negated readings, at least the gap of RM(r,m) more than the best word had.
+-- What readings of the wrong sign cost over a set without the all-ones word, as shortening can leave one. RM(r,m) has that word, so its penalty shows no sign.
+-- If the best word of RM(r,m) is in that set, each of its words has, for the negated readings, at least the gap of RM(r,m) more than the best word had.
 use mathlib.Core.Path.{_≡_, refl, ap, sym, subst, _∙_}
 use mathlib.Core.List.{List, map}
 use Prim.Native.Nat.{ℕ, _+_, _-_, _^_, _≤_}
@@ -35,7 +35,7 @@ penalty-negated m l x e f h =
 pub last-frozen : (m : ℕ) (ks : List ℕ) → length ks ≡ 2 ^ m → getD ks (2 ^ m - 1) 0 ≡ 0 → Word m ks (allOnes m) → ⊥
 last-frozen m ks f z w = not-zero-last m (word-frozen m ks (allOnes m) f w (2 ^ m - 1) z)
 
--- the information indices of ks are some of those of RM(r,m); the best word of RM(r,m) is a word of ks, and the all-ones word is none
+-- the information indices of ks are some of those of RM(r,m); the best word of RM(r,m) is a word of ks, and the all-ones word is not
 module _ (r m : ℕ) (ks : List ℕ) (l : List ℤ) (e : length l ≡ 2 ^ m) (f : length ks ≡ 2 ^ m) (inside : Frozen (kinds r m) ks)
     (best : Word m ks (bestWord m (kinds r m) l)) (no-ones : Word m ks (allOnes m) → ⊥) where
   pub wrong-sign : (x : List ℕ) → Word m ks x → leastPenalty m (kinds r m) l + gap m (kinds r m) l ≤ penalty (map negℤ l) x
@@ -56,9 +56,9 @@ module _ (r m : ℕ) (ks : List ℕ) (l : List ℤ) (e : length l ≡ 2 ^ m) (f 
       rw (penalty-negated m l x e long-x bits-x, ← (v .gives)) (others-more m js l (sum-kinds-pos r m) (v .bits) (v .long, v .are-bits) other)
 
   -- so the search over the smaller set has a least penalty that is larger by the gap, for the wrong sign
-  pub sign-told : leastPenalty m ks l + gap m (kinds r m) l ≤ leastPenalty m ks (map negℤ l)
+  pub sign-shown : leastPenalty m ks l + gap m (kinds r m) l ≤ leastPenalty m ks (map negℤ l)
   unfolding bestWord
-  sign-told =
+  sign-shown =
       let negated = map negℤ l in
       let b = best-bits-are m ks negated in
       let here : leastPenalty m ks l ≤ penalty l (bestWord m (kinds r m) l) =

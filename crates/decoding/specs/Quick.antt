@@ -33,7 +33,7 @@ uppers (x ∷ k) [] a = []
 uppers (x ∷ k) (y ∷ l) [] = []
 uppers (x ∷ k) (y ∷ l) (b ∷ a) = upper x y b ∷ uppers k l a
 
--- the same of a row that is cut at h
+-- the same for a row that is cut at h
 abbrev pub lowerRow : ℕ → List ℤ → List ℤ
 lowerRow h l = lowers (take h l) (drop h l)
 

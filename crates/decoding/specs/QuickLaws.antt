@@ -123,7 +123,7 @@ unfolding value
 value-upper m l u w e =
     rw (le-ltb (length (u ++ w)) (2 ^ m) (rw (length-append u w) (omega arith)), take-at u w (2 ^ m) e, drop-at u w (2 ^ m) e)
 
--- the bit that the value after its own choices speaks for, or 0 where the index is frozen
+-- the bit that the value after its own choices speaks for, or 0 if the index is frozen
 pub quick-chooses : (m : ℕ) (ks : List ℕ) (l : List ℤ) (i : ℕ) → i < 2 ^ m
     → getD (transform m (quickWord m ks l)) i 0 ≡ decide (getD ks i 0) (value m l (take i (transform m (quickWord m ks l))))
 unfolding quickWord transform value

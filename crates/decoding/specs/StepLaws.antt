@@ -92,7 +92,7 @@ length-uppers (x ∷ k) [] a e f = absurd (suc-ne-zero (length k) e)
 length-uppers (x ∷ k) (y ∷ l) [] e f = absurd (suc-ne-zero (length k) f)
 length-uppers (x ∷ k) (y ∷ l) (b ∷ a) e f = ap suc (length-uppers k l a (suc-inj e) (suc-inj f))
 
--- of a row that is cut in halves
+-- for a row that is cut in halves
 module _ (h : ℕ) (l : List ℤ) (e : length l ≡ h + h) where
   pub length-lowerRow : length (lowerRow h l) ≡ h
   length-lowerRow = length-lowers (take h l) (drop h l) (equal-halves h l e) ∙ length-first-half h l e
@@ -100,7 +100,7 @@ module _ (h : ℕ) (l : List ℤ) (e : length l ≡ h + h) where
   pub length-upperRow : (a : List ℕ) → length a ≡ h → length (upperRow h l a) ≡ h
   length-upperRow a f = length-uppers (take h l) (drop h l) a (equal-halves h l e) (length-first-half h l e ∙ sym f) ∙ length-first-half h l e
 
--- of a row of 2^(m + 1)
+-- for a row of 2^(m + 1)
 module _ (m : ℕ) (l : List ℤ) (e : length l ≡ 2 ^ suc m) where
   pub long-lowerRow : length (lowerRow (2 ^ m) l) ≡ 2 ^ m
   long-lowerRow = length-lowerRow (2 ^ m) l (e ∙ two-pow-succ m)
@@ -123,7 +123,7 @@ getD-uppers (x ∷ k) (y ∷ l) [] i e f h = absurd (suc-ne-zero (length k) f)
 getD-uppers (x ∷ k) (y ∷ l) (b ∷ a) zero e f h = refl
 getD-uppers (x ∷ k) (y ∷ l) (b ∷ a) (suc i) e f h = getD-uppers k l a i (suc-inj e) (suc-inj f) (le-of-suc-le-suc h)
 
--- of a row that is cut in halves
+-- for a row that is cut in halves
 module _ (h : ℕ) (l : List ℤ) (e : length l ≡ h + h) (i : ℕ) (below : i < h) where
   pub getD-lowerRow : getD (lowerRow h l) i (pos 0) ≡ lower (getD l i (pos 0)) (getD l (h + i) (pos 0))
   getD-lowerRow =

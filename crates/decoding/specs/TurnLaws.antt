@@ -25,7 +25,7 @@ pub size-turn : (b : ℕ) (r : ℤ) → natAbs (turn b r) ≡ natAbs r
 size-turn zero r = refl
 size-turn (suc b) r = omega (arith, parts r, parts (negℤ r), negated r)
 
--- the turned reading is against the turned bit as the reading is against the bit
+-- the turned reading contradicts the turned bit as the reading contradicts the bit
 pub loss-turn : (a b : ℕ) (r : ℤ) → a < 2 → b < 2 → loss (turn a r) ((b + a) % 2) ≡ loss r b
 loss-turn zero zero r h k = refl
 loss-turn zero (suc zero) r h k = refl

@@ -1,5 +1,5 @@
 -- Readings negated by a word of the set: the penalties of all words are the same in another order, so least penalty and gap are equal with no premise;
--- where the gap is above 0, the best word and its bits have the word and its bits added.
+-- if the gap is above 0, the best word and its bits have the word and its bits added.
 use mathlib.Core.Path.{_≡_, refl, ap, ap₂, sym, _∙_}
 use mathlib.Core.Logic.{⊎-elim}
 use mathlib.Core.List.{List, [], _∷_, map, map-map, map-append}
@@ -86,7 +86,7 @@ module _ (m : ℕ) (ks : List ℕ) (l : List ℤ) (c : List ℕ) (g : length ks 
   unfolding gap
   gap-turned = ap₂ _-_ (next-reordered (penalties m ks (turns c l)) (penalties m ks l) penalties-reordered) least-turned
 
-  -- where the gap is above 0: the best word's bits with those of c added
+  -- if the gap is above 0: the best word's bits with those of c added
   pub bestBits-turned : 0 < gap m ks l → bestBits m ks (turns c l) ≡ xors (bestBits m ks l) (w .bits)
   bestBits-turned above =
       let b = bestBits m ks l in

@@ -63,7 +63,7 @@ visited s = record { held = s .held; visits = s .visits + 1 }
 abbrev pub finished : List ℕ → ℕ → State → State
 finished u p s = record { held = hold (s .held) (record { path = u; penalty = p }); visits = s .visits }
 
--- the path u of penalty p extended by the bit b at value v: one visit, then dropped, or gone on with
+-- the path u of penalty p extended by the bit b at value v: one visit, then dropped or continued
 abbrev pub extend : (List ℕ → ℕ → State → State) → ℤ → List ℕ → ℕ → ℕ → State → State
 extend onward v u p b s =
     let q = p + loss v b in

@@ -53,7 +53,7 @@ module _ (m : ℕ) (l : List ℤ) where
       le-trans (le-add-right p (loss v b)) (fulls-above ks (u ++ b ∷ []) (p + loss v b) f j) in
       ⊎-elim (go (hard v)) (go (1 - hard v)) (List·Memᴰ·append-cases (fulls ks (u ++ hard v ∷ []) (p + loss v (hard v))) i)
 
-  -- ---- dropping loses nothing: what the walk holds is what all full paths leave that are offered in its order
+  -- ---- dropping loses nothing: what the walk holds is what is held after all full paths are offered in its order
   extend-offers : (ks u : List ℕ) (p b : ℕ) (s : State)
       → (dropped (s .held) (p + loss (value m l u) b) ≡ false
       → walk m l ks (u ++ b ∷ []) (p + loss (value m l u) b) (visited s) .held ≡ offers (s .held) (fulls ks (u ++ b ∷ []) (p + loss (value m l u) b)))
@@ -76,12 +76,12 @@ module _ (m : ℕ) (l : List ℤ) where
       let y = fulls ks (u ++ (1 - hard v) ∷ []) (p + loss v (1 - hard v)) in
       go (1 - hard v) (extend (walk m l ks) v u p (hard v) s) ∙ ap (λ (h : Held). offers h y) (go (hard v) s) ∙ sym (offers-append (s .held) x y)
 
--- ---- the full paths are the path, gone on with the rows of the code
+-- ---- the full paths are the path, continued with the rows of the code
 bit-cases : (v : ℤ) → (hard v ≡ 0) ⊎ (hard v ≡ 1)
 bit-cases (pos n) = inl refl
 bit-cases (negsuc n) = inr refl
 
--- a path that is begun by u and gone on with a row in x
+-- a path that begins with u and continues with a row in x
 record Onward (u : List ℕ) (x : List (List ℕ)) (path : List ℕ) : Type 0 where
   rest : List ℕ
   in-x : List·Memᴰ rest x
@@ -148,7 +148,7 @@ sum-mapped : {A : Type 0} (g : ℕ → ℕ) (h : A → ℕ) (x y : List A) → s
 sum-mapped g h x y = rw (map-append h x y, map-append g (map h x) (map h y)) (sum-append (map g (map h x)) (map g (map h y)))
 
 module _ (m : ℕ) (l : List ℤ) (e : length l ≡ 2 ^ m) where
-  -- the penalty of the path u, gone on with a row
+  -- the penalty of the path u, continued with a row
   abbrev rowPenalty : List ℕ → List ℕ → ℕ
   rowPenalty u r = penalty l (transform m (u ++ r))
 

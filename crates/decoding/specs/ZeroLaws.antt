@@ -1,5 +1,5 @@
 -- All readings 0: every word has penalty 0, so the search is tied, with penalty 0; the walk makes n + k visits, since the last index of RM(r,m)
--- carries information: one path is gone to its end, its second extension there is held too, and every other second extension is dropped.
+-- carries information: one path is followed to its end, its second extension there is held too, and every other second extension is dropped.
 use mathlib.Core.Path.{_≡_, refl, ap, sym, subst}
 use mathlib.Core.Bool.{true}
 use mathlib.Core.List.{List, [], _∷_, _++_}
@@ -92,7 +92,7 @@ module _ (m : ℕ) (l : List ℤ) (none-speaks : Within 0 l) where
       let gap-is : gap m ks l ≡ 0 = omega (arith, r .second-has, penalty-sizes l (encoded m ks (r .second)), no-sizes) in
       rw (visits, least-is) at (answer-tied m ks l allowed (rw visits in-time) gap-is)
 
--- of RM(r,m)
+-- for RM(r,m)
 pub answer-zero-code : (r m : ℕ) (l : List ℤ) → length l ≡ 2 ^ m → Within 0 l → (allowed : ℕ) → 2 ^ m + dimension r m ≤ allowed
     → answer m (kinds r m) l allowed ≡ tied 0 (2 ^ m + dimension r m)
 answer-zero-code r m l e none-speaks allowed in-time =

@@ -1,4 +1,4 @@
--- The demands on the early answer (docs/RULES.md, §10), over its outcomes and those of the search. That it is met is proved in DemandsMet.
+-- The demands on the early answer (docs/RULES.md, §10), over its outcomes and those of the search. That they are met is proved in DemandsMet.
 use mathlib.Core.Path.{_≡_}
 use mathlib.Core.Bool.{true, false}
 use mathlib.Core.List.{List, [], _∷_}
@@ -42,7 +42,7 @@ pub record EarlyAnswer (r m : ℕ) (l : List ℤ) (o s : Outcome) : Type 0 where
   -- 6 and 7 only if the test did not pass.
   pub not-passed : 5 < o .number → passes r m (kinds r m) l ≡ false
 
--- ---- A larger allowance changes nothing that was answered or refused, but for 6, as with the search
+-- ---- A larger allowance changes no answer and no refusal except 6, as with the search
 abbrev pub EarlyLargerAllowance : ℕ → ℕ → List ℤ → List ℕ → List ℕ → Type 0
 EarlyLargerAllowance r m l bits word = (allowed more : ℕ) → allowed ≤ more
     → (answering r m allowed l bits word .number ≡ 6 → ⊥) → answering r m more l bits word ≡ answering r m allowed l bits word
@@ -51,16 +51,16 @@ EarlyLargerAllowance r m l bits word = (allowed more : ℕ) → allowed ≤ more
 -- readings negated where the word c, of the bits b, has 1; the second call may have other buffers
 pub record EarlyDemand3 (r m : ℕ) (l : List ℤ) (b c bits word bits′ word′ : List ℕ) : Type 0 where
   pub sound : SoundSearch r m (turns c l) bits′ word′
-  -- both answer at once, or neither does
+  -- both answer without a walk, or neither does
   pub same-way : passes r m (kinds r m) (turns c l) ≡ passes r m (kinds r m) l
-  -- at once, under any two allowances
+  -- without a walk, under any two allowances
   pub at-once : passes r m (kinds r m) l ≡ true → (allowed allowed′ : ℕ)
       → PlusWord b c (answering r m allowed l bits word) (answering r m allowed′ (turns c l) bits′ word′)
   -- if neither is refused as 6
   pub together : (allowed allowed′ : ℕ)
       → (answering r m allowed l bits word .number ≡ 6 → ⊥) → (answering r m allowed′ (turns c l) bits′ word′ .number ≡ 6 → ⊥)
       → PlusWord b c (answering r m allowed l bits word) (answering r m allowed′ (turns c l) bits′ word′)
-  -- if the walk meets no value of zero where it chooses: under one allowance all numbers are the same, 6 and the visits included
+  -- if the walk meets no value of zero where it chooses: under the same allowance all numbers are equal, 6 and the visits included
   pub same-answer : NeverZero m l (kinds r m) [] 0 start → (allowed : ℕ)
       → PlusWord b c (answering r m allowed l bits word) (answering r m allowed (turns c l) bits′ word′)
       × (answering r m allowed (turns c l) bits′ word′ .visits ≡ answering r m allowed l bits word .visits)

@@ -37,7 +37,7 @@ use Rattle.early.specs.OutcomeLaws.{answering-refused, answering-sound}
 use Rattle.early.specs.WayLaws.{true-or-false, passed-is, failed-is}
 use Rattle.early.specs.Demands.{EarlyAnswer, EarlyLargerAllowance, EarlyDemand3}
 
--- ---- outcomes of which on success only the word is given
+-- ---- outcomes that on success give only the word
 only-number : (o : Outcome) → wordOnly o .number ≡ o .number
 only-number o =
     elim (ℕ-discrete (o .number) 0) [
@@ -114,7 +114,7 @@ module _ (r m allowed : ℕ) (l : List ℤ) (bits word : List ℕ) (h : r ≤ m)
       })
       (λ e. record { best = search-best; as-search = λ z. refl; refused-as-search = only-refused searched; not-passed = λ k. e })
 
--- ---- for all that the call can be given
+-- ---- for every input of the call
 pub early-answer : (r m allowed : ℕ) (l : List ℤ) (bits word : List ℕ)
     → EarlyAnswer r m l (answering r m allowed l bits word) (searching r m allowed l bits word)
 early-answer r m allowed l bits word =
@@ -131,7 +131,7 @@ early-answer r m allowed l bits word =
     ]
 
 -- ---- a larger allowance
--- at once it is not looked at, else it is the search's
+-- without a walk the allowance is not looked at, otherwise it is the search's
 way-kept : (b : Bool) (at-once s s′ : Outcome) → ((s .number ≡ 6 → ⊥) → s′ ≡ s) → (cond b at-once (wordOnly s) .number ≡ 6 → ⊥)
     → cond b at-once (wordOnly s′) ≡ cond b at-once (wordOnly s)
 way-kept true at-once s s′ f n = refl
@@ -195,7 +195,7 @@ module _ {r m : ℕ} {l : List ℤ} (bits word : List ℕ) (x : SoundSearch r m 
         word-added = λ z. quickWord-turned r m of-code (x .sound .r-small) inside l (x .entries .long) c w p;
       })
 
-  -- where the test does not pass: as the search, of which on success only the word is given
+  -- if the test does not pass: as the search, of whose answer only the word is kept
   module _ (p : passes r m of-code l ≡ false) where
     first-is : (allowed : ℕ) → answering r m allowed l bits word ≡ wordOnly (searching r m allowed l bits word)
     first-is allowed = failed-is bits word x allowed p

@@ -8,7 +8,7 @@ use Rattle.early.specs.declared.Answered.{Answered}
 use Rattle.early.specs.Outcome.{asSearched, outcomeOf}
 use Rattle.early.specs.OutcomeLaws.{penaltyOnly, penalty-only-again}
 
--- whatever outcome is promised
+-- for any promised outcome
 pub early-only : (o : Outcome) (a a′ : Answered) (bits word bits′ word′ : List ℕ) → outcomeOf a bits word ≡ o → outcomeOf a′ bits′ word′ ≡ o
     → (a ≡ a′) × (bits ≡ bits′) × (word ≡ word′)
 early-only o a a′ bits word bits′ word′ e f =

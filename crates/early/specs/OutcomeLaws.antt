@@ -26,7 +26,7 @@ use Rattle.early.specs.declared.Answered.{Answered}
 use Rattle.early.specs.declared.Answered.the-variants.{Best, Refused}
 use Rattle.early.specs.Outcome.{asSearched, outcomeOf, wordOnly, earlyBy, answering}
 
--- what is given of a search's answer
+-- what is kept of a search's answer
 abbrev pub penaltyOnly : Searched → Answered
 penaltyOnly (search.Found penalty gap visits) = Best penalty
 penaltyOnly (search.Refused why) = Refused why

@@ -1,4 +1,4 @@
--- The loops of the test, one position more, and that the sum fits in 32 bits.
+-- The loops of the test, one more position at a time, and that the sum fits in 32 bits.
 use mathlib.Core.Path.{_≡_, sym, _∙_}
 use mathlib.Core.List.{List, [], _∷_}
 use Prim.Native.Nat.{ℕ, zero, suc, _+_, _-_, _*_, _^_, _%_, _≤_, _<_, zero-le, max}

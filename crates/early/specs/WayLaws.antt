@@ -1,4 +1,4 @@
--- The outcome on sound input: where the test passes, and where it does not.
+-- The outcome on sound input: if the test passes, and if it does not.
 use mathlib.Core.Path.{_≡_, refl}
 use mathlib.Core.Logic.{_⊎_, inl, inr}
 use mathlib.Core.Bool.{Bool, true, false}

@@ -1,4 +1,4 @@
--- What the functions of the test ask.
+-- What the functions of the test require.
 use mathlib.Core.Path.{_≡_}
 use mathlib.Core.List.{List}
 use Prim.Native.Nat.{ℕ, _^_, _<_}
@@ -16,7 +16,7 @@ pub record Testable (c : Code) (l : List ℤ) (x : List ℕ) : Type 0 where
   pub readings : GoodReadings c l
   pub long-word : length x ≡ 2 ^ c .m
 
--- the sum can be made in 32 bits
+-- the sum can be computed in 32 bits
 pub record Summable (M : ℕ) (l : List ℤ) (x : List ℕ) : Type 0 where
   pub within : Within M l
   pub long : length x ≡ length l

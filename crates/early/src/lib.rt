@@ -1,4 +1,4 @@
-// The early answer (docs/RULES.md, §10): the quick reading's word where it is surely the best, else
+// The early answer (docs/RULES.md, §10): the quick reading's word if it is surely the best, else
 // the search's.
 use code::Admitted;
 use code::Code;
@@ -23,7 +23,7 @@ pub enum Answered {
 }
 
 // Writes the information bits and the word of least penalty into the lent buffers: without a walk
-// where the quick reading is surely right, else where no other word has that penalty and the walk
+// if the quick reading is surely right, else if no other word has that penalty and the walk
 // needs no more visits than allowed.
 pub fn early_within(
     r: u32,
@@ -52,7 +52,7 @@ pub fn early(r: u32, m: u32, readings: &[i16], bits: &mut [u8], word: &mut [u8])
     early_within(r, m, Code::DEFAULT_ALLOWANCE, readings, bits, word)
 }
 
-// The quick reading gets arrays of its own, so that the buffers keep their contents where the test
+// The quick reading gets arrays of its own, so that the buffers keep their contents if the test
 // does not pass and the search refuses.
 fn answer_sound(
     code: Code,
@@ -75,7 +75,7 @@ fn answer_sound(
     test_first(code, allowed, readings, read_bits, read_word, bits, word)
 }
 
-// The quick reading and its test, and the search where the test does not pass.
+// The quick reading and its test, and the search if the test does not pass.
 fn test_first(
     code: Code,
     allowed: u32,
@@ -103,7 +103,7 @@ fn test_first(
     penalty_only(result)
 }
 
-// Of a search only word, bits and penalty are given.
+// Only word, bits and penalty of a search are given.
 fn penalty_only(answer: Searched) -> Answered
     ensures { λ a. ⌜ a ≡ penaltyOnly answer ⌝ }
 {

@@ -27,25 +27,25 @@ use Rattle.encode.specs.Demands.{view, encodeChecks, frozenCheck, invers
 long-or-not : (a b : ℕ) → (a ≡ b) ⊎ (a ≡ b → ⊥)
 long-or-not a b = elim (ℕ-discrete a b) [ yes e ↦ inl e | no e ↦ inr e ]
 
--- the tests of an input of bits, and then what is left
-module _ (r m : ℕ) (input : List ℕ) (due : ℕ) (output : List ℕ) (room : ℕ) (rest : Outcome) (more : Checks) where
+-- the tests of an input of bits, and then the rest
+module _ (r m : ℕ) (input : List ℕ) (expected : ℕ) (output : List ℕ) (room : ℕ) (rest : Outcome) (more : Checks) where
   good : Sound (rm r m) → made r m ≡ Good (rm r m)
   good s = made-good r m (s .m-small) (s .r-small)
 
-  pub decides-tested : (length input ≡ due → Bits input → Decides (output ∷ []) (view rest) more)
-      → Decides (output ∷ []) (view (tested r m input due output room rest)) (bitChecks r m input due (length output) room more)
+  pub decides-tested : (length input ≡ expected → Bits input → Decides (output ∷ []) (view rest) more)
+      → Decides (output ∷ []) (view (tested r m input expected output room rest)) (bitChecks r m input expected (length output) room more)
   decides-tested then =
-      decides-first 0 (λ b. b) 1 r m input due (length output ≡ room) (output ∷ []) (view (tested r m input due output room rest)) more
+      decides-first 0 (λ b. b) 1 r m input expected (length output ≡ room) (output ∷ []) (view (tested r m input expected output room rest)) more
       (record {
         decidable = long-or-not (length output) room;
-        one = λ e. ap view (sym (tested-parameters r m input due output room rest e));
-        two = λ s e. ap view (sym (tested-input r m input due output room rest (good s) refl e));
-        three = λ s i e. ap view (sym (tested-output r m input due output room rest (good s) refl i refl e));
-        four = λ s i o h. ap view (sym (tested-entry r m input due output room rest (good s) refl i refl o refl h));
-        else = λ s i o h. rw (← tested-all r m input due output room rest (good s) refl i refl o refl h) (then i (good-bits input h));
+        one = λ e. ap view (sym (tested-parameters r m input expected output room rest e));
+        two = λ s e. ap view (sym (tested-input r m input expected output room rest (good s) refl e));
+        three = λ s i e. ap view (sym (tested-output r m input expected output room rest (good s) refl i refl e));
+        four = λ s i o h. ap view (sym (tested-entry r m input expected output room rest (good s) refl i refl o refl h));
+        else = λ s i o h. rw (← tested-all r m input expected output room rest (good s) refl i refl o refl h) (then i (good-bits input h));
       })
 
--- the frozen indices, of any row of kinds
+-- the frozen indices, for any row of kinds
 pub decides-frozen : (m : ℕ) (ks : List ℕ) → length ks ≡ 2 ^ m → Bits ks → (word bits : List ℕ) → length word ≡ 2 ^ m → Bits word
     → Decides (bits ∷ []) (view (takingBack (takenBack m ks word) bits)) (frozenCheck m ks word)
 unfolding takenBack

@@ -22,18 +22,18 @@ same-answer (Refused why) (Refused why′) x y e f g =
     let carry = ap (λ (o : Outcome). carrying (o .number) (o .place) 0 0) e in
     ap Refused (refusal-only why why′ (carries-none why f g ∙ carry ∙ sym (carries-none why′ (λ k. f (number ∙ k)) (λ k. g (number ∙ k)))))
 
-buffer-told : (a : Completed) (x : List ℕ) → outcomeOf a x .buffer ≡ x
-buffer-told Done x = refl
-buffer-told (Refused why) x = refl
+outcome-buffer : (a : Completed) (x : List ℕ) → outcomeOf a x .buffer ≡ x
+outcome-buffer Done x = refl
+outcome-buffer (Refused why) x = refl
 
--- of any outcome that is none of the search's
+-- for any outcome that is not one of the search
 pub outcome-only : (o : Outcome) → (o .number ≡ 6 → ⊥) → (o .number ≡ 7 → ⊥)
     → (a b : Completed) (x y : List ℕ) → outcomeOf a x ≡ o → outcomeOf b y ≡ o → (a ≡ b) × (x ≡ y)
 outcome-only o six seven a b x y e f =
     let same = e ∙ sym f in
     let is = ap (λ (p : Outcome). p .number) (sym e) in (
       same-answer a b x y same (λ k. six (is ∙ k)) (λ k. seven (is ∙ k)),
-      sym (buffer-told a x) ∙ ap (λ (p : Outcome). p .buffer) same ∙ buffer-told b y,
+      sym (outcome-buffer a x) ∙ ap (λ (p : Outcome). p .buffer) same ∙ outcome-buffer b y,
     )
 
 only : (o : Outcome) → o .number < 6 → (a b : Completed) (x y : List ℕ) → outcomeOf a x ≡ o → outcomeOf b y ≡ o → (a ≡ b) × (x ≡ y)

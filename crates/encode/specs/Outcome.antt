@@ -16,7 +16,7 @@ use Rattle.code.specs.declared.Completed.{Completed}
 use Rattle.code.specs.declared.Completed.the-variants.{Done, Refused}
 
 pub record Outcome : Type 0 where
-  -- 0 where the call is done, else the refusal's number
+  -- 0 if the call is done, else the refusal's number
   pub number : ℕ
   -- the place that 4 and 5 carry, else 0
   pub place : ℕ
@@ -39,7 +39,7 @@ abbrev pub isGood : Made → Bool
 isGood (Good code) = true
 isGood Bad = false
 
--- tests 1 to 4 in their order, over an input of bits and a lent output with the lengths that they should have; `rest` where no test applies
+-- tests 1 to 4 in their order, over an input of bits and a lent output with the lengths that they should have; `rest` if no test applies
 unfoldable pub tested : ℕ → ℕ → List ℕ → ℕ → List ℕ → ℕ → Outcome → Outcome
 tested r m input long output room rest =
     let place = firstBadBit input in
@@ -48,15 +48,15 @@ tested r m input long output room rest =
     (cond (not (eqb (length output) room)) (refused OutputLength output)
     (cond (ltb place (length input)) (refused (Entry place) output) rest)))
 
--- of r, m, the information bits, and the buffer for the word
+-- from r, m, the information bits, and the buffer for the word
 unfoldable pub encoding : ℕ → ℕ → List ℕ → List ℕ → Outcome
 encoding r m bits word = tested r m bits (dimension r m) word (2 ^ m) (done (encoded m (kinds r m) bits))
 
--- of what is taken back from a word, and the buffer for the information bits
+-- from what is taken back from a word, and the buffer for the information bits
 abbrev pub takingBack : TakenBack → List ℕ → Outcome
 takingBack (taken b) bits = done b
 takingBack (frozenOne i) bits = refused (NotAWord i) bits
 
--- of r, m, the word, and the buffer for the information bits
+-- from r, m, the word, and the buffer for the information bits
 unfoldable pub inverting : ℕ → ℕ → List ℕ → List ℕ → Outcome
 inverting r m word bits = tested r m word (2 ^ m) bits (dimension r m) (takingBack (takenBack m (kinds r m) word) bits)

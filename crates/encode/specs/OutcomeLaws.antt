@@ -1,4 +1,4 @@
--- The outcome at each place where a call returns, and what an outcome says of the tests 1 to 4.
+-- The outcome at each place where a call returns, and what an outcome says about the tests 1 to 4.
 use mathlib.Core.Path.{_≡_, refl, ap, sym, _∙_, subst}
 use mathlib.Core.List.{List}
 use mathlib.Core.Logic.{_⊎_, inl, inr, ⊎-elim}

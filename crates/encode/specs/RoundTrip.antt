@@ -39,7 +39,7 @@ module _ (r m : ℕ) where
     unfolding inverting
     five-no-word = no-bits-give r m (dimension r m) (kinds r m) (length-kinds r m) (bits-kinds r m) (sum-kinds r m) word bits i e
 
-  -- and the other way: what no information bits give is refused so
+  -- and conversely: what no information bits give is refused as 5
   pub no-word-five : (word bits : List ℕ) → SoundInput (rm r m) (length bits) (length word) (Bits word) → (Word m (kinds r m) word → ⊥)
       → (i : ℕ) × (inverting r m word bits ≡ refused (NotAWord i) bits)
   unfolding inverting

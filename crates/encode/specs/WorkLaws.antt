@@ -1,4 +1,4 @@
--- What the steps of the work ask: a scratch array z of 256 bytes whose front, of n bytes, came back as k.
+-- What the steps of the work require: a scratch array z of 256 bytes whose front, of n bytes, came back as k.
 use mathlib.Core.Path.{_≡_, ap, ap₂, sym, _∙_}
 use mathlib.Core.List.{List}
 use Prim.Native.Nat.{ℕ, _-_, _^_, _≤_}

@@ -95,7 +95,7 @@ fn take_back(code: Code, word: &[u8], bits: &mut [u8]) -> Completed
     take_row(&kinds[0..n], &row[0..n], bits)
 }
 
-// Nothing is written before every frozen index is seen to be 0.
+// Nothing is written before every frozen index has been found to be 0.
 pub fn take_row(kinds: &[u8], row: &[u8], bits: &mut [u8]) -> Completed
     requires { ⌜ (length (now row) ≡ length (now kinds))
         × (length (now bits) ≡ sum (now kinds)) × Bits (now kinds) ⌝ }

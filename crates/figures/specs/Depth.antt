@@ -1,6 +1,6 @@
--- How deep the walk goes. Information steps that are open at once are at rising information indices, each inside the one before: `frozen_step` calls
+-- How deep the walk goes. Information steps that are open at the same time are at rising information indices, each inside the one before: `frozen_step` calls
 -- `info_step` at its own index or a later one, and `info_step` calls `frozen_step` at the index after its own. The number of information indices still to
--- choose falls with each such step, so at most k are open at once. The bounds on the stack (tools/stack) rest on this.
+-- choose falls with each such step, so at most k are open at the same time. The bounds on the stack (tools/stack) rest on this.
 use mathlib.Core.List.{List, [], _∷_}
 use Prim.Native.Nat.{ℕ, zero, suc, _≤_, _<_}
 use native.Mathlib.Omega.{arith}
@@ -28,7 +28,7 @@ pub record Depth : Type 0 where
   -- in the walk of RM(r,m): at most k
   pub most : (r m : ℕ) (steps : List ℕ) → Nested (kinds r m) 0 steps → length steps ≤ dimension r m
 
--- ---- met
+-- ---- proved
 falls : (ks : List ℕ) (i : ℕ) → i < length ks → 0 < getD ks i 0 → toChoose ks (suc i) < toChoose ks i
 unfolding sum
 falls [] i h k = absurd (omega arith)

@@ -1,4 +1,4 @@
--- The range of readings, by what the search reports: 32,767 is taken either way, -32,768 is refused as 4 at its place.
+-- The range of readings, by what the search reports: 32,767 is accepted with either sign, -32,768 is refused as 4 at its place.
 use mathlib.Core.Path.{_≡_, refl}
 use mathlib.Core.List.{[], _∷_}
 use Prim.Native.Nat.{ℕ}

@@ -1,4 +1,4 @@
--- The bench figures, one statement a file
+-- The bench figures, one statement per file
 pub mod BenchFigures
 pub mod LargestReadings
 pub mod RunnerUpFigures

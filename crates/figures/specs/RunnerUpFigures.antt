@@ -35,7 +35,7 @@ pub record RunnerUpFigures : Type 0 where
       ≡ beside (found (1 ∷ 1 ∷ 0 ∷ 0 ∷ []) (0 ∷ 0 ∷ 1 ∷ 1 ∷ 1 ∷ 1 ∷ 0 ∷ 0 ∷ []) 0 1 21) (0 ∷ 0 ∷ 0 ∷ 0 ∷ replicate 252 0)
   pub negated-12 : (a b c d e f g : ℕ) → searchingWithRunnerUp 1 2 9 (map negℤ sample) (a ∷ b ∷ c ∷ []) (d ∷ e ∷ f ∷ g ∷ [])
       ≡ beside (found (0 ∷ 1 ∷ 0 ∷ []) (1 ∷ 0 ∷ 1 ∷ 0 ∷ []) 1 1 9) (0 ∷ 0 ∷ 1 ∷ replicate 253 0)
-  -- of two words the other one; where they tie, none
+  -- with two words it is the other one; if they tie, there is none
   pub reading-3 : (a b : ℕ) → searchingWithRunnerUp 0 0 2 (pos 3 ∷ []) (a ∷ []) (b ∷ []) ≡ beside (found (0 ∷ []) (0 ∷ []) 0 3 2) (1 ∷ replicate 255 0)
   pub reading-0 : (a b : ℕ) → searchingWithRunnerUp 0 0 2 (pos 0 ∷ []) (a ∷ []) (b ∷ []) ≡ beside (unfound 7 0 2 (a ∷ []) (b ∷ [])) (replicate 256 0)
 

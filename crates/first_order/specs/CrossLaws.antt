@@ -17,7 +17,7 @@ use Rattle.hadamard.specs.Hadamard.{combined, hadamard}
 use Rattle.hadamard.specs.HadamardLaws.{getD-combined, length-combined, sizes-combined}
 use Rattle.first_order.specs.Work.{crossed}
 
--- a store behind the first n entries
+-- a store after the first n entries
 pub set-second : {A : Type 0} (p q : List A) (n j : ℕ) (a : A) → length p ≡ n → set (p ++ q) (n + j) a ≡ p ++ set q j a
 set-second p q n j a e =
     sym (take-append-drop n (set (p ++ q) (n + j) a))
@@ -34,7 +34,7 @@ by-halves (suc m) d h e f a b ea eb =
     let p : h ≡ 2 ^ m = e ∙ ap (λ (k : ℕ). 2 ^ k) q in
     ap₂ _++_ ea eb ∙ rw (q, p) refl
 
--- of two entries a step is the transform
+-- for two entries one step is the transform
 pub pair-crossed : (d : List ℤ) → crossed 1 d ≡ hadamard 1 d
 unfolding hadamard
 pair-crossed d = refl
@@ -71,7 +71,7 @@ module _ (d : List ℤ) (h : ℕ) (long : length d ≡ h + h) where
     first-long : length (front (take h d) (part 0) j) ≡ h
     first-long = length-front (take h d) (part 0) j (length-first-half h d long) (length-part 0) (omega arith)
 
-    -- what a pass reads is as it was
+    -- what a pass reads is unchanged
     pub read-first : getD s j (pos 0) ≡ getD d j (pos 0)
     read-first =
         ap (λ (l : List ℤ). getD l j (pos 0)) is
@@ -110,7 +110,7 @@ module _ (d : List ℤ) (h : ℕ) (long : length d ≡ h + h) where
         ∙ set-second (front (take h d) (part 0) (suc j)) y h j b long-first
         ∙ ap (λ (l : List ℤ). front (take h d) (part 0) (suc j) ++ l) second)
 
-  -- ---- the halves of what came out
+  -- ---- the halves of the result
   first-crossed : take h (crossed h d) ≡ part 0
   first-crossed = take-at (part 0) (part 1) h (length-part 0)
 
@@ -122,7 +122,7 @@ module _ (d : List ℤ) (h : ℕ) (long : length d ≡ h + h) where
       let whole : sizes (take h d) + sizes (drop h d) ≡ sizes d = sym (sizes-append (take h d) (drop h d)) ∙ ap sizes (take-append-drop h d) in
       omega (arith, sizes-combined e (take h d) (drop h d))
 
-  -- ---- lent one after the other: r is what `cross` left, a and b are what comes back of the halves
+  -- ---- lent one after the other: r is what `cross` left, a and b are the halves as they come back
   module _ (r : List ℤ) (is : r ≡ crossed h d) where
     abbrev pub first : List ℤ
     first = midOf 0 (h - 0) r
@@ -137,7 +137,7 @@ module _ (d : List ℤ) (h : ℕ) (long : length d ≡ h + h) where
       first-long-back : length a ≡ h
       first-long-back = kept ∙ ap length first-lent ∙ length-part 0
 
-      -- what `row` is by then
+      -- what `row` is at that point
       abbrev pub middle : List ℤ
       middle = putMid 0 (h - 0) r a
 

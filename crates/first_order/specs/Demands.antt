@@ -1,4 +1,4 @@
--- The demands on the call (docs/RULES.md, §13), over its outcomes and those of the search. That it is met is proved in DemandsMet.
+-- The demands on the call (docs/RULES.md, §13), over its outcomes and those of the search. That they are met is proved in DemandsMet.
 use mathlib.Core.Path.{_≡_}
 use mathlib.Core.Logic.{_↔_}
 use mathlib.Core.List.{List, [], _∷_}
@@ -30,25 +30,25 @@ abbrev pub FirstOrderDemand1 : ℕ → ℕ → List ℤ → List ℕ → List �
 FirstOrderDemand1 r m l bits word =
     Demand1 (firstOrderChecks r m l bits word) (bits ∷ word ∷ []) (view (firstOrdering r m l bits word))
 
--- ---- Beside the search, whatever both are given
+-- ---- Compared with the search, for every input of both
 pub record FirstOrderAsSearch (m : ℕ) (l : List ℤ) (bits word : List ℕ) : Type 0 where
-  -- with any allowance at least as large as the whole tree the search reports and leaves the same, but for the visits
+  -- with any allowance at least as large as the whole tree the search reports and leaves the same, except for the visits
   pub as-search : (allowed : ℕ) → tree (kinds 1 m) ≤ allowed → firstOrdering 1 m l bits word ≡ withoutVisits (searching 1 m allowed l bits word)
-  -- so a tie is refused where the search refuses it, and 6 is never given
+  -- so a tie is refused exactly if the search refuses it, and 6 is never given
   pub never-out : (r : ℕ) → firstOrdering r m l bits word .number ≡ 6 → ⊥
   pub no-visits : (r : ℕ) → firstOrdering r m l bits word .visits ≡ 0
 
--- ---- Demands 2 and 3, where tests 1 to 4 find nothing
+-- ---- Demands 2 and 3, if tests 1 to 4 find nothing
 -- o is the call's outcome
 pub record FirstOrderDemand2 (m : ℕ) (l : List ℤ) (bits word : List ℕ) (o : Outcome) : Type 0 where
-  -- where the gap is not 0: the one word of least penalty, its bits, that penalty and the gap to the next best
+  -- if the gap is not 0: the one word of least penalty, its bits, that penalty and the gap to the next best
   pub answers : (o .number ≡ 0) ↔ (0 < gap m (kinds 1 m) l)
   pub best : o .number ≡ 0 → BestFound m (kinds 1 m) l (o .bits) (o .word) (o .penalty) (o .gap)
-  -- where it is 0: refused as tied, with the least penalty, which two words have
+  -- if it is 0: refused as tied, with the least penalty, which two words have
   pub tied : gap m (kinds 1 m) l ≡ 0 → o ≡ refused (Tied (leastPenalty m (kinds 1 m) l) 0) bits word
   pub two-have-it : gap m (kinds 1 m) l ≡ 0 → BestTied m (kinds 1 m) l (leastPenalty m (kinds 1 m) l)
 
--- readings negated where the word c, of the bits b, has 1; the second call may have other buffers. Nothing is asked of the walk.
+-- readings negated where the word c, of the bits b, has 1; the second call may have other buffers. Nothing is required of the walk.
 pub record FirstOrderDemand3 (m : ℕ) (l : List ℤ) (b c bits word bits′ word′ : List ℕ) : Type 0 where
   pub sound : SoundSearch 1 m (turns c l) bits′ word′
   pub together : PlusWord b c (firstOrdering 1 m l bits word) (firstOrdering 1 m (turns c l) bits′ word′)
@@ -58,7 +58,7 @@ pub record FirstOrderDemands (m : ℕ) (l : List ℤ) (bits word : List ℕ) : T
   pub demand-3 : (c : List ℕ) (w : Word m (kinds 1 m) c) (bits′ word′ : List ℕ) → length bits′ ≡ dimension 1 m → length word′ ≡ 2 ^ m
       → FirstOrderDemand3 m l (w .bits) c bits word bits′ word′
 
--- ---- The transform done twice still fits 32 bits, of the longest row of the largest readings: hadamard's bound there is 2,147,418,112.
+-- ---- The transform done twice still fits 32 bits, for the longest row of the largest readings: hadamard's bound there is 2,147,418,112.
 pub record StillFits : Type 0 where
   pub largest-sum : 2 ^ largestM * (2 ^ largestM * largestReading) ≡ 2147418112
   pub below : 2 ^ largestM * (2 ^ largestM * largestReading) < 2 ^ 31

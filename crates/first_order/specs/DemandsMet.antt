@@ -46,15 +46,15 @@ module _ {m : ℕ} {l : List ℤ} (bits word : List ℕ) (x : SoundSearch 1 m l 
   enough : needed m ks l ≤ all
   enough = needed-most m ks l (bits-kinds 1 m)
 
-  told-by : (a : Answer) → answer m ks l all ≡ a → firstOrdering 1 m l bits word ≡ withoutVisits (byAnswer all bits word a)
-  told-by a e =
+  reported-by : (a : Answer) → answer m ks l all ≡ a → firstOrdering 1 m l bits word ≡ withoutVisits (byAnswer all bits word a)
+  reported-by a e =
       sym (first-order 1 m l bits word refl) ∙ ap withoutVisits (sound-answered bits word x all ∙ ap (byAnswer all bits word) e)
 
   found-is : 0 < gap m ks l → firstOrdering 1 m l bits word ≡ foundWith (leastPenalty m ks l) (gap m ks l) 0 (bestBits m ks l) (bestWord m ks l)
-  found-is g = told-by _ (answer-found m ks l all enough g)
+  found-is g = reported-by _ (answer-found m ks l all enough g)
 
   tied-is : gap m ks l ≡ 0 → firstOrdering 1 m l bits word ≡ refused (Tied (leastPenalty m ks l) 0) bits word
-  tied-is z = told-by _ (answer-tied m ks l all enough z)
+  tied-is z = reported-by _ (answer-tied m ks l all enough z)
 
   met-2 : FirstOrderDemand2 m l bits word (firstOrdering 1 m l bits word)
   met-2 =
@@ -107,7 +107,7 @@ module _ (m : ℕ) (l : List ℤ) (bits word : List ℕ) where
   first-order-demand-1 r =
       demand-1 (bits ∷ word ∷ []) (view (firstOrdering r m l bits word)) (firstOrderChecks r m l bits word) (first-decides r)
 
-  -- ---- beside the search
+  -- ---- compared with the search
   not-out : searching 1 m (tree (kinds 1 m)) l bits word .number ≡ 6 → ⊥
   not-out n =
       let all = tree (kinds 1 m) in

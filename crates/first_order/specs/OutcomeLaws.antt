@@ -80,15 +80,15 @@ module _ (m : ℕ) (l : List ℤ) (bits word : List ℕ) (x : SoundSearch 1 m l 
       let all = tree (kinds 1 m) in
       ap withoutVisits (sound-answered bits word x all ∙ ap (byAnswer all bits word) e)
 
-  pub tied-told : best ≡ second → refused (Tied ((sizes l - best) / 2) 0) bits word ≡ asSearch m l bits word
-  tied-told e =
+  pub tied-reported : best ≡ second → refused (Tied ((sizes l - best) / 2) 0) bits word ≡ asSearch m l bits word
+  tied-reported e =
       let all = tree (kinds 1 m) in
       sym (ended _ (answer-by-place m l (x .entries .long) place best second t all (le-refl all)) ∙ rw (eq-eqb best second e) refl)
 
-  pub found-told : (best ≡ second → ⊥) → (sign : ℕ) → sign ≡ hard (entry m l place) → (b w : List ℕ)
+  pub found-reported : (best ≡ second → ⊥) → (sign : ℕ) → sign ≡ hard (entry m l place) → (b w : List ℕ)
       → b ≡ bitsOf m place sign → w ≡ firstOrder m place sign
       → foundWith ((sizes l - best) / 2) ((best - second) / 2) 0 b w ≡ asSearch m l bits word
-  found-told d sign e b w eb ew =
+  found-reported d sign e b w eb ew =
       let all = tree (kinds 1 m) in
       rw (eb, ew, e)
       (sym (ended _ (answer-by-place m l (x .entries .long) place best second t all (le-refl all)) ∙ rw (ne-eqb best second d) refl))

@@ -1,4 +1,4 @@
--- The largest of a row: one entry more, and what the two looks find together.
+-- The largest of a row: one more entry, and what the two passes over it find together.
 use mathlib.Core.Path.{_≡_, refl, ap, sym, _∙_}
 use mathlib.Core.Logic.{_⊎_, inl, inr, ⊎-elim}
 use mathlib.Core.List.{List}
@@ -32,7 +32,7 @@ top-more f j most t = record {
       (lt-or-le most (f j));
 }
 
--- ---- the look by keys finds the place of the largest size
+-- ---- the pass over the keys finds the place of the largest size
 pub record Placed (h : List ℤ) (k : ℕ) : Type 0 where
   pub within : k % 256 < length h
   pub has : sizeAt h (k % 256) ≡ k / 256
@@ -57,7 +57,7 @@ placed h k two short t =
     })
     (t .some-has)
 
--- an entry wiped
+-- an entry set to 0
 pub within-wiped : (n : ℕ) (h : List ℤ) (p : ℕ) → p < length h → Within n h → Within n (set h p (pos 0))
 within-wiped n h p b w i =
     elim (ℕ-discrete i p) [
@@ -70,7 +70,7 @@ within-wiped n h p b w i =
           omega (arith, w i)
     ]
 
--- the entry of the best wiped, the largest that is left is the next
+-- with the entry of the best set to 0, the largest that is left is the next
 pub both-found : (h : List ℤ) (k second : ℕ) → 2 ≤ length h → Placed h k
     → Top (sizeAt (set h (k % 256) (pos 0))) (length (set h (k % 256) (pos 0))) second → LargestTwo h (k % 256) (k / 256) second
 both-found h k second two p t =

@@ -105,7 +105,7 @@ module _ (d : List ℕ) (h b : ℕ) (long : h + h ≤ length d) where
         ∙ set-second (take h d) tail h j (getD again j (plus 0)) length-half
         ∙ ap (λ (l : List ℕ). take h d ++ l) (front-suc (drop h d) again j (plus 0) room (omega (arith, length-again))))
 
--- ---- the word's bits, as the code asks for them
+-- ---- the word's bits, as the code computes them
 module _ (m s e : ℕ) where
   pub length-bitsOf : length (bitsOf m s e) ≡ m + 1
   length-bitsOf = bitsOf-are m s e .0 ∙ sum-first-order m ∙ omega arith
@@ -118,7 +118,7 @@ module _ (m s e : ℕ) where
   pub last-bit : s < 2 ^ m → (Count.ones s % 2 + e) % 2 ≡ getD (bitsOf m s e) m 0
   last-bit h = omega (arith, ones-counted m s h, bitsOf-last m s e)
 
--- ---- the sum of sizes, one reading more
+-- ---- the sum of sizes, with one more reading
 pub sizes-more : (l : List ℤ) (j : ℕ) → j < length l → sizes (take (suc j) l) ≡ sizes (take j l) + natAbs (getD l j (pos 0))
 unfolding sizes
 sizes-more [] j h = absurd (omega arith)

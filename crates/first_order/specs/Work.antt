@@ -1,4 +1,4 @@
--- What the inner functions ask and give.
+-- What the inner functions require and give.
 use mathlib.Core.Path.{_≡_}
 use mathlib.Core.Logic.{_⊎_}
 use mathlib.Core.List.{List, _++_, map}
@@ -29,11 +29,11 @@ pub record Top (f : ℕ → ℕ) (j most : ℕ) : Type 0 where
   pub none-above : (i : ℕ) → i < j → f i ≤ most
   pub some-has : (most ≡ 0) ⊎ ((i : ℕ) × (i < j) × (f i ≡ most))
 
--- what a look at all entries finds
+-- what looking at all entries finds
 pub record Looked (h : List ℤ) (s : Seen) : Type 0 where
   pub largest : LargestTwo h (s .place) (s .best) (s .second)
   pub sign-is : s .sign ≡ hard (getD h (s .place) (pos 0))
 
--- the first h bits again behind them, each plus b, modulo 2
+-- the first h bits repeated after them, each plus b, modulo 2
 abbrev pub doubled : ℕ → ℕ → List ℕ → List ℕ
 doubled h b x = take h x ++ map (λ a. (a + b) % 2) (take h x) ++ drop (h + h) x

@@ -1,5 +1,5 @@
-// First-order words (docs/RULES.md, §13), without a walk: the entries of one transform are, but for
-// their signs, the correlations of all words of RM(1,m), so that the best two of them say what the
+// First-order words (docs/RULES.md, §13), without a walk: up to sign, the entries of one
+// transform are the correlations of all words of RM(1,m), so the best two of them say what the
 // search would say.
 use code::Admitted;
 use code::Refusal;
@@ -27,7 +27,7 @@ pub struct Seen {
     pub second: u32,
 }
 
-// Writes the information bits and the word of least penalty of RM(1,m), where no other word has
+// Writes the information bits and the word of least penalty of RM(1,m), if no other word has
 // that penalty. There are no visits.
 pub fn first_order(r: u32, m: u32, readings: &[i16], bits: &mut [u8], word: &mut [u8]) -> Searched
     ensures { λ answer. ⌜ outcomeOf answer (now (bits .exit)) (now (word .exit))
@@ -148,7 +148,7 @@ fn transform(row: &mut [i32], m: usize)
     transform(&mut row[h..], m - 1);
 }
 
-// ---- the look at all entries
+// ---- looking at all entries
 fn size(x: i32) -> u32
     requires { ⌜ natAbs x < 2 ^ 31 ⌝ }
     ensures { λ r. ⌜ r ≡ natAbs x ⌝ }
@@ -206,7 +206,7 @@ fn top_size(row: &[i32]) -> u32
     most
 }
 
-// The best and the next. The entry of the best is wiped, so that the next is the largest left.
+// The best and the next. The entry of the best is set to 0, so that the next is the largest left.
 fn look(row: &mut [i32]) -> Seen
     requires { ⌜ (2 ≤ length (now row)) × (length (now row) ≤ 256)
         × Within (2 ^ 24 - 1) (now row) ⌝ }
@@ -226,7 +226,7 @@ fn look(row: &mut [i32]) -> Seen
 }
 
 // ---- the word
-// The first h bits of the word again behind them, each plus the bit, modulo 2.
+// The first h bits of the word repeated after them, each plus the bit, modulo 2.
 fn double(word: &mut [u8], h: usize, bit: u8)
     requires { ⌜ (h + h ≤ length (now word)) × Bits (take h (now word)) × (bit < 2) ⌝ }
     ensures { λ _. ⌜ now (word .exit) ≡ doubled h bit (now (word .entry)) ⌝ }

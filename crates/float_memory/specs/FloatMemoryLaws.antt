@@ -1,4 +1,4 @@
--- Laws of the memory's arrays where the sums are floats: what is read of them. The laws of `memory` do the rest.
+-- Laws of the memory's arrays where the sums are floats: what is read from them. The laws of `memory` do the rest.
 use mathlib.Core.Path.{_≡_, ap, sym, _∙_, subst}
 use mathlib.Core.List.{List}
 use Prim.Native.Nat.{ℕ, suc, _+_, _-_, _^_, _≤_, _<_}
@@ -8,7 +8,7 @@ use lib.ListN.{length, getD, take, length-take}
 use lib.Pow.{pow-pos}
 use lib.Ieee.{Float, nan}
 use Rattle.decoding.specs.Walk.{value}
-use Rattle.memory.specs.Memory.{remade, Arrays, Made, Stands, Top, ValueReady, LowReady}
+use Rattle.memory.specs.Memory.{remade, Arrays, Made, RowsFor, Top, ValueReady, LowReady}
 use Rattle.memory.specs.CodeLaws.{low-asked, low-made, first-ready, same-arrays, value-arrays, value-made, single-value}
 use Rattle.memory.specs.LowLaws.{low-room}
 use Rattle.float_numbers.specs.Whole.{wholeOf, wholes}
@@ -29,19 +29,19 @@ wholes-front n m l e =
 
 -- the value, read from the row of one sum; one reading is its own
 pub value-read : {m j i : ℕ} {y : List ℕ} {l s : List ℤ} (s′ : List Float) → ValueReady m l y j i s → 0 < m → length y ≡ 256 → 1 < length s′
-    → Made m l y i 0 (wholes s′) → (wholeOf (getD s′ 1 nan) ≡ value m l (take i y)) × Stands m l y i i (wholes s′)
+    → Made m l y i 0 (wholes s′) → (wholeOf (getD s′ 1 nan) ≡ value m l (take i y)) × RowsFor m l y i i (wholes s′)
 value-read s′ v more long room f =
     let e = value-made v more long f in
     (wholes-entry s′ 1 nan (pos 0) room ∙ e .0, e .1)
 
 pub single-read : {m i : ℕ} {y : List ℕ} (l₀ : List Float) {s : List ℤ} → m ≡ 0 → length (take (2 ^ m) (wholes l₀)) ≡ 2 ^ m
-    → (wholeOf (getD l₀ 0 nan) ≡ value m (take (2 ^ m) (wholes l₀)) (take i y)) × Stands m (take (2 ^ m) (wholes l₀)) y i i s
+    → (wholeOf (getD l₀ 0 nan) ≡ value m (take (2 ^ m) (wholes l₀)) (take i y)) × RowsFor m (take (2 ^ m) (wholes l₀)) y i i s
 single-read {m = m} {i = i} {y = y} l₀ {s = s} z long =
     let some : 0 < length l₀ = omega (arith, long, length-take (2 ^ m) (wholes l₀), length-wholes l₀, pow-pos m) in
     let e = single-value {i = i} {y = y} (wholes l₀) {s = s} z in
     (wholes-entry l₀ 0 nan (pos 0) some ∙ e .0, e .1)
 
--- where the row of 2^t sums is the highest that changes: it and those below it, made by straight code
+-- if the row of 2^t sums is the highest that changes: it and those below it, made by straight code
 module _ {m j i t : ℕ} {y : List ℕ} {l : List ℤ} (s : List Float) (v : ValueReady m l y j i (wholes s)) (top : Top m j i t)
     (long : length s ≡ 256) (path : length y ≡ 256) (more : suc t < m) where
   arrays : Arrays (wholes s) y
@@ -51,5 +51,5 @@ module _ {m j i t : ℕ} {y : List ℕ} {l : List ℤ} (s : List Float) (v : Val
   short-asked few = low-asked (first-ready v top) arrays few more
 
   pub short-read : (s′ : List Float) → 1 < length s′ → wholes s′ ≡ remade (suc t) i y (wholes s)
-      → (wholeOf (getD s′ 1 nan) ≡ value m l (take i y)) × Stands m l y i i (wholes s′)
+      → (wholeOf (getD s′ 1 nan) ≡ value m l (take i y)) × RowsFor m l y i i (wholes s′)
   short-read s′ room e = value-read s′ v (omega (arith, more)) path room (low-made (first-ready v top) arrays more e)

@@ -1,2 +1,2 @@
--- The walk's memory in floats: what is read of its arrays
+-- The walk's memory in floats: what is read from its arrays
 pub mod FloatMemoryLaws

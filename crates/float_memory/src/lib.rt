@@ -6,7 +6,7 @@ ghost use lib.ListN.{length, take};
 ghost use Rattle.decoding.specs.Readings.{sizes, sumLimit};
 ghost use Rattle.decoding.specs.Walk.{value};
 ghost use Rattle.rows.specs.Rows.{rowOf, withRow};
-ghost use Rattle.memory.specs.Memory.{below, newRow, remade, Arrays, Made, Stands};
+ghost use Rattle.memory.specs.Memory.{below, newRow, remade, Arrays, Made, RowsFor};
 ghost use Rattle.memory.specs.Memory.{LowReady, RowsReady, ValueReady};
 ghost use Rattle.float_numbers.specs.Whole.{wholeOf, wholes};
 
@@ -107,7 +107,7 @@ fn start_of_1(rows: &mut [f32], path: &[u8], i: usize)
     float_rows::upper_row(rows, 1, &path[i - 1..i]);
 }
 
-// Of two and none of four: two rows.
+// For a block of two and none of four: two rows.
 fn start_of_2(rows: &mut [f32], path: &[u8], word: &mut [u8], i: usize)
     requires { ⌜ (i % 4 ≡ 2) × LowReady 2 i (now path) (wholes (now rows))
         × (length (now word) ≡ 256) ⌝ }
@@ -119,7 +119,7 @@ fn start_of_2(rows: &mut [f32], path: &[u8], word: &mut [u8], i: usize)
     float_rows::lower_row(rows, 1);
 }
 
-// Of four and none of eight: three rows.
+// For a block of four and none of eight: three rows.
 fn start_of_4(rows: &mut [f32], path: &[u8], word: &mut [u8], i: usize)
     requires { ⌜ (i % 8 ≡ 4) × LowReady 3 i (now path) (wholes (now rows))
         × (length (now word) ≡ 256) ⌝ }
@@ -146,7 +146,7 @@ fn any_value(
         (wholes (now rows)) ⌝ }
     ensures { λ r. ⌜ (wholeOf r
         ≡ value m (take (2 ^ m) (wholes (now (readings .entry)))) (take i (now (path .entry))))
-        × Stands m (take (2 ^ m) (wholes (now (readings .entry)))) (now (path .entry)) i i
+        × RowsFor m (take (2 ^ m) (wholes (now (readings .entry)))) (now (path .entry)) i i
         (wholes (now (rows .exit))) ⌝ }
 {
     if m == 0 {
@@ -159,7 +159,7 @@ fn any_value(
 
 // The value at index i of the path. The rows are for index was, and then for i. Most often i
 // comes next, and then at most three rows, of up to four sums, have to be made for seven indices in
-// eight; two places call any_value, so that the compiler keeps it out of that short way.
+// eight; two places call any_value, so that the compiler does not inline it into that short path.
 pub fn value(
     readings: &[f32; 256],
     rows: &mut [f32; 256],
@@ -173,7 +173,7 @@ pub fn value(
         (wholes (now rows)) ⌝ }
     ensures { λ r. ⌜ (wholeOf r
         ≡ value m (take (2 ^ m) (wholes (now (readings .entry)))) (take i (now (path .entry))))
-        × Stands m (take (2 ^ m) (wholes (now (readings .entry)))) (now (path .entry)) i i
+        × RowsFor m (take (2 ^ m) (wholes (now (readings .entry)))) (now (path .entry)) i i
         (wholes (now (rows .exit))) ⌝ }
 {
     if m < 4 {

@@ -20,21 +20,21 @@ Equals nan z = ⊥
 Equals (inf s) z = ⊥
 Equals (fin s m e) z = (m * Ieee.up e ≡ natAbs z * Ieee.down e) × (signed s (natAbs z) ≡ z)
 
-pub record Stands (x : Float) (z : ℤ) : Type 0 where
+pub record Represents (x : Float) (z : ℤ) : Type 0 where
   pub equals : Equals x z
 
 -- a row of floats is a row of whole numbers, entry by entry
-abbrev pub Stand : List Float → List ℤ → Type 0
-Stand [] [] = Unit {0}
-Stand [] (z ∷ l) = ⊥
-Stand (x ∷ f) [] = ⊥
-Stand (x ∷ f) (z ∷ l) = Stands x z × Stand f l
+abbrev pub RowRepresents : List Float → List ℤ → Type 0
+RowRepresents [] [] = Unit {0}
+RowRepresents [] (z ∷ l) = ⊥
+RowRepresents (x ∷ f) [] = ⊥
+RowRepresents (x ∷ f) (z ∷ l) = Represents x z × RowRepresents f l
 
 -- a number that no reading, sum or penalty reaches
 abbrev pub outside : ℤ
 outside = pos (2 ^ 24)
 
--- the whole number that x is; `outside` where x is none
+-- the whole number that x is; `outside` if x is not one
 unfoldable pub wholeOf : Float → ℤ
 wholeOf nan = outside
 wholeOf (inf s) = outside

@@ -13,7 +13,7 @@ use Rattle.rows.specs.RowLaws.{Pair, length-rowOf, row-entry, lower-turn, upper
 use Rattle.float_numbers.specs.Whole.{wholeOf, wholes}
 use Rattle.float_numbers.specs.WholesLaws.{length-wholes, wholes-set, wholes-entry}
 
--- ---- a row from the row above it: the array d as it was, and s with j sums of the row x
+-- ---- a row from the row above it: the array d before the loop, and s with j sums of the row x
 module _ (d s : List Float) (x : List ℤ) (h j : ℕ) (room : h + h + (h + h) ≤ length d) (long : length x ≡ h)
     (is : wholes s ≡ paste (wholes d) h x j) (same : length s ≡ length d) (more : j < h) where
   entry : (i : ℕ) → i < h + h → wholeOf (getD s (h + h + i) nan) ≡ getD (rowOf (h + h) (wholes d)) i (pos 0)

@@ -25,8 +25,8 @@ fn greater(x: f32, y: f32) -> f32
     if x < y { y } else { x }
 }
 
-// The smaller of |x| and |y|, with the sign of their product: the greater of their lesser and of
-// minus their greater, which needs no branch.
+// The smaller of |x| and |y|, with the sign of their product: the greater of the lesser one and
+// minus the greater one, which needs no branch.
 pub fn lower(x: f32, y: f32) -> f32
     requires { ⌜ (natAbs (wholeOf x) < sumLimit) × (natAbs (wholeOf y) < sumLimit) ⌝ }
     ensures { λ r. ⌜ wholeOf r ≡ lower (wholeOf x) (wholeOf y) ⌝ }

@@ -1,3 +1,3 @@
--- The float board (docs/RULES.md, §16): that its search is the search, stated, then proved
+-- The float board (docs/RULES.md, §16): that its search gives what the search gives, stated, then proved
 pub mod Same
 pub mod SameLaws

@@ -16,17 +16,17 @@ use Rattle.search.specs.Demands.{SoundSearch}
 use Rattle.search.specs.Demand1Met.{search-demand-1}
 use Rattle.search.specs.DemandsMet.{larger-allowance, outcome-demands}
 use Rattle.search.specs.RunnerUpMet.{runner-up-demand}
-use Rattle.float_numbers.specs.Whole.{Stand, wholeOf, wholes}
-use Rattle.float_numbers.specs.WholeLaws.{stands-small, wholeOf-is, neg-stands}
-use Rattle.float_numbers.specs.WholesLaws.{wholes-stand}
+use Rattle.float_numbers.specs.Whole.{RowRepresents, wholeOf, wholes}
+use Rattle.float_numbers.specs.WholeLaws.{represents-small, wholeOf-is, neg-represents}
+use Rattle.float_numbers.specs.WholesLaws.{wholes-represented}
 use Rattle.float_search.specs.Same.{FloatReading, RefusedEntry, turnedFloats, SameAnswers, FloatDemand3, FloatDemands}
 
 -- ---- an entry
 reading-within : (x : Float) → FloatReading x → natAbs (wholeOf x) ≤ largestReading
-reading-within x r = rw (wholeOf-is x (r .number) (r .stands)) (r .within)
+reading-within x r = rw (wholeOf-is x (r .number) (r .represents)) (r .within)
 
 within-reading : (x : Float) → natAbs (wholeOf x) ≤ largestReading → FloatReading x
-within-reading x h = record { number = wholeOf x; stands = stands-small x (omega arith); within = h }
+within-reading x h = record { number = wholeOf x; represents = represents-small x (omega arith); within = h }
 
 pub refused-entry : (x : Float) → RefusedEntry x
 refused-entry x = (
@@ -35,28 +35,28 @@ refused-entry x = (
 )
 
 -- ---- rows
-turned-stand : (c : List ℕ) (f : List Float) (l : List ℤ) → Stand f l → Stand (turnedFloats c f) (turns c l)
-turned-stand [] f l h = tt
-turned-stand (b ∷ c) [] [] h = tt
-turned-stand (b ∷ c) [] (z ∷ l) h = absurd h
-turned-stand (b ∷ c) (x ∷ f) [] h = absurd h
-turned-stand (zero ∷ c) (x ∷ f) (z ∷ l) h = (h .0, turned-stand c f l (h .1))
-turned-stand (suc b ∷ c) (x ∷ f) (z ∷ l) h = (neg-stands (h .0), turned-stand c f l (h .1))
+turned-represents : (c : List ℕ) (f : List Float) (l : List ℤ) → RowRepresents f l → RowRepresents (turnedFloats c f) (turns c l)
+turned-represents [] f l h = tt
+turned-represents (b ∷ c) [] [] h = tt
+turned-represents (b ∷ c) [] (z ∷ l) h = absurd h
+turned-represents (b ∷ c) (x ∷ f) [] h = absurd h
+turned-represents (zero ∷ c) (x ∷ f) (z ∷ l) h = (h .0, turned-represents c f l (h .1))
+turned-represents (suc b ∷ c) (x ∷ f) (z ∷ l) h = (neg-represents (h .0), turned-represents c f l (h .1))
 
-pub same-answers : (r m : ℕ) (f : List Float) (l : List ℤ) (bits word : List ℕ) → Stand f l → SameAnswers r m f l bits word
+pub same-answers : (r m : ℕ) (f : List Float) (l : List ℤ) (bits word : List ℕ) → RowRepresents f l → SameAnswers r m f l bits word
 same-answers r m f l bits word h =
     record {
-      outcome = λ allowed. ap (λ (k : List ℤ). searchingWithRunnerUp r m allowed k bits word) (wholes-stand f l h);
-      negated = λ c. turned-stand c f l h;
+      outcome = λ allowed. ap (λ (k : List ℤ). searchingWithRunnerUp r m allowed k bits word) (wholes-represented f l h);
+      negated = λ c. turned-represents c f l h;
     }
 
 -- floats whose numbers are in range are those numbers, and negated by a word they are the numbers negated by it
-stand-wholes : (f : List Float) → Within largestReading (wholes f) → Stand f (wholes f)
-stand-wholes [] h = tt
-stand-wholes (x ∷ f) h = (stands-small x (omega (arith, h 0)), stand-wholes f (λ i. h (suc i)))
+represents-wholes : (f : List Float) → Within largestReading (wholes f) → RowRepresents f (wholes f)
+represents-wholes [] h = tt
+represents-wholes (x ∷ f) h = (represents-small x (omega (arith, h 0)), represents-wholes f (λ i. h (suc i)))
 
 wholes-turned : (c : List ℕ) (f : List Float) → Within largestReading (wholes f) → wholes (turnedFloats c f) ≡ turns c (wholes f)
-wholes-turned c f h = wholes-stand (turnedFloats c f) (turns c (wholes f)) (turned-stand c f (wholes f) (stand-wholes f h))
+wholes-turned c f h = wholes-represented (turnedFloats c f) (turns c (wholes f)) (turned-represents c f (wholes f) (represents-wholes f h))
 
 -- ---- the demands
 float-demand-3 : (r m : ℕ) (f : List Float) (bits word : List ℕ) → SoundSearch r m (wholes f) bits word → (c : List ℕ) (w : Word m (kinds r m) c)

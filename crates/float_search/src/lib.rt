@@ -1,5 +1,5 @@
-// The float board (docs/RULES.md, §16): the search of float readings, with an allowance and the
-// short call.
+// The float board (docs/RULES.md, §16): the search of float readings, with an allowance and
+// without.
 use code::Admitted;
 use code::Code;
 use code::Refusal;
@@ -85,7 +85,7 @@ fn copy_readings(from: &[f32], to: &mut [f32])
 }
 
 // The search over the words of any row of 2^m kinds. The walk holds its rows in arrays of its own,
-// so that the buffers keep their contents where nothing is found.
+// so that the buffers keep their contents if nothing is found.
 fn search_kinds(
     readings: &[f32; 256],
     kinds: &[u8; 256],
@@ -113,11 +113,11 @@ fn search_kinds(
         &mut second,
         &mut state,
     );
-    let out = state[4];
+    let out = state[walk::OUT_OF_VISITS];
     if out != 0 {
         return WithRunnerUp::refused(Refusal::OutOfVisits(allowed));
     }
-    let visits = state[3];
+    let visits = state[walk::VISITS];
     let penalty = whole(end.best);
     let gap = whole(end.second - end.best);
     if gap == 0 {

@@ -1,5 +1,5 @@
 -- What the float walk holds and counts, as the eight numbers of the whole-number walk, with each penalty as the count that its float is. So its steps
--- ask and give what those of `walk` do, and that each penalty is a count.
+-- require and give what those of `walk` do, and also that each penalty is a count.
 use mathlib.Core.Path.{_≡_}
 use mathlib.Core.Bool.{true, false, cond}
 use mathlib.Core.List.{List, [], _∷_}
@@ -41,7 +41,7 @@ abbrev pub Extends : Penalties → ℕ → Extension → Type 0
 Extends h q Dropped = leb (secondOf h) q ≡ true
 Extends h q (Kept x) = (leb (secondOf h) q ≡ false) × (x ≡ float q)
 
--- what each step asks and gives, of the whole numbers that the readings and the rows are
+-- what each step requires and gives, for the whole numbers that the readings and the rows are
 pub record FloatAsked (l : List ℤ) (kinds : List ℕ) (s : List ℤ) (y best second σ : List ℕ) (h : Penalties) (i : ℕ) (p : Float) : Type 0 where
   pub long : length σ ≡ 8
   pub asked : StepAsked l kinds s y best second (eightOf h σ) i (count p)
@@ -54,7 +54,7 @@ pub record FloatGiven (l : List ℤ) (kinds y best second σ : List ℕ) (h : Pe
   pub given : StepGiven l kinds y best second (eightOf h σ) i (count p) s′ y′ best′ second′ (eightOf h′ σ′)
   pub counts : Counts h′
 
--- where the frozen step stands in its loop
+-- where the frozen step is in its loop
 pub record FloatReached (l : List ℤ) (kinds y₀ best₀ second₀ σ₀ : List ℕ) (h : Penalties) (from : ℕ) (p₀ : Float)
     (s : List ℤ) (y best second σ : List ℕ) (i : ℕ) (p : Float) : Type 0 where
   pub long : length σ ≡ 8

@@ -33,7 +33,7 @@ module _ (h : Penalties) where
   unfolding over
   visit-over {σ} v =
       let w = seen σ in
-      record { tells = v .tells; shows = record { long = refl; is = ap over (v .shows .is) ∙ either (allows w) (more w) (stopped w) } }
+      record { answers = v .answers; shows = record { long = refl; is = ap over (v .shows .is) ∙ either (allows w) (more w) (stopped w) } }
 
   pub asked-over : {l s : List ℤ} {y σ : List ℕ} {i : ℕ} → length σ ≡ 8 → ValueAsked l s y (eightOf h σ) i → ValueAsked l s y σ i
   asked-over long a = record { long = long; ready = a .ready }
@@ -51,7 +51,7 @@ float-first h x {n} y best second best′ s e z b =
     subst (λ (k : ℕ). Finished (count x) (seen (eightOf h s)) y best second (holding 1 (count x) k (seen (eightOf h s))) best′ second) none
     (first-held n (count x) (seen (eightOf h s)) y best second best′ second e z b)
 
--- ---- the walk from where the loop stands is the walk from its first index
+-- ---- the walk from where the loop is equals the walk from its first index
 pub float-given : {l : List ℤ} {kinds y₀ best₀ second₀ σ₀ : List ℕ} {h : Penalties} {from : ℕ} {p₀ : Float}
     {s : List ℤ} {y best second σ : List ℕ} {i : ℕ} {p : Float} → FloatReached l kinds y₀ best₀ second₀ σ₀ h from p₀ s y best second σ i p
     → {s′ : List ℤ} {y′ best′ second′ σ′ : List ℕ} {h′ : Penalties} → FloatGiven l kinds y best second σ h i p s′ y′ best′ second′ σ′ h′

@@ -9,8 +9,8 @@ use lib.Ieee as Ieee
 use lib.Ieee.{Float, binary32}
 use lib.Ieee.Back.{unsigned-back}
 use Rattle.decoding.specs.Readings.{sumLimit}
-use Rattle.float_numbers.specs.Whole.{Stands, wholeOf, float}
-use Rattle.float_numbers.specs.WholeLaws.{stands-small, whole-zero, whole-float, float-add, float-sub, lt-float, le-float}
+use Rattle.float_numbers.specs.Whole.{Represents, wholeOf, float}
+use Rattle.float_numbers.specs.WholeLaws.{represents-small, whole-zero, whole-float, float-add, float-sub, lt-float, le-float}
 use Rattle.float_walk.specs.declared.Penalties.{Penalties}
 use Rattle.float_walk.specs.declared.Extension.the-variants.{Kept}
 use Rattle.float_walk.specs.Held.{count, secondOf, Penalty, Extends}
@@ -28,7 +28,7 @@ count-of n e h = rw e (count-float n (omega arith))
 -- what a loss adds
 pub penalty-add : {x : Float} (y : Float) (b : ℕ) → Penalty x → wholeOf y ≡ pos b → count x + b < sumLimit → Ieee.add binary32 x y ≡ float (count x + b)
 penalty-add {x} y b p e h =
-    let is : Stands y (pos b) = subst (Stands y) e (stands-small y (rw e (omega arith))) in
+    let is : Represents y (pos b) = subst (Represents y) e (represents-small y (rw e (omega arith))) in
     ap (λ (z : Float). Ieee.add binary32 z y) (p .is) ∙ float-add (count x) b (omega (arith, p .small)) is
 
 -- order
@@ -60,7 +60,7 @@ no-count = ap natAbs whole-zero
 pub no-penalty : Penalty (Ieee.ofBits binary32 0)
 no-penalty = record { is = zero-is ∙ ap float (sym no-count); small = rw no-count (omega arith) }
 
--- ---- what two penalties are apart, and a penalty as a whole number
+-- ---- the difference of two penalties, and a penalty as a whole number
 pub penalty-sub : {x y : Float} → Penalty x → Penalty y → count y ≤ count x → Ieee.sub binary32 x y ≡ float (count x - count y)
 penalty-sub {x} {y} p q h = ap₂ (Ieee.sub binary32) (p .is) (q .is) ∙ float-sub (count x) (count y) (omega (arith, p .small)) h
 
@@ -68,7 +68,7 @@ in-float : (n : ℕ) → n < sumLimit → T (Ieee.inFloat binary32 (pos n))
 unfolding Ieee.inFloat
 in-float n h = le→leb n (2 ^ 24) (omega arith)
 
--- the cast asks nothing more, and gives the count
+-- the cast requires nothing more, and gives the count
 pub penalty-cast : {x : Float} → Penalty x → T (Ieee.inUnsigned binary32 32 x) × (Ieee.toUnsigned 32 x ≡ count x)
 penalty-cast {x} p =
     let n = count x in

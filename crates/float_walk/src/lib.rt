@@ -1,6 +1,6 @@
 // The crate walk in float arithmetic: two steps that call each other in turn, as there. What is
-// held goes by value: how many full paths, and two penalties that are floats. What is counted
-// stands in state, at the places 3 to 7 of the whole-number walk, whose functions change it; the
+// held is passed by value: how many full paths, and two float penalties. What is counted
+// is in state, at the places 3 to 7 of the whole-number walk, whose functions change it; the
 // places 0 to 2 are not used here.
 ghost use mathlib.Core.Path.{_≡_};
 ghost use mathlib.Core.List.{List};
@@ -14,7 +14,7 @@ ghost use Rattle.float_numbers.specs.Whole.{wholeOf, wholes};
 ghost use Rattle.float_walk.specs.Held.{count, eightOf, Penalty, Counts, Extends};
 ghost use Rattle.float_walk.specs.Held.{FloatAsked, FloatGiven};
 
-// The penalties of the full paths that are held; their rows of bits stand in best and second.
+// The penalties of the full paths that are held; their rows of bits are in best and second.
 pub struct Penalties {
     // how many are held: none, the best, best and second
     pub held: u32,
@@ -22,7 +22,7 @@ pub struct Penalties {
     pub second: f32,
 }
 
-// What comes of an extension: it is dropped, or kept with its penalty.
+// The result of an extension: it is dropped, or kept with its penalty.
 pub enum Extension {
     Dropped,
     Kept(f32),
@@ -106,12 +106,12 @@ fn value_at(
     ensures { λ r. ⌜ ValueGiven (wholes (now (readings .entry))) (now (path .entry))
         (now (state .entry)) i (wholeOf r) (wholes (now (rows .exit))) (now (state .exit)) ⌝ }
 {
-    let m = state[6];
-    let was = walk::stands(state, i);
+    let m = state[walk::EXPONENT];
+    let was = walk::made_for(state, i);
     float_memory::value(readings, rows, path, word, walk::wide(m), was, i)
 }
 
-// The path of the first `from` bits, of this penalty, goes on with a 0 at each frozen index: up to
+// The path of the first `from` bits, of this penalty, continues with 0 at each frozen index: up to
 // an information index or the end, or until an extension is dropped or not allowed.
 fn frozen_step(
     readings: &[f32; 256],
@@ -156,7 +156,7 @@ fn frozen_step(
         }
         let value = value_at(readings, rows, path, word, state, i);
         let Extension::Kept(after) = extend(held, sum, value, 0) else {
-            // it is counted all the same
+            // it is counted nevertheless
             return held;
         };
         walk::put(path, i, 0);
@@ -167,8 +167,8 @@ fn frozen_step(
 }
 
 // Both extensions at an information index i: first the bit that the value speaks for, which adds
-// nothing, so that it is not dropped; when everything under it is done, the other. Where the walk
-// under the first wanted a visit that is not allowed, none is left for the other.
+// nothing, so that it is not dropped; when everything under it is done, the other. If the walk
+// under the first needed a visit that is not allowed, none is left for the other.
 fn info_step(
     readings: &[f32; 256],
     kinds: &[u8; 256],
@@ -253,9 +253,9 @@ pub fn walk(
     let mut rows = [0.0f32; 256];
     let mut path = [0u8; 256];
     let mut word = [0u8; 256];
-    state[5] = (1u32 << m) - 1;
-    state[6] = m;
-    state[7] = allowed;
+    state[walk::ROWS_INDEX] = (1u32 << m) - 1;
+    state[walk::EXPONENT] = m;
+    state[walk::ALLOWANCE] = allowed;
     let none = Penalties {
         held: 0,
         best: 0.0,

@@ -1,5 +1,5 @@
 -- The largest size of an entry of the transform, its place and the largest size at the other places give the search's answer over RM(1,m):
--- least penalty and gap, and a tie exactly where both sizes are equal, else the best word and its bits.
+-- least penalty and gap, and a tie exactly if both sizes are equal, else the best word and its bits.
 -- The word of the best place with the other bit never comes next: its correlation is not above 0.
 use mathlib.Core.Path.{_≡_, refl, ap, ap₂, sym, _∙_, subst}
 use mathlib.Core.Logic.{_↔_, _⊎_, inl, inr, ⊎-elim}
@@ -67,7 +67,7 @@ either-up : (e : ℕ) (z : ℤ) → up (turn e z) ≤ natAbs z
 either-up zero z = omega (arith, parts z)
 either-up (suc e) z = omega (arith, parts z, negated z)
 
--- ---- the answer, where the look at all entries found place, best and second
+-- ---- the answer, if looking at all entries found place, best and second
 module _ (m : ℕ) (l : List ℤ) (long : length l ≡ 2 ^ m) (place best second : ℕ) (r : LargestTwo (hadamard m l) place best second) where
   abbrev sign : ℕ
   sign = hard (entry m l place)
@@ -172,7 +172,7 @@ module _ (m : ℕ) (l : List ℤ) (long : length l ≡ 2 ^ m) (place best second
   pub gap-by-place : 2 * gap m (kinds 1 m) l + second ≡ best
   gap-by-place = omega (arith, more-by-place, least-by-place)
 
-  -- tied exactly where another place has the best size
+  -- tied exactly if another place has the best size
   pub tied-by-place : (gap m (kinds 1 m) l ≡ 0) ↔ (second ≡ best)
   tied-by-place = (λ e. omega (arith, gap-by-place), λ e. omega (arith, gap-by-place))
 
@@ -212,7 +212,7 @@ module _ (m : ℕ) (l : List ℤ) (long : length l ≡ 2 ^ m) (place best second
       let a = byPlace m l place best second (needed m (kinds 1 m) l) in
       demands m (kinds 1 m) l long (length-kinds 1 m) (bits-kinds 1 m) (sum-kinds-pos 1 m) .demand-2 allowed a .0 (answer-by-place allowed h)
 
--- and demand 3: of readings and of those negated by a word, both are tied, or both answer, the second with that word and its bits added
+-- and demand 3: for readings and for those negated by a word, both are tied, or both answer, the second with that word and its bits added
 pub demand-3-by-place : (m : ℕ) (l : List ℤ) (c : List ℕ) (place best second place′ best′ second′ : ℕ) → length l ≡ 2 ^ m
     → (w : Word m (kinds 1 m) c) → LargestTwo (hadamard m l) place best second → LargestTwo (hadamard m (turns c l)) place′ best′ second′
     → Together (w .bits) c (byPlace m l place best second (needed m (kinds 1 m) l))

@@ -1,5 +1,5 @@
 -- The words of place s and bit e are the words of RM(1,m), each once: the information bits are the digits of s, the highest first, and then
--- e plus the number of ones of s, modulo 2; back, e is the sum of all information bits modulo 2.
+-- e plus the number of ones of s, modulo 2; conversely, e is the sum of all information bits modulo 2.
 use mathlib.Core.Path.{_≡_, refl, ap, ap₂, sym, _∙_}
 use mathlib.Core.List.{List, [], _∷_, _++_}
 use Prim.Native.Nat.{ℕ, zero, suc, _+_, _-_, _*_, _^_, _%_, _<_}

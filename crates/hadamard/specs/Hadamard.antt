@@ -1,4 +1,4 @@
--- The Hadamard transform of a row of 2^m whole numbers, the words of RM(1,m) that its entries stand for, and what a look at all its entries finds.
+-- The Hadamard transform of a row of 2^m whole numbers, the words of RM(1,m) that its entries stand for, and what looking at all its entries finds.
 -- A word of RM(1,m) is named by a place s below 2^m and a bit e; its correlation with the row is entry s, negated where e is 1.
 use mathlib.Core.Path.{_≡_}
 use mathlib.Core.Bool.{cond}
@@ -64,7 +64,7 @@ placeNamed (suc m) (a ∷ b) = a * 2 ^ m + placeNamed m b
 unfoldable pub correlations : ℕ → List ℤ → List ℤ
 correlations m l = map (λ b. correlation l (encoded m (kinds 1 m) b)) (allBits (sum (kinds 1 m)))
 
--- the same entries with the same repeats, in some order: any count of the one is that of the other
+-- the same entries with the same repeats, in some order: any count over one is the count over the other
 abbrev pub SameEntries : List ℤ → List ℤ → Type 0
 SameEntries k l = (g : ℤ → ℕ) → sum (map g k) ≡ sum (map g l)
 
@@ -80,7 +80,7 @@ pub record LargestTwo (h : List ℤ) (place best second : ℕ) : Type 0 where
   pub differs : other ≡ place → ⊥
   pub other-has : natAbs (getD h other (pos 0)) ≡ second
 
--- ---- the answer that they give, with these visits; the word is that of the place, with bit 1 exactly where its entry is negative
+-- ---- the answer that they give, with these visits; the word is that of the place, with bit 1 exactly if its entry is negative
 abbrev pub byPlace : ℕ → List ℤ → ℕ → ℕ → ℕ → ℕ → Answer
 byPlace m l place best second visits =
     let e = hard (entry m l place) in

@@ -1,4 +1,4 @@
--- The theorems on the transform (docs/RULES.md, §13), for every m and rows of whole numbers of any size. That it holds is proved in TheoremsMet.
+-- The theorems on the transform (docs/RULES.md, §13), for every m and rows of whole numbers of any size. That they hold is proved in TheoremsMet.
 use mathlib.Core.Path.{_≡_}
 use mathlib.Core.List.{List, _++_, map}
 use Prim.Native.Nat.{ℕ, suc, _+_, _*_, _^_, _≤_, _<_}
@@ -27,8 +27,8 @@ pub record TransformTheorems (m : ℕ) : Type 0 where
   -- It is additive.
   pub of-sum : (k l : List ℤ) → length k ≡ 2 ^ m → length l ≡ 2 ^ m → hadamard m (sums k l) ≡ sums (hadamard m k) (hadamard m l)
   pub of-difference : (k l : List ℤ) → length k ≡ 2 ^ m → length l ≡ 2 ^ m → hadamard m (differences k l) ≡ differences (hadamard m k) (hadamard m l)
-  -- While sums stay in range the code's transform is this one: it asks for a sum of sizes below 2^31. Of readings up to `largest` that sum
-  -- is at most n times it, of their transform n times n times it, and of two rows' sum it is at most that of both.
+  -- While sums stay in range the code's transform is this one: it requires a sum of sizes below 2^31. For readings up to `largest` that sum
+  -- is at most n times it, for their transform n times n times it, and for the sum of two rows at most that of both.
   pub in-range : (largest : ℕ) (l : List ℤ) → length l ≡ 2 ^ m → Within largest l → sizes l ≤ 2 ^ m * largest
   pub twice-in-range : (largest : ℕ) (l : List ℤ) → length l ≡ 2 ^ m → Within largest l → sizes (hadamard m l) ≤ 2 ^ m * (2 ^ m * largest)
   pub sum-in-range : (k l : List ℤ) → sizes (sums k l) ≤ sizes k + sizes l

@@ -31,7 +31,7 @@ some-side m i h = ⊎-elim (λ k. k) (λ (k : m ≤ 0). absurd (omega (arith, mu
 pub shifted : (q : ℕ) → q ≤ 8 → 1 * 2 ^ q % 18446744073709551616 ≡ 2 ^ q
 shifted q h = rw one-mul (mod-eq-of-lt (omega (arith, pow-mono {i = q} {j = 8} h)))
 
--- ---- an array that shows f as far as the loop has come
+-- ---- an array that holds f up to where the loop is
 pub shows-more : (f : ℕ → ℕ) (q : ℕ) (l : List ℕ) (x : ℕ) → q < length l → x ≡ f q → Shows f q l → Shows f (q + 1) (set l q x)
 shows-more f q l x h e s i k =
     ⊎-elim
@@ -101,7 +101,7 @@ placed-more j images places h s =
     })
 
 -- ---- no two images are equal exactly if each is at its own place
--- where some position has the value, the highest has it
+-- if some position has the value, the position that is found has it
 where-hit : (f : ℕ → ℕ) (v n i : ℕ) → i < n → f i ≡ v → (whereIs f v n < n) × (f (whereIs f v n) ≡ v)
 unfolding whereIs
 where-hit f v zero i h e = absurd (omega arith)

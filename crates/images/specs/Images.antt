@@ -25,12 +25,12 @@ isMap m A b = areBits A && (areBits b && canUndo m A)
 abbrev pub Shows : (ℕ → ℕ) → ℕ → List ℕ → Type 0
 Shows f k l = (i : ℕ) → i < k → getD l i 0 ≡ f i
 
--- the first h entries of l, and the first i of them once more, h further on, with x added
+-- the first h entries of l, and the first i of them repeated h further on, with x added
 pub record Doubled (h i x : ℕ) (l k : List ℕ) : Type 0 where
   pub same : Shows (λ j. getD l j 0) h k
   pub added : (j : ℕ) → j < i → getD k (h + j) 0 ≡ bitXor (getD l j 0) x
 
--- at v, the highest of the first n places where the entry is v; 0 where there is none
+-- at v, the highest of the first n places where the entry is v; 0 if there is none
 pub record Placed (n : ℕ) (images places : List ℕ) : Type 0 where
   pub is-place : Shows (λ v. whereIs (λ j. getD images j 0) v n) 256 places
 
@@ -42,15 +42,15 @@ pub record Mapped (m : ℕ) (A b : List ℕ) : Type 0 where
 
 -- whether it is a map, and for one the images without its row and their places
 pub record Taken (m : ℕ) (A b : List ℕ) (good : Bool) (images places : List ℕ) : Type 0 where
-  pub tells : good ≡ isMap m A b
+  pub decides : good ≡ isMap m A b
   pub images-are : good ≡ true → Shows (image m A []) (2 ^ m) images
   pub places-are : good ≡ true → Shows (λ v. whereIs (image m A []) v (2 ^ m)) 256 places
 
 pub record MapTested (m : ℕ) (A b : List ℕ) (good : Bool) (images : List ℕ) : Type 0 where
-  pub tells : good ≡ isMap m A b
+  pub decides : good ≡ isMap m A b
   pub images-are : good ≡ true → Shows (image m A []) (2 ^ m) images
 
--- each image, with x added, names an entry, and there is room for as many
+-- each image, with x added, is the place of an entry, and there is room for that many
 pub record Moves {T : Type 0} (images : List ℕ) (x : ℕ) (from to : List T) : Type 0 where
   pub room : length to ≡ length from
   pub each : length from ≤ length images

@@ -14,7 +14,7 @@ use Rattle.numbers.specs.SumsLaws.{total-same, total-add, total-zero}
 use Rattle.words.specs.Bits.{Bits, digit}
 use Rattle.words.specs.BitLaws.{second-alike, digit-first, digit-second}
 use Rattle.maps.specs.Maps.{number, imageBit, image}
-use Rattle.maps.specs.NumberLaws.{by-bits, number-below, digit-number, number-same, number-digits, digits-tell}
+use Rattle.maps.specs.NumberLaws.{by-bits, number-below, digit-number, number-same, number-digits, digits-determine}
 use Rattle.maps.specs.ImageLaws.{image-below, digit-image}
 use Rattle.maps.specs.CountLaws.{is, is-same, is-other, picked}
 use Rattle.maps.specs.UndoLaws.{image-added}
@@ -44,7 +44,7 @@ pub image-row : (m : ℕ) (A b : List ℕ) → Bits b → (j : ℕ) → bitXor (
 image-row m A b bits j =
     let i = image m A [] j in
     let x = number m (λ p. getD b p 0) in
-    digits-tell m (bitXor i x) (image m A b j) (xor-lt m i x (image-below m A [] j) (number-below m (λ p. getD b p 0) bits)) (image-below m A b j)
+    digits-determine m (bitXor i x) (image m A b j) (xor-lt m i x (image-below m A [] j) (number-below m (λ p. getD b p 0) bits)) (image-below m A b j)
     (λ p h.
     digit-xor p i x
     ∙ ap₂ (λ (u v : ℕ). (u + v) % 2) (digit-image m A [] j p h) (digit-number m (λ p. getD b p 0) bits p h)
@@ -66,7 +66,7 @@ image-zero m A =
     number-same m (imageBit m A [] (λ q. digit q 0)) (λ p. digit p 0) none ∙ number-digits m 0 (pow-pos m)
 
 -- ---- the images of positions with bit q
--- bit q alone is more
+-- only bit q is added
 digit-more : (q i k : ℕ) → i < 2 ^ q → digit k (2 ^ q + i) ≡ digit k i + is k q
 digit-more q i k h =
     ⊎-elim
@@ -91,7 +91,7 @@ image-column m A bits q i l h =
     let y = image m A [] i in
     let column : ℕ → ℕ = λ p. getD A (p * m + q) 0 in
     let x = number m column in
-    digits-tell m (bitXor y x) (image m A [] (2 ^ q + i)) (xor-lt m y x (image-below m A [] i) (number-below m column (λ p. bits (p * m + q))))
+    digits-determine m (bitXor y x) (image m A [] (2 ^ q + i)) (xor-lt m y x (image-below m A [] i) (number-below m column (λ p. bits (p * m + q))))
     (image-below m A [] (2 ^ q + i))
     (λ p k.
     let a : ℕ → ℕ = λ n. getD A (p * m + n) 0 in

@@ -85,7 +85,7 @@ false-true x e f = let z : _≡_ {A = ℕ} 0 1 = cc in absurd (omega arith)
 
 module _ (m : ℕ) (A b images places : List ℕ) where
   pub not-taken : isMap m A b ≡ false → Taken m A b false images places
-  not-taken e = record { tells = sym e; images-are = false-true false refl; places-are = false-true false refl }
+  not-taken e = record { decides = sym e; images-are = false-true false refl; places-are = false-true false refl }
 
   pub taken : (good : Bool) (n : ℕ) → n ≡ 2 ^ m → length A ≤ firstBadBit A → length b ≤ firstBadBit b → Shows (image m A []) (2 ^ m) images
       → Placed n images places → good ≡ allApart (λ j. getD images j 0) n → Taken m A b good images places
@@ -93,13 +93,13 @@ module _ (m : ℕ) (A b images places : List ℕ) where
   taken good n e table row s p is =
       let f : ℕ → ℕ = λ j. getD images j 0 in
       record {
-        tells = is ∙ ap (allApart f) e ∙ apart-same f (image m A []) (2 ^ m) s ∙ sym (both-good m A b table row);
+        decides = is ∙ ap (allApart f) e ∙ apart-same f (image m A []) (2 ^ m) s ∙ sym (both-good m A b table row);
         images-are = λ g. s;
         places-are = λ g v h. p .is-place v h ∙ ap (whereIs f v) e ∙ where-same f (image m A []) v (2 ^ m) s;
       }
 
 pub map-tested : (m : ℕ) (A b : List ℕ) (good : Bool) (images places : List ℕ) → Taken m A b good images places → MapTested m A b good images
-map-tested m A b good images places t = record { tells = t .tells; images-are = t .images-are }
+map-tested m A b good images places t = record { decides = t .decides; images-are = t .images-are }
 
 -- ---- a row as a table of one column
 pub row-number : (m : ℕ) (b : List ℕ) → number m (λ p. getD b (p * 1 + 0) 0) ≡ number m (λ p. getD b p 0)

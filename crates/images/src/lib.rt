@@ -26,7 +26,7 @@ pub fn column(table: &[u8], width: usize, q: usize, m: usize) -> u8
     x
 }
 
-// The first h images once more, with a column added: those of the positions h further on.
+// The first h images repeated, with a column added: those of the positions h further on.
 fn add_column(images: &mut [u8], h: usize, column: u8)
     requires { ⌜ h + h ≤ length (now images) ⌝ }
     ensures { λ _. ⌜ Doubled h h column (now (images .entry)) (now (images .exit)) ⌝ }
@@ -38,7 +38,7 @@ fn add_column(images: &mut [u8], h: usize, column: u8)
     }
 }
 
-// The images of all positions under the table alone.
+// The images of all positions under the table without the row.
 fn put_images(m: usize, table: &[u8], images: &mut [u8])
     requires { ⌜ (m ≤ largestM) × (length (now table) ≡ m * m) × Bits (now table)
         × (length (now images) ≡ 256) ⌝ }
@@ -102,7 +102,7 @@ pub fn take_map(m: usize, table: &[u8], row: &[u8], images: &mut [u8], places: &
     all_apart(n, images, places)
 }
 
-// The same where the places are of no use.
+// The same if the places are not needed.
 pub fn is_map(m: usize, table: &[u8], row: &[u8], images: &mut [u8]) -> bool
     requires { ⌜ Mapped m (now table) (now row) × (length (now images) ≡ 256) ⌝ }
     ensures { λ good. ⌜ MapTested m (now (table .entry)) (now (row .entry)) good
@@ -112,7 +112,7 @@ pub fn is_map(m: usize, table: &[u8], row: &[u8], images: &mut [u8]) -> bool
     take_map(m, table, row, images, &mut places)
 }
 
-// Position j reads the position that its image, with x added, names.
+// Position j gets the entry at its image, with x added.
 pub fn move_readings(images: &[u8], x: u8, from: &[i16], to: &mut [i16])
     requires { ⌜ Moves (now images) x (now from) (now to) ⌝ }
     ensures { λ _. ⌜ now (to .exit) ≡ moved (pos 0) x (now (images .entry)) (now (from .entry)) ⌝ }

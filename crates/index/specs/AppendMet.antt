@@ -1,4 +1,4 @@
--- After an append to a capture with its own index and table, both are those that are made afresh of the longer capture.
+-- After an append to a capture with its own index and table, both equal those made from the longer capture.
 use mathlib.Core.Path.{_≡_, refl, ap, subst, sym, _∙_}
 use mathlib.Core.List.{List, [], _∷_, _++_}
 use mathlib.Core.Bool.{Bool, true, false}
@@ -30,7 +30,7 @@ use Rattle.index.specs.StepsLaws.{Goes, step-next, starts-end, starts-ne
 use Rattle.index.specs.MakingLaws.{length-entries, made-whole}
 use Rattle.index.specs.AppendingLaws.{Fitting, free-room, append-refused, append-full, append-fits, append-done}
 
--- ---- bytes behind a capture of whole records change none of its steps
+-- ---- bytes after a capture of whole records change none of its steps
 module _ (s rest : List ℕ) where
   step-front : (at next : ℕ) → Goes s at next → stepped (s ++ rest) at ≡ At next
   step-front at next go =
@@ -40,7 +40,7 @@ module _ (s rest : List ℕ) where
       (omega (arith, go .by, go .there, same, sum))
       ∙ ap At (omega (arith, go .by, same))
 
-  -- a whole record behind it is one start more
+  -- a whole record after it is one more start
   pub starts-more : (l : List ℕ) (at : ℕ) → at ≤ length s → startsAt s at ≡ these l → startsAt (s ++ rest) (length s) ≡ these (length s ∷ [])
       → startsAt (s ++ rest) at ≡ these (l ++ (length s ∷ []))
   starts-more [] at h e last = ap (startsAt (s ++ rest)) (starts-none s at h e) ∙ last
@@ -50,7 +50,7 @@ module _ (s rest : List ℕ) where
       ∙ ap (andThese at) (starts-more l (b .next) (b .goes .there) (b .others) last)
       ∙ ap (λ (y : ℕ). these (y ∷ (l ++ (length s ∷ [])))) (sym (b .first))
 
--- ---- one start more is an entry more exactly where the number of records is a multiple of 16; k are passed over first
+-- ---- one more start is one more entry exactly if the number of records is a multiple of 16; k are skipped first
 every-hit : (k : ℕ) (l : List ℕ) (u : ℕ) → k < block → (length l + (block - k)) % block ≡ 0 → every k (l ++ (u ∷ [])) ≡ every k l ++ (u ∷ [])
 every-hit zero [] u h e = refl
 every-hit (suc k) [] u h e = absurd (omega arith)
@@ -63,7 +63,7 @@ every-miss (suc k) [] u h e = refl
 every-miss zero (x ∷ l) u h e = ap (λ (y : List ℕ). x ∷ y) (every-miss (block - 1) l u (omega arith) (λ z. e (omega arith)))
 every-miss (suc k) (x ∷ l) u h e = every-miss k l u (omega arith) (λ z. e (omega arith))
 
--- an entry behind those at the front of the table
+-- an entry after those at the front of the table
 set-behind : (e t : List ℕ) (u : ℕ) → take (length e) t ≡ e → length e < length t → (e ++ (u ∷ [])) ++ drop (length e + 1) t ≡ set t (length e) u
 set-behind [] [] u f h = absurd (omega arith)
 set-behind [] (y ∷ t) u f h = refl
@@ -74,7 +74,7 @@ set-behind (x ∷ e) (y ∷ t) u f h =
     let d : suc (length e) + 1 ≡ suc (length e + 1) = omega arith in
     rw (d, head) (ap (λ (z : List ℕ). x ∷ z) (set-behind e t u tail (omega arith)))
 
-module _ (all : List ℕ) (u : ℕ) (t : List ℕ) (stands : take (length (entriesOf all)) t ≡ entriesOf all) where
+module _ (all : List ℕ) (u : ℕ) (t : List ℕ) (begins : take (length (entriesOf all)) t ≡ entriesOf all) where
   abbrev own : List ℕ
   own = entriesOf all
 
@@ -82,7 +82,7 @@ module _ (all : List ℕ) (u : ℕ) (t : List ℕ) (stands : take (length (entri
   longer = entriesOf (all ++ (u ∷ []))
 
   fits : length own ≤ length t
-  fits = omega (arith, ap length stands, length-take (length own) t)
+  fits = omega (arith, ap length begins, length-take (length own) t)
 
   pub record Entered : Type 0 where
     pub enough : length longer ≤ length t
@@ -99,17 +99,17 @@ module _ (all : List ℕ) (u : ℕ) (t : List ℕ) (stands : take (length (entri
             let free : length own < length t = omega (arith, room z, place) in
             record {
               enough = omega arith;
-              same = rw (long, hit, eq-eqb (length all % block) 0 z, place) (set-behind own t u stands free);
+              same = rw (long, hit, eq-eqb (length all % block) 0 z, place) (set-behind own t u begins free);
             }
         | no n ↦
             let miss : longer ≡ own = every-miss 0 all u (omega arith) (λ z. n (omega arith)) in
             record {
               enough = omega (arith, ap length miss, fits);
-              same = rw (miss, ne-eqb (length all % block) 0 n) (ap (λ (x : List ℕ). x ++ drop (length own) t) (sym stands) ∙ take-append-drop (length own) t);
+              same = rw (miss, ne-eqb (length all % block) 0 n) (ap (λ (x : List ℕ). x ++ drop (length own) t) (sym begins) ∙ take-append-drop (length own) t);
             }
       ]
 
--- ---- what an append shows that is not refused
+-- ---- what an append that is not refused shows
 module _ (index : Index) (r m : ℕ) (l : List ℤ) (d t : List ℕ) where
   abbrev wrote : WrittenOutcome
   wrote = writing r m l d (index .used)

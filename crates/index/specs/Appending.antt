@@ -17,9 +17,9 @@ use Rattle.index.specs.Finding.{block}
 use Rattle.index.specs.Making.{indexOf, withEntry}
 
 pub record AppendOutcome : Type 0 where
-  -- all 0 where the record is written, else what the refusal carries
+  -- all 0 if the record is written, else what the refusal carries
   pub carry : Carried
-  -- the index after it; 0 and 0 where refused
+  -- the index after it; 0 and 0 if refused
   pub index : Index
   -- both lent buffers as the call leaves them
   pub capture : List ℕ
@@ -30,11 +30,11 @@ abbrev pub appendOutcomeOf : Indexed → List ℕ → List ℕ → AppendOutcome
 appendOutcomeOf (Done index) capture table = record { carry = carrying 0 0 0 0; index = index; capture = capture; table = table }
 appendOutcomeOf (Refused why) capture table = record { carry = carried why; index = indexOf 0 0; capture = capture; table = table }
 
--- the largest number that a count of records can be; no capture has so many
+-- the largest number that a count of records can be; no capture has that many
 abbrev pub largestCount : ℕ
 largestCount = 18446744073709551615
 
--- a table of so many entries has no room for that of a further record, or the count has none
+-- a table of this many entries has no room for the entry of one more record, or the count cannot grow
 abbrev pub full : Index → ℕ → Bool
 full index entries =
     cond (eqb (index .records) largestCount) true (cond (eqb (index .records % block) 0) (leb entries (index .records / block)) false)
@@ -50,7 +50,7 @@ appendedBy (admission.Refused why) index r m l capture table = appendOutcomeOf (
 appendedBy (admission.Allowed c) index r m l capture table =
     cond (full index (length table)) (appendOutcomeOf (Refused OutputLength) capture table) (appended index r m l capture table)
 
--- of the index, r, m, the readings, the capture's buffer and the table
+-- from the index, r, m, the readings, the capture's buffer and the table
 unfoldable pub appending : Index → ℕ → ℕ → List ℤ → List ℕ → List ℕ → AppendOutcome
 appending index r m l capture table = appendedBy (writable r m l (length capture) (index .used)) index r m l capture table
 

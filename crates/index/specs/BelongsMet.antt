@@ -41,7 +41,7 @@ take-taken zero l = refl
 take-taken (suc n) [] = refl
 take-taken (suc n) (x ∷ l) = ap (λ (y : List ℕ). x ∷ y) (take-taken n l)
 
--- of the used part of a buffer, whatever lies behind it
+-- for the used part of a buffer, whatever follows it
 pub made-belongs : (used : ℕ) (capture table : List ℕ) → let o = making (take used capture) table in
     o .carry .number ≡ 0 → Belongs (o .index) capture (o .table)
 unfolding making

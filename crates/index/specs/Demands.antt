@@ -19,7 +19,7 @@ use Rattle.index.specs.Finding.{block, headerIn, partIn, partStart}
 use Rattle.index.specs.Making.{entriesOf, indexOf, IndexOutcome, making, listOf}
 use Rattle.index.specs.Appending.{AppendOutcome, largestCount, appending}
 
--- ---- finding: 10 and 8 of the table's entry, 1 and 8 as met in stepping, 10 at the end, then the checks of the record's header
+-- ---- finding: 10 and 8 for the table's entry, 1 and 8 as met in stepping, 10 at the end, then the checks of the record's header
 -- the place that stepping has led to
 abbrev pub placeOf : Place → ℕ
 placeOf (At p) = p
@@ -50,7 +50,7 @@ madeView o =
     let c = o .carry in
     record { number = c .number; place = c .place; penalty = c .penalty; gap = 0; visits = c .visits; buffers = o .table ∷ [] }
 
--- stepping from a place on passes so many records, and the next one, before the capture's end, is refused
+-- stepping from a place passes this many records, and the next one, before the capture's end, is refused
 pub record MetFrom (s : List ℕ) (from : ℕ) (why : Refusal) : Type 0 where
   pub count : ℕ
   pub place : ℕ
@@ -76,7 +76,7 @@ appendedView o =
     let c = o .carry in
     record { number = c .number; place = c .place; penalty = c .penalty; gap = 0; visits = c .visits; buffers = o .capture ∷ o .table ∷ [] }
 
--- the count of records can be no larger, or the record has an entry for which the table has no room
+-- the count of records cannot grow, or the record has an entry for which the table has no room
 abbrev pub NoRoom : Index → List ℕ → Type 0
 NoRoom index table = let n = index .records in (n ≡ largestCount) ⊎ ((n % block ≡ 0) × (length table ≤ n / block))
 

@@ -25,10 +25,10 @@ use Rattle.index.specs.FindingLaws.{start-none, start-past, start-by}
 use Rattle.index.specs.Demands.{steppingChecks, findChecks, FindDemand1}
 
 -- ---- stepping refuses as 1 or 8
-abbrev pub OneOrEight : Refusal → Type 0
-OneOrEight why = (why ≡ Parameters) ⊎ (why ≡ Torn)
+abbrev pub ParametersOrTorn : Refusal → Type 0
+ParametersOrTorn why = (why ≡ Parameters) ⊎ (why ≡ Torn)
 
-pub step-why : (s : List ℕ) (at : ℕ) (why : Refusal) → stepped s at ≡ Refused why → OneOrEight why
+pub step-why : (s : List ℕ) (at : ℕ) (why : Refusal) → stepped s at ≡ Refused why → ParametersOrTorn why
 step-why s at why e =
     ⊎-elim
     (λ inside.
@@ -43,18 +43,18 @@ step-why s at why e =
     (λ past. inr (cc (step-past s at past)))
     (lt-or-le at (length s))
 
-passed-why : (s : List ℕ) (count at : ℕ) (why : Refusal) → passed s count at ≡ Refused why → OneOrEight why
+passed-why : (s : List ℕ) (count at : ℕ) (why : Refusal) → passed s count at ≡ Refused why → ParametersOrTorn why
 unfolding passed
 passed-why s zero at why e = let z : _≡_ {A = ℕ} 0 1 = cc in absurd (omega arith)
 passed-why s (suc count) at why e = by (λ next f. passed-why s count next why f) (stepped s at) refl e
   where
-    by : ((next : ℕ) → passed s count next ≡ Refused why → OneOrEight why)
-        → (x : Place) → stepped s at ≡ x → onward x (λ next. passed s count next) ≡ Refused why → OneOrEight why
+    by : ((next : ℕ) → passed s count next ≡ Refused why → ParametersOrTorn why)
+        → (x : Place) → stepped s at ≡ x → onward x (λ next. passed s count next) ≡ Refused why → ParametersOrTorn why
     by again (Refused first) f g = step-why s at why (f ∙ g)
     by again (At next) f g = again next g
 
 -- ---- the checks
-stepping-decides : (s : List ℕ) (led : Place) → ((why : Refusal) → led ≡ Refused why → OneOrEight why)
+stepping-decides : (s : List ℕ) (led : Place) → ((why : Refusal) → led ≡ Refused why → ParametersOrTorn why)
     → Decides [] (headerView (outcomeOf (headerAt s (asStart s led)))) (steppingChecks s led)
 stepping-decides s (Refused why) of =
     ⊎-elim

@@ -1,4 +1,4 @@
--- What finding a record by its number gives, whatever table is handed in (docs/RULES.md, §14).
+-- What finding a record by its number gives, whatever table is passed (docs/RULES.md, §14).
 use mathlib.Core.List.{List, []}
 use mathlib.Core.Bool.{cond}
 use Prim.Native.Nat.{ℕ, _+_, _/_, _%_}
@@ -49,7 +49,7 @@ headerIn s table w = headerAt s (startIn s table w)
 abbrev pub partIn : List ℕ → List ℕ → ℕ → List ℕ
 partIn s table w = partAt s (startIn s table w)
 
--- where that part starts in the capture: behind the record's first byte; 0 on refusal
+-- where that part starts in the capture: after the record's first byte; 0 on refusal
 abbrev pub partAfter : Header → ℕ → ℕ
 partAfter (header.Refused why) start = 0
 partAfter (header.Record c) start = start + 1

@@ -1,4 +1,4 @@
--- Laws of finding: when each answer is given, and that a start lies inside the capture.
+-- Laws of finding: when each answer is given, and that a start is inside the capture.
 use mathlib.Core.Path.{_≡_, refl, ap, sym, _∙_}
 use mathlib.Core.List.{List}
 use mathlib.Core.Logic.{⊎-elim}
@@ -44,7 +44,7 @@ module _ (s table : List ℕ) (w : ℕ) where
       pub start-refused : (why : Refusal) → passed s (w % block) entry ≡ Refused why → Refused why ≡ startIn s table w
       start-refused why e = sym (start-by ∙ ap (asStart s) e)
 
--- ---- a start lies inside the capture
+-- ---- a start is inside the capture
 passed-inside : (s : List ℕ) (count at p : ℕ) → at ≤ length s → passed s count at ≡ At p → p ≤ length s
 unfolding passed
 passed-inside s zero at p h e = let same : at ≡ p = cc in omega arith

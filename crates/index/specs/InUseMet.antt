@@ -21,7 +21,7 @@ use Rattle.index.specs.Own.{Own, Belongs, FoundInUse}
 use Rattle.index.specs.OwnMet.{own-start}
 use Rattle.index.specs.BelongsMet.{take-taken}
 
--- an entry of its own is read alike
+-- an entry of its own is read the same
 same-start : (s own table : List ℕ) (w : ℕ) → take (length own) table ≡ own → w / block < length own → startIn s table w ≡ startIn s own w
 unfolding startIn
 same-start s own table w front there =
@@ -40,16 +40,16 @@ found-in-use index capture table b w h =
     record { header = ap (headerAt s) is; part = ap (partAt s) is }
 
 -- ---- the part is where the answer says
-header-stands : (s : List ℕ) (start : ℕ) (h : Header)
+header-located : (s : List ℕ) (start : ℕ) (h : Header)
     → partBy h (drop start s) ≡ take (length (partBy h (drop start s))) (drop (partAfter h start) s)
-header-stands s start (header.Refused why) = refl
-header-stands s start (header.Record c) =
+header-located s start (header.Refused why) = refl
+header-located s start (header.Record c) =
     let same : drop (start + 1) s ≡ drop 1 (drop start s) = sym (drop-drop 1 start s) in
     rw same (sym (take-taken (partLength (c .m)) (drop 1 (drop start s))))
 
-place-stands : (s : List ℕ) (p : Place) → partAt s p ≡ take (length (partAt s p)) (drop (partStartAt s p) s)
-place-stands s (Refused why) = refl
-place-stands s (At start) = header-stands s start (headerOf (drop start s))
+place-located : (s : List ℕ) (p : Place) → partAt s p ≡ take (length (partAt s p)) (drop (partStartAt s p) s)
+place-located s (Refused why) = refl
+place-located s (At start) = header-located s start (headerOf (drop start s))
 
-pub part-stands : (s table : List ℕ) (w : ℕ) → partIn s table w ≡ take (length (partIn s table w)) (drop (partStart s table w) s)
-part-stands s table w = place-stands s (startIn s table w)
+pub part-located : (s table : List ℕ) (w : ℕ) → partIn s table w ≡ take (length (partIn s table w)) (drop (partStart s table w) s)
+part-located s table w = place-located s (startIn s table w)

@@ -15,7 +15,7 @@ use Rattle.index.specs.declared.Counted.the-variants as count
 use Rattle.index.specs.Steps.{Starts, these, refused, startsOf}
 use Rattle.index.specs.Finding.{block}
 
--- of all starts, the first and every 16th after it; k are passed over before
+-- of all starts, the first and every 16th after it; k are skipped first
 abbrev pub every : ℕ → List ℕ → List ℕ
 every k [] = []
 every zero (at ∷ l) = at ∷ every (block - 1) l
@@ -28,9 +28,9 @@ abbrev pub indexOf : ℕ → ℕ → Index
 indexOf records used = record { records = records; used = used }
 
 pub record IndexOutcome : Type 0 where
-  -- all 0 where the index is made, else what the refusal carries
+  -- all 0 if the index is made, else what the refusal carries
   pub carry : Carried
-  -- 0 and 0 where refused
+  -- 0 and 0 if refused
   pub index : Index
   -- the lent table as the call leaves it
   pub table : List ℕ
@@ -47,7 +47,7 @@ madeBy (these l) s table =
     cond (ltb (length table) (length made)) (outcomeOf (Refused OutputLength) table)
     (outcomeOf (Done (indexOf (length l) (length s))) (made ++ drop (length made) table))
 
--- of the capture and the table
+-- from the capture and the table
 unfoldable pub making : List ℕ → List ℕ → IndexOutcome
 making s table = madeBy (startsOf s) s table
 

@@ -31,7 +31,7 @@ use Rattle.index.specs.AppendingLaws.{append-refused, append-full, appen
 use Rattle.index.specs.Demands.{madeView, MetFrom, makeChecks, MakeDemand1, appendedView, NoRoom, entryChecks, appendChecks, AppendDemand1}
 use Rattle.index.specs.DemandsMet.{step-why}
 
--- ---- the starts are refused exactly as stepping meets it
+-- ---- the starts give exactly the refusal that stepping meets
 and-refused : (at : ℕ) (starts : Starts) (why : Refusal) → andThese at starts ≡ refused why → starts ≡ refused why
 and-refused at (these l) why e = let z : _≡_ {A = ℕ} 0 1 = cc in absurd (omega arith)
 and-refused at (refused first) why e = e

@@ -93,7 +93,7 @@ module _ (s before now : List ℕ) (at w : ℕ) (h : Entering s before at w now)
   abbrev all : List ℕ
   all = listOf (startsOf s)
 
-  -- a record is left where bytes are
+  -- a record is left if bytes are
   pub one-left : at < length s → w < length all
   one-left inside = ⊎-elim (λ k. k) (λ k. absurd (none k)) (lt-or-le w (length all))
     where

@@ -1,4 +1,4 @@
--- What is promised of a capture's own table, and of any table (docs/RULES.md, §14). Met in OwnMet, AppendMet, BelongsMet and InUseMet.
+-- What is promised for a capture's own table, and for any table (docs/RULES.md, §14). Proved in OwnMet, AppendMet, BelongsMet and InUseMet.
 use mathlib.Core.Path.{_≡_}
 use mathlib.Core.List.{List, _++_}
 use Prim.Native.Nat.{ℕ, _/_, _≤_, _<_}
@@ -12,7 +12,7 @@ use Rattle.index.specs.Finding.{block, startIn, fromBeginning, headerAt,
 use Rattle.index.specs.Making.{entriesOf, outcomeOf, making, listOf}
 use Rattle.index.specs.Appending.{AppendOutcome}
 
--- a capture of whole records, and the entries that are made of it
+-- a capture of whole records, and the entries that are made from it
 pub record Own (s table : List ℕ) : Type 0 where
   pub whole : startsOf s ≡ these (listOf (startsOf s))
   pub own : table ≡ entriesOf (listOf (startsOf s))
@@ -23,7 +23,7 @@ pub record FoundAlike (s table : List ℕ) (w : ℕ) : Type 0 where
   pub part : partIn s table w ≡ partAt s (fromBeginning s w)
   -- and the header with its refusal, wherever the table has an entry for w
   pub header : w / block < length table → headerIn s table w ≡ headerAt s (fromBeginning s w)
-  -- past the last block the table says 10; stepping says so of the first record that is not there, and 8 of all others
+  -- past the last block the table gives 10; stepping gives 10 for the first record that is not there, and 8 for all others
   pub past : length table ≤ w / block → startIn s table w ≡ Refused NoEntry
   pub first-past : w ≡ length (listOf (startsOf s)) → fromBeginning s w ≡ Refused NoEntry
   pub later-past : length (listOf (startsOf s)) < w → fromBeginning s w ≡ Refused Torn
@@ -46,6 +46,6 @@ pub record FoundInUse (index : Index) (capture table : List ℕ) (w : ℕ) : Typ
   pub header : let s = take (index .used) capture in headerIn s table w ≡ headerAt s (fromBeginning s w)
   pub part : let s = take (index .used) capture in partIn s table w ≡ partAt s (fromBeginning s w)
 
--- what an append leaves is what is made afresh of the longer capture
+-- what an append leaves is what is made from the longer capture
 abbrev pub MadeAfresh : AppendOutcome → List ℕ → Type 0
 MadeAfresh o table = making (take (o .index .used) (o .capture)) table ≡ outcomeOf (Done (o .index)) (o .table)

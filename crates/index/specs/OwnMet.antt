@@ -57,7 +57,7 @@ module _ (s : List ℕ) where
   starts-inside (x ∷ l) at (suc i) h e k =
       let b = starts-begin s at x l h e in starts-inside l (b .next) i (b .goes .there) (b .others) (omega arith)
 
-  -- over all of them it is the end, and beyond it nothing
+  -- after all of them it is the end, and beyond it there is nothing
   pub passed-all : (l : List ℕ) (at : ℕ) → at ≤ length s → startsAt s at ≡ these l → passed s (length l) at ≡ At (length s)
   passed-all [] at h e = passed-none s 0 at refl ∙ ap At (starts-none s at h e)
   passed-all (x ∷ l) at h e =

@@ -1,4 +1,4 @@
--- Stepping over the records of a capture, by first bytes and lengths alone, and where they start (docs/RULES.md, §14).
+-- Stepping over the records of a capture, by first bytes and lengths only, and where they start (docs/RULES.md, §14).
 use mathlib.Core.List.{List, [], _∷_}
 use mathlib.Core.Bool.{cond}
 use Prim.Native.Nat.{ℕ, zero, suc, _+_, _-_}
@@ -10,7 +10,7 @@ use Rattle.record.specs.Reader.{codeOf, lengthBy}
 use Rattle.index.specs.declared.Place.{Place}
 use Rattle.index.specs.declared.Place.the-variants.{At, Refused}
 
--- how many bytes the record has that starts at this place; 0 where its first byte is refused
+-- how many bytes the record that starts at this place has; 0 if its first byte is refused
 abbrev pub bytesAt : List ℕ → ℕ → ℕ
 bytesAt s at = lengthBy (codeOf (getD s at 0))
 
@@ -25,7 +25,7 @@ abbrev pub onward : Place → (ℕ → Place) → Place
 onward (Refused why) f = Refused why
 onward (At next) f = f next
 
--- the place after so many records from this place on
+-- the place after this many records from this place
 unfoldable pub passed : List ℕ → ℕ → ℕ → Place
 passed s zero at = At at
 passed s (suc count) at = onward (stepped s at) (λ next. passed s count next)

@@ -34,7 +34,7 @@ module _ (s : List ℕ) (at : ℕ) where
       unfolding stepped
       step-next h = rw (lt-leb (length s) at inside, ne-eqb (bytesAt s at) 0 some, le-ltb (length s - at) (bytesAt s at) h)
 
--- ---- and back: what a step shows that goes on
+-- ---- and back: what a step that is not refused shows
 pub record Goes (s : List ℕ) (at next : ℕ) : Type 0 where
   pub inside : at < length s
   pub further : at < next
@@ -128,7 +128,7 @@ starts-next s at next h e = starts-on s at h ∙ ap (λ (p : Place). startsAfter
 pub starts-refused : (s : List ℕ) (at : ℕ) (why : Refusal) → at < length s → stepped s at ≡ Refused why → startsAt s at ≡ refused why
 starts-refused s at why h e = starts-on s at h ∙ ap (λ (p : Place). startsAfter at p (startsAt s)) e
 
--- ---- and back: where the records from a place on are known, so is its step
+-- ---- and back: if the records from a place on are known, so is the step there
 pub record Begins (s : List ℕ) (at x : ℕ) (rest : List ℕ) : Type 0 where
   pub next : ℕ
   pub first : x ≡ at

@@ -13,7 +13,7 @@ use Rattle.numbers.specs.Choice.{lt-or-le}
 use Rattle.numbers.specs.Laid.{laidAt}
 use Rattle.lines.specs.Line.{bytesOf, digitByte, decimalWithin, decimal, infoText, figuresText, answerLine, refusedLine, totalLine, Put}
 
--- the rules' two lines, and a refused one
+-- the two lines of the rules' example, and a refused one
 pub record Lines : Type 0 where
   pub answered : answerLine 0 (0 ∷ 1 ∷ 1 ∷ []) 1 1 9 ≡ bytesOf "0 info 011 penalty 1 margin 1 visits 9\n"
   pub refused : refusedLine 0 7 ≡ bytesOf "0 refused 7\n"
@@ -51,7 +51,7 @@ put-then d at t end d′ u end′ d″ h p q =
           ∙ rw (p .text-is, p .end-is, laid-paste d at t, front, back, k, append-assoc (take at d) t (u ++ rest), append-assoc t u rest);
     }
 
--- the digits that the kit's function writes are the decimal text
+-- the digits that the library's function writes are the decimal text
 digits-decimal : (k j n : ℕ) → k < j → n < 10 ^ suc k → (0 < k → 10 ^ k ≤ n) → digits 10 (suc k) n ≡ decimalWithin j n
 unfolding decimalWithin
 digits-decimal k zero n h u l = absurd (omega arith)

@@ -1,4 +1,4 @@
-// The program's lines (docs/RULES.md, §8), written into a lent buffer from a place on. Each
+// The program's lines (docs/RULES.md, §8), written into a lent buffer from a given place. Each
 // function gives the place after what it wrote.
 ghost use mathlib.Core.Path.{_≡_};
 ghost use mathlib.Core.List.{map, _++_};

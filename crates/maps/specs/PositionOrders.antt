@@ -1,4 +1,4 @@
--- What is proved of position orders (docs/RULES.md, §12), over the definitions of Maps. That it holds for every map and every m is proved in
+-- What is proved about position orders (docs/RULES.md, §12), over the definitions of Maps. That it holds for every map and every m is proved in
 -- PositionOrdersMet.
 use mathlib.Core.Path.{_≡_}
 use mathlib.Core.Logic.{_↔_}
@@ -13,7 +13,7 @@ use Rattle.decoding.specs.Best.{leastPenalty, gap, bestWord}
 use Rattle.decoding.specs.Answer.{outOfVisits, answer}
 use Rattle.maps.specs.Maps.{Map, image, reordered, productTable, productRow, Undoes, Undoable, Apart, canUndo, undoTable, undoRow, Alongside}
 
--- Reordering by one and then by another equals reordering by their product, and the undo map restores: of readings, and of bits.
+-- Reordering by one and then by another equals reordering by their product, and the undo map restores the order: for readings, and for bits.
 pub record Orders {T : Type 0} (d : T) (m : ℕ) (A b : List ℕ) (l : List T) : Type 0 where
   pub one-then-another : (C c : List ℕ) → reordered d m C c (reordered d m A b l) ≡ reordered d m (productTable m A C) (productRow m A b c) l
   pub restored : Undoable m A b → length l ≡ 2 ^ m → reordered d m (undoTable m A) (undoRow m A b) (reordered d m A b l) ≡ l

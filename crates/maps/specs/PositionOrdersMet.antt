@@ -1,4 +1,4 @@
--- What is stated of position orders holds, for every m, every table and every row.
+-- What is stated about position orders holds, for every m, every table and every row.
 use mathlib.Core.List.{List}
 use Prim.Native.Nat.{ℕ}
 use lib.IntN.{pos}

@@ -21,7 +21,7 @@ use Rattle.decoding.specs.Quick.{lowerRow, upperRow}
 use Rattle.decoding.specs.Walk.{value}
 use Rattle.rows.specs.Rows.{rowOf, withRow}
 use Rattle.rows.specs.RowLaws.{reading-read}
-use Rattle.memory.specs.Memory.{below, newRow, remade, Arrays, Made, Stands, Top, ValueReady, RowsReady, LowReady}
+use Rattle.memory.specs.Memory.{below, newRow, remade, Arrays, Made, RowsFor, Top, ValueReady, RowsReady, LowReady}
 use Rattle.memory.specs.RowLaws.{digit-cases, below-upper, below-lower, start-odd}
 use Rattle.memory.specs.LowLaws.{lower-new}
 use Rattle.memory.specs.MadeLaws.{above-small, made-top, made-row, made-remade, made-all, last-entry, last-row, still-made}
@@ -159,24 +159,24 @@ module _ {m j i : ℕ} {y : List ℕ} {l s : List ℤ} (v : ValueReady m l y j i
   path-long long = omega (arith, v .inside, v .room, long)
 
   pub value-made : {s′ : List ℤ} → 0 < m → length y ≡ 256 → Made m l y i 0 s′
-      → (getD s′ 1 (pos 0) ≡ value m l (take i y)) × Stands m l y i i s′
+      → (getD s′ 1 (pos 0) ≡ value m l (take i y)) × RowsFor m l y i i s′
   value-made more long f = (last-entry more (v .inside) (path-long long) f, made-all f)
 
   -- as the machine reads it
   pub value-given : {s′ : List ℤ} → 0 < m → length y ≡ 256 → Made m l y i 0 s′
-      → (toZ w32 (ofZ w32 (getD s′ 1 (pos 0))) ≡ value m l (take i y)) × Stands m l y i i s′
+      → (toZ w32 (ofZ w32 (getD s′ 1 (pos 0))) ≡ value m l (take i y)) × RowsFor m l y i i s′
   value-given more long f = (last-row more (v .inside) (path-long long) (v .small) f, made-all f)
 
 -- one reading is its own value, and has no rows
 pub single-value : {m i : ℕ} {y : List ℕ} (l₀ : List ℤ) {s : List ℤ} → m ≡ 0
-    → (getD l₀ 0 (pos 0) ≡ value m (take (2 ^ m) l₀) (take i y)) × Stands m (take (2 ^ m) l₀) y i i s
+    → (getD l₀ 0 (pos 0) ≡ value m (take (2 ^ m) l₀) (take i y)) × RowsFor m (take (2 ^ m) l₀) y i i s
 unfolding value
 single-value {i = i} {y = y} l₀ z = (
   sym (ap (λ (k : ℕ). value k (take (2 ^ k) l₀) (take i y)) z ∙ getD-take 1 l₀ 0 (pos 0) (omega arith)),
-  record { stands = λ t h k. absurd (omega arith) },
+  record { rows = λ t h k. absurd (omega arith) },
 )
 
 -- as the machine reads it
 pub single : {m i : ℕ} {y : List ℕ} (l₀ : List ℤ) {s : List ℤ} → m ≡ 0 → SFits w16 (getD l₀ 0 (pos 0))
-    → (toZ w32 (ofZ w32 (toZ w16 (ofZ w16 (getD l₀ 0 (pos 0))))) ≡ value m (take (2 ^ m) l₀) (take i y)) × Stands m (take (2 ^ m) l₀) y i i s
+    → (toZ w32 (ofZ w32 (toZ w16 (ofZ w16 (getD l₀ 0 (pos 0))))) ≡ value m (take (2 ^ m) l₀) (take i y)) × RowsFor m (take (2 ^ m) l₀) y i i s
 single {i = i} {y = y} l₀ {s = s} z fits = let e = single-value {i = i} {y = y} l₀ {s = s} z in (reading-read fits ∙ e .0, e .1)

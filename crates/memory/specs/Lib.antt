@@ -5,4 +5,4 @@ pub mod MadeLaws
 pub mod TopLaws
 pub mod LowLaws
 pub mod CodeLaws
-pub mod StandsLaws
+pub mod RowsForLaws

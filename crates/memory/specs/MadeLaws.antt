@@ -19,7 +19,7 @@ use Rattle.decoding.specs.Walk.{value}
 use Rattle.decoding.specs.PathLaws.{value-sizes}
 use Rattle.rows.specs.Rows.{rowOf, withRow}
 use Rattle.rows.specs.PlaceLaws.{length-withRow, rowOf-withRow, behind-withRow, behind-more}
-use Rattle.memory.specs.Memory.{startOf, below, rowAt, newRow, remade, Made, Stands, Top}
+use Rattle.memory.specs.Memory.{startOf, below, rowAt, newRow, remade, Made, RowsFor, Top}
 use Rattle.memory.specs.RowLaws.{length-below, row-index, row-next, row-top, row-sizes, value-row}
 
 -- ---- lengths of all rows
@@ -40,7 +40,7 @@ module _ {m i t : ℕ} {y : List ℕ} {l s : List ℤ} (within : t < m) (long : 
   long-above : length (rowAt m i y l (m - suc t)) ≡ 2 ^ suc t
   long-above = length-row m i y l long path (m - suc t) (suc t) (omega arith)
 
-  -- the row above is that of all readings, or stands in the array
+  -- the row above is that of all readings, or is in the array
   above-top : suc t ≡ m → l ≡ rowAt m i y l (m - suc t)
   above-top e = sym (ap (λ (k : ℕ). rowAt m i y l (m - k)) e ∙ row-top m l i y)
 
@@ -77,7 +77,7 @@ module _ {m i t : ℕ} {y : List ℕ} {l s : List ℤ} (within : t < m) (long : 
       length-withRow (2 ^ t) s (below t i y (rowOf (2 ^ t + 2 ^ t) s)) fits
       (length-below t i y (rowOf (2 ^ t + 2 ^ t) s) (ap length (above-row h) ∙ long-above) path)
 
--- all rows below one that stands
+-- all rows below one that is made
 pub made-remade : {m i : ℕ} (k : ℕ) {y : List ℕ} {l s : List ℤ} → k < m → length l ≡ 2 ^ m → i ≤ length y → 2 ^ m ≤ length s → Made m l y i k s
     → Made m l y i 0 (remade k i y s)
 unfolding remade
@@ -87,10 +87,10 @@ made-remade (suc t) {y = y} {l = l} {s = s} h long path room f =
     (made-row (omega arith) long path room f h)
 
 -- ---- all rows made
-pub made-all : {m i : ℕ} {y : List ℕ} {l s : List ℤ} → Made m l y i 0 s → Stands m l y i i s
-made-all f = record { stands = λ t h k. f .made t (omega arith) h }
+pub made-all : {m i : ℕ} {y : List ℕ} {l s : List ℤ} → Made m l y i 0 s → RowsFor m l y i i s
+made-all f = record { rows = λ t h k. f .made t (omega arith) h }
 
--- the value stands in the last row
+-- the value is in the last row
 pub last-entry : {m i : ℕ} {y : List ℕ} {l s : List ℤ} → 0 < m → i < 2 ^ m → i ≤ length y → Made m l y i 0 s → getD s 1 (pos 0) ≡ value m l (take i y)
 last-entry {m} {i} {y} {l} {s} more h path f =
     let none : m - 0 ≡ m = omega arith in
@@ -104,14 +104,14 @@ last-row {m} {i} {y} {l} more h path small f =
     ap (λ (z : ℤ). toZ w32 (ofZ w32 z)) (last-entry more h path f)
     ∙ toZ-ofZ {w = w32} (fits-size (value m l (take i y)) (omega (arith, value-sizes m l (take i y))))
 
--- ---- rows that stand for another index
-pub still-made : {m j i t : ℕ} {y : List ℕ} {l s : List ℤ} → Top m j i t → Stands m l y j (i - 1) s → Made m l y i (suc t) s
+-- ---- rows that are made for another index
+pub still-made : {m j i t : ℕ} {y : List ℕ} {l s : List ℤ} → Top m j i t → RowsFor m l y j (i - 1) s → Made m l y i (suc t) s
 still-made {m} {j} {i} {t} {y} {l} {s} o f =
     record {
       made = λ u h k.
           let e : j / 2 ^ u ≡ i / 2 ^ u = same-above u h (o .same (omega arith)) in
           let b : startOf u i ≤ i - 1 = omega (arith, starts-above u h, o .before (omega arith)) in
-          f .stands u k (rw e b) ∙ row-index m l j i y (m - u) u (omega arith) e;
+          f .rows u k (rw e b) ∙ row-index m l j i y (m - u) u (omega arith) e;
     }
   where
     same-above : (u : ℕ) → suc t ≤ u → j / 2 ^ suc t ≡ i / 2 ^ suc t → j / 2 ^ u ≡ i / 2 ^ u

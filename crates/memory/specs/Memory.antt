@@ -1,4 +1,4 @@
--- What the walk's scratch rows stand for: the rows of the blocks that hold an index, where the bytes y begin with the path's bits.
+-- What the walk's scratch rows are: the rows of the blocks that hold an index, where the bytes y begin with the path's bits.
 use mathlib.Core.Path.{_≡_}
 use mathlib.Core.List.{List}
 use mathlib.Core.Bool.{Bool, false, cond}
@@ -45,15 +45,15 @@ pub record Arrays (s : List ℤ) (y : List ℕ) : Type 0 where
   pub long-path : length y ≡ 256
   pub bits : Bits y
 
--- In s the rows of 2^t sums stand for index i, from t = k on.
+-- In s the rows of 2^t sums are made for index i, from t = k on.
 pub record Made (m : ℕ) (l : List ℤ) (y : List ℕ) (i k : ℕ) (s : List ℤ) : Type 0 where
   pub made : (t : ℕ) → k ≤ t → t < m → rowOf (2 ^ t) s ≡ rowAt m i y l (m - t)
 
--- In s the rows of the blocks that hold index i and start at b or before stand for it: what the path says from b on does not touch them.
-pub record Stands (m : ℕ) (l : List ℤ) (y : List ℕ) (i b : ℕ) (s : List ℤ) : Type 0 where
-  pub stands : (t : ℕ) → t < m → startOf t i ≤ b → rowOf (2 ^ t) s ≡ rowAt m i y l (m - t)
+-- In s the rows of the blocks that hold index i and start at b or before are made for it: what the path says from b on does not touch them.
+pub record RowsFor (m : ℕ) (l : List ℤ) (y : List ℕ) (i b : ℕ) (s : List ℤ) : Type 0 where
+  pub rows : (t : ℕ) → t < m → startOf t i ≤ b → rowOf (2 ^ t) s ≡ rowAt m i y l (m - t)
 
--- Rows of more than 2^t sums that stand for index j stand for index i too, whatever the path says from i - 1 on.
+-- Rows of more than 2^t sums that are made for index j are those of index i, too, whatever the path says from i - 1 on.
 pub record Top (m j i t : ℕ) : Type 0 where
   pub within : t < m
   pub same : suc t < m → j / 2 ^ suc t ≡ i / 2 ^ suc t
@@ -68,7 +68,7 @@ pub record Highest (x t : ℕ) : Type 0 where
   pub above : x < 2 ^ suc t
   pub inside : (m : ℕ) → 0 < m → x < 2 ^ m → t < m
 
--- what the value asks: the first 2^m readings l, the bytes y that begin with the path, and rows s that stand for an index j; 256 is the arrays' length
+-- what the value asks: the first 2^m readings l, the bytes y that begin with the path, and rows s that are made for an index j; 256 is the arrays' length
 pub record ValueReady (m : ℕ) (l : List ℤ) (y : List ℕ) (j i : ℕ) (s : List ℤ) : Type 0 where
   pub room : 2 ^ m ≤ 256
   pub inside : i < 2 ^ m
@@ -76,9 +76,9 @@ pub record ValueReady (m : ℕ) (l : List ℤ) (y : List ℕ) (j i : ℕ) (s : L
   pub long : length l ≡ 2 ^ m
   pub small : sizes l < sumLimit
   pub bits : Bits y
-  pub before : Stands m l y j (i - 1) s
+  pub before : RowsFor m l y j (i - 1) s
 
--- what making the row of 2^k sums and those below it asks: the rows of more sums stand
+-- what making the row of 2^k sums and those below it asks: the rows of more sums are made
 pub record RowsReady (m : ℕ) (l : List ℤ) (y : List ℕ) (i k : ℕ) (s : List ℤ) : Type 0 where
   pub room : 2 ^ m ≤ 256
   pub inside : i < 2 ^ m

@@ -10,7 +10,7 @@ ghost use Rattle.words.specs.Word.{transform};
 ghost use Rattle.decoding.specs.Readings.{sizes, sumLimit};
 ghost use Rattle.decoding.specs.Walk.{value};
 ghost use Rattle.rows.specs.Rows.{rowOf, withRow};
-ghost use Rattle.memory.specs.Memory.{below, newRow, remade, follows, Arrays, Made, Stands};
+ghost use Rattle.memory.specs.Memory.{below, newRow, remade, follows, Arrays, Made, RowsFor};
 ghost use Rattle.memory.specs.Memory.{Highest, LowReady, RowsReady, Top, ValueReady};
 
 // 2^m, the length of a row.
@@ -310,7 +310,7 @@ fn any_value(
     requires { ⌜ ValueReady m (take (2 ^ m) (now readings)) (now path) was i (now rows) ⌝ }
     ensures { λ r. ⌜
         (r ≡ value m (take (2 ^ m) (now (readings .entry))) (take i (now (path .entry))))
-        × Stands m (take (2 ^ m) (now (readings .entry))) (now (path .entry)) i i
+        × RowsFor m (take (2 ^ m) (now (readings .entry))) (now (path .entry)) i i
         (now (rows .exit)) ⌝ }
 {
     if m == 0 {
@@ -357,7 +357,7 @@ pub fn value(
     requires { ⌜ ValueReady m (take (2 ^ m) (now readings)) (now path) was i (now rows) ⌝ }
     ensures { λ r. ⌜
         (r ≡ value m (take (2 ^ m) (now (readings .entry))) (take i (now (path .entry))))
-        × Stands m (take (2 ^ m) (now (readings .entry))) (now (path .entry)) i i
+        × RowsFor m (take (2 ^ m) (now (readings .entry))) (now (path .entry)) i i
         (now (rows .exit)) ⌝ }
 {
     if m < 4 {

@@ -1,4 +1,4 @@
--- The all-ones word is in a shortened set exactly if the row does not name the last index, n - 1. A link that is turned over adds it to what was sent: where
+-- The all-ones word is in a shortened set exactly if the row does not name the last index, n - 1. A link that is turned over adds it to what was sent: if
 -- the last index is named, that turns no word of the set into another.
 use mathlib.Core.Path.{_≡_, ap, subst, sym, _∙_}
 use mathlib.Core.Logic.{_↔_}
@@ -16,7 +16,7 @@ use Rattle.words.specs.AllOnesLaws.{zero-but-last, not-zero-last}
 use Rattle.named.specs.Named.{left}
 use Rattle.named.specs.NamedLaws.{kindLeft-named, left-at, length-left, bits-left, left-other}
 
--- of any code and any row, good or not: with a good one the byte is 0 or 1
+-- for any code and any row, good or not: with a good one the byte is 0 or 1
 module _ (r m : ℕ) (named : List ℕ) where
   abbrev ks : List ℕ
   ks = left named (kinds r m)
@@ -52,7 +52,7 @@ module _ (r m : ℕ) (named : List ℕ) where
   pub all-ones-left : Word m ks (allOnes m) ↔ LastFree
   all-ones-left = (ones-free, free-ones)
 
-  -- no word of the set turned over is one
+  -- no word of the set stays in it when turned over
   pub turned-over-no-word : (LastFree → ⊥) → (x : List ℕ) → Word m ks x → Word m ks (xors x (allOnes m)) → ⊥
   turned-over-no-word f x w v =
       let b = below-ones m in

@@ -28,7 +28,7 @@ left [] ks = ks
 left (a ∷ named) [] = []
 left (a ∷ named) (k ∷ ks) = kindLeft a k ∷ left named ks
 
--- a row that names information indices only, possibly none, and leaves one
+-- a row that names information indices only, possibly none, and leaves at least one
 pub record GoodRow (named ks : List ℕ) : Type 0 where
   pub long : length named ≡ length ks
   pub are-bits : Bits named
@@ -52,6 +52,6 @@ unfoldable pub goodRow : List ℕ → List ℕ → Bool
 goodRow named ks =
     eqb (length named) (length ks) && (not (ltb (firstBadBit named) (length named)) && (not (namesFrozen named ks) && ltb 0 (sum (left named ks))))
 
--- 1, and then 12 exactly if the row is no good one
+-- 1, and then 12 exactly if the row is not a good one
 unfoldable pub rowAdmitted : ℕ → ℕ → List ℕ → Admitted
 rowAdmitted r m named = ifMade (made r m) (λ c. cond (goodRow named (kinds (c .r) (c .m))) (Allowed c) (Refused Named))

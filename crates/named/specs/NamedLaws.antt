@@ -63,7 +63,7 @@ left-frozen named ks i e = left-at named ks i ∙ ap (kindLeft (getD named i 0))
 pub left-named : (named ks : List ℕ) (i : ℕ) → getD named i 0 ≡ 1 → getD (left named ks) i 0 ≡ 0
 left-named named ks i e = left-at named ks i ∙ kindLeft-named (getD named i 0) (getD ks i 0) (λ z. omega arith)
 
--- all others are as they were
+-- all others are unchanged
 pub left-other : (named ks : List ℕ) (i : ℕ) → getD named i 0 ≡ 0 → getD (left named ks) i 0 ≡ getD ks i 0
 left-other named ks i e = left-at named ks i ∙ ap (λ (a : ℕ). kindLeft a (getD ks i 0)) e
 
@@ -184,7 +184,7 @@ module _ (r m : ℕ) (named : List ℕ) where
     unfolding rowAdmitted
     row-allowed e = rw (good, e)
 
--- and back: 1 first, then 12 exactly if the row is no good one
+-- and back: 1 first, then 12 exactly if the row is not a good one
 pub data RowDecided (r m : ℕ) (named : List ℕ) : Type 0 where
   bad-parameters : made r m ≡ Bad → Refused Parameters ≡ rowAdmitted r m named → RowDecided r m named
   bad-row : Sound (rm r m) → (GoodRow named (kinds r m) → ⊥) → Refused Named ≡ rowAdmitted r m named → RowDecided r m named
@@ -239,7 +239,7 @@ module _ (named ks : List ℕ) where
   abbrev pub NoneBefore : ℕ → Type 0
   NoneBefore i = (i ≤ length named) × (namesFrozen (drop i named) (drop i ks) ≡ namesFrozen named ks)
 
-  -- so many are left before i
+  -- this many are left before i
   abbrev pub CountedBefore : ℕ → ℕ → Type 0
   CountedBefore i count = (i ≤ length named) × (count ≤ i) × (count + sum (left (drop i named) (drop i ks)) ≡ sum (left named ks))
 

@@ -77,7 +77,7 @@ pub fn put_left(code: Code, named: &[u8], row: &mut [u8])
     }
 }
 
-// Whether the row has n bytes, all 0 or 1, names information indices only, and leaves one.
+// Whether the row has n bytes, all 0 or 1, names information indices only, and leaves at least one.
 fn good_row(code: Code, named: &[u8]) -> bool
     requires { ⌜ Sound code ⌝ }
     ensures { λ good. ⌜ good ≡ goodRow (now (named .entry)) (kinds (code .r) (code .m)) ⌝ }

@@ -1,4 +1,4 @@
--- Laws of a list's entries: a list without repeats, and what the least number is to the entries.
+-- Laws of a list's entries: a list without repeats, and how the least number relates to the entries.
 use mathlib.Core.Path.{_≡_, refl, ap, ap₂, sym, _∙_}
 use mathlib.Core.Logic.{⊎-elim}
 use mathlib.Core.List.{List, [], _∷_, _++_, map, Memᴰ·cast, Memᴰ·of-map}
@@ -97,7 +97,7 @@ module _ {A : Type 0} (f : A → ℕ) where
   counted t x (y ∷ l) h k =
       ⊎-elim (λ e. omega (arith, at-most t (f y) .on (rw (← (ap f e)) k))) (λ i. omega (arith, counted t x l i k)) (List·Memᴰ·cases-cons h)
 
-  -- where one number or none is at most t, two entries with such a number are one
+  -- if at most one number is at most t, two entries with such a number are equal
   pub counted-once : (t : ℕ) (x y : A) (l : List A) → upto t (map f l) ≤ 1 → List·Memᴰ x l → List·Memᴰ y l → f x ≤ t → f y ≤ t → x ≡ y
   unfolding upto sum
   counted-once t x y [] c h i j k = absurd (List·Memᴰ·not-nil h)

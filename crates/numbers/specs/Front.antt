@@ -1,4 +1,4 @@
--- A loop that replaces a list's entries one by one from the front: after j passes the list is `front d x j`, where d is what it was and x what it is to be.
+-- A loop that replaces a list's entries one by one from the front: after j passes the list is `front d x j`, where d is what it was and x what it will be.
 use mathlib.Core.Path.{_≡_, refl, ap, sym, _∙_}
 use mathlib.Core.List.{List, [], _∷_, _++_}
 use Prim.Native.Nat.{ℕ, zero, suc, _≤_, _<_}
@@ -26,7 +26,7 @@ module _ {A : Type 0} where
   front-after (a ∷ d) (b ∷ x) (suc j) zero z h k l = absurd (not-suc-le-zero l)
   front-after (a ∷ d) (b ∷ x) (suc j) (suc i) z h k l = front-after d x j i z (le-of-suc-le-suc h) (le-of-suc-le-suc k) (le-of-suc-le-suc l)
 
-  -- a pass's store, where what is left to store begins with a
+  -- a pass's store, if what is left to store begins with a
   pub drop-next : (x : List A) (j : ℕ) (a : A) (y : List A) → drop j x ≡ a ∷ y → drop (suc j) x ≡ y
   drop-next [] zero a y e = cc
   drop-next [] (suc j) a y e = cc

@@ -17,7 +17,7 @@ module _ {A : Type 0} (h : ℕ) (x : List A) (e : length x ≡ h + h) where
   pub equal-halves : length (take h x) ≡ length (drop h x)
   equal-halves = length-first-half ∙ sym length-second-half
 
--- of 2^(m + 1) entries
+-- for 2^(m + 1) entries
 module _ {A : Type 0} (m : ℕ) (x : List A) (e : length x ≡ 2 ^ suc m) where
   pub length-first : length (take (2 ^ m) x) ≡ 2 ^ m
   length-first = length-first-half (2 ^ m) x (e ∙ two-pow-succ m)

@@ -10,7 +10,7 @@ least [] = 0
 least (x ∷ []) = x
 least (x ∷ y ∷ l) = min x (least (y ∷ l))
 
--- the list less its first entry that is a
+-- the list without its first entry that is a
 unfoldable pub without : ℕ → List ℕ → List ℕ
 without a [] = []
 without a (x ∷ l) = cond (eqb x a) l (x ∷ without a l)
@@ -19,7 +19,7 @@ without a (x ∷ l) = cond (eqb x a) l (x ∷ without a l)
 unfoldable pub next : List ℕ → ℕ
 next l = least (without (least l) l)
 
--- the first entry whose number is a, or d where there is none
+-- the first entry whose number is a, or d if there is none
 unfoldable pub firstWith : {A : Type 0} → (A → ℕ) → ℕ → A → List A → A
 firstWith f a d [] = d
 firstWith f a d (x ∷ l) = cond (eqb (f x) a) x (firstWith f a d l)

@@ -35,7 +35,7 @@ at-most t x =
     (λ h. record { bit = rw (le-leb x t h) (omega arith); on = λ k. rw (le-leb x t h) (omega arith); off = λ k. absurd (omega arith) })
     (lt-or-le t x)
 
--- a larger number counts no more
+-- a larger number is not counted
 pub at-most-mono : (t : ℕ) {x y : ℕ} → x ≤ y → atMost t y ≤ atMost t x
 at-most-mono t {x} {y} h =
     ⊎-elim (λ k. omega (arith, at-most t y .off k)) (λ k. omega (arith, at-most t y .bit, at-most t x .on (omega arith))) (lt-or-le t y)
@@ -43,7 +43,7 @@ at-most-mono t {x} {y} h =
 pub at-most-back : (t x : ℕ) → 1 ≤ atMost t x → x ≤ t
 at-most-back t x h = ⊎-elim (λ k. absurd (omega (arith, at-most t x .off k))) (λ k. k) (lt-or-le t x)
 
--- ---- the same numbers with the same repeats, in some order: any count of the one is that of the other
+-- ---- the same numbers with the same repeats, in some order: any count over one is the count over the other
 abbrev pub Reordered : List ℕ → List ℕ → Type 0
 Reordered l l′ = (g : ℕ → ℕ) → sum (map g l) ≡ sum (map g l′)
 
@@ -56,7 +56,7 @@ pub length-reordered : (l l′ : List ℕ) → Reordered l l′ → length l ≡
 length-reordered l l′ h = sym (length-as-sum l) ∙ h (λ x. 1) ∙ length-as-sum l′
 
 -- ---- a is the least number and b the next
--- one number or more are at most t exactly where a is, two or more exactly where b is
+-- one number or more are at most t exactly if a is, two or more exactly if b is
 pub record LeastTwo (l : List ℕ) (a b : ℕ) : Type 0 where
   pub first : (t : ℕ) → (1 ≤ upto t l) ↔ (a ≤ t)
   pub second : (t : ℕ) → (2 ≤ upto t l) ↔ (b ≤ t)
@@ -82,7 +82,7 @@ least-counts t x (y ∷ l) =
       λ h. ⊎-elim (λ k. omega (arith, i .1 (omega arith))) (λ k. omega (arith, at-most t x .on k)) (lt-or-le t x),
     )
 
--- l is w with one a more
+-- l is w with one more a
 record TakenOut (l w : List ℕ) (a : ℕ) : Type 0 where
   counts : (t : ℕ) → upto t l ≡ atMost t a + upto t w
   long : length l ≡ suc (length w)
@@ -120,7 +120,7 @@ least-two [] h = absurd (omega arith)
 least-two (x ∷ []) h = absurd (omega arith)
 least-two (x ∷ y ∷ l) h = record { first = λ t. least-counts t x (y ∷ l); second = λ t. next-counts t x y l _ refl }
 
--- whatever has both marks of the two is the two
+-- any two numbers with both of these properties are these two
 module _ (l : List ℕ) (h : 2 ≤ length l) {a b : ℕ} (k : LeastTwo l a b) where
   pub least-is : least l ≡ a
   least-is = only-least (least-two l h) k

@@ -23,6 +23,6 @@ module _ {A : Type 0} (h : ℕ) (x : List A) where
       let none = drop-of-length-le (drop h x) {i = length x - h} (simp length-drop (omega arith)) in
       ap (λ (l : List A). take h x ++ l) (ap (λ (l : List A). q ++ l) none ∙ append-nil q)
 
-  -- what came back of a front is read again
+  -- what came back from a front is read again
   pub lent-again : (q : List A) → length q ≡ h → midOf 0 (h - 0) (putMid 0 (h - 0) x q) ≡ q
   lent-again q e = rw sub-zero (take-at q (drop h x) h e)

@@ -10,7 +10,7 @@ use lib.Pow.{pow-mono, mod-pow-add}
 use Rattle.numbers.specs.Choice.{lt-or-le}
 use Rattle.numbers.specs.Lowest.{LowestOne}
 
--- of an even number it is one above that of its half
+-- for an even number it is one above that of its half
 twice : (t n : ℕ) → n % 2 ≡ 0 → LowestOne t (n / 2) → LowestOne (suc t) n
 twice t n z e =
     let s : n % 2 ^ suc (suc t) ≡ (n / 2 % 2 ^ suc t) * 2 + n % 2 = rw (← add-one (suc t)) (mod-pow-add n (suc t) 1) in

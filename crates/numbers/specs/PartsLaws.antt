@@ -13,7 +13,7 @@ use mir.Val.{SFits, hbits}
 use Rattle.numbers.specs.Parts.{up, down}
 use Rattle.numbers.specs.Choice.{cond-by}
 
--- what is known of one number
+-- what is known about one number
 pub record Parts (z : ℤ) : Type 0 where
   pub apart : min (up z) (down z) ≡ 0
   pub size : natAbs z ≡ up z + down z
@@ -41,7 +41,7 @@ negated (pos zero) = record { up-negated = refl; down-negated = refl }
 negated (pos (suc n)) = record { up-negated = refl; down-negated = refl }
 negated (negsuc n) = record { up-negated = refl; down-negated = refl }
 
--- two numbers are equal where their parts say so
+-- two numbers are equal if their parts are
 pub by-parts : (a b : ℤ) → up a + down b ≡ up b + down a → a ≡ b
 by-parts (pos a) (pos b) h = ap pos (omega arith)
 by-parts (pos a) (negsuc b) h = absurd (omega arith)
@@ -53,12 +53,12 @@ pub sign : (z : ℤ) → (down z ≡ 0) ⊎ (up z ≡ 0)
 sign (pos n) = inl refl
 sign (negsuc n) = inr refl
 
--- a fact of two numbers, by their signs
+-- a fact about two numbers, by their signs
 pub by-signs : {P : Type 0} (x y : ℤ) → (down x ≡ 0 → down y ≡ 0 → P) → (down x ≡ 0 → up y ≡ 0 → P)
     → (up x ≡ 0 → down y ≡ 0 → P) → (up x ≡ 0 → up y ≡ 0 → P) → P
 by-signs x y a b c d = ⊎-elim (λ h. ⊎-elim (a h) (b h) (sign y)) (λ h. ⊎-elim (c h) (d h) (sign y)) (sign x)
 
--- a signed test, as a fact of the parts
+-- a signed test, as a fact about the parts
 pub less-parts : (a b : ℤ) → ltZ a b ≡ true → up a + down b < up b + down a
 less-parts (pos a) (pos b) e = omega (arith, ltb-true a b e)
 less-parts (pos a) (negsuc b) e = absurd (false≢true e)

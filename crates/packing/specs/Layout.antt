@@ -71,7 +71,7 @@ unfoldable pub padOf : ℕ → List ℕ → ℕ
 padOf zero p = getD p 1 0 % 16
 padOf (suc m) p = 0
 
--- how many readings a packed part of k bytes holds, among the codes whose m is below this; 0 where none of them has such a part
+-- how many readings a packed part of k bytes holds, among the codes whose m is below this; 0 if none of them has such a part
 unfoldable pub readingsIn : ℕ → ℕ → ℕ
 readingsIn zero k = 0
 readingsIn (suc m) k = cond (eqb k (partLength m)) (2 ^ m) (readingsIn m k)

@@ -64,7 +64,7 @@ bytes-nibbles (x ∷ p) =
     let e : 16 * (x / 16) + x % 16 ≡ x = omega arith in
     rw e (ap (λ (l : List ℕ). x ∷ l) (bytes-nibbles p))
 
--- no entries that are not there can be too large
+-- entries that are not there cannot be too large
 below-nil : (b : ℕ) → Below (suc b) []
 below-nil b i = omega arith
 
@@ -296,7 +296,7 @@ pub length-packed-any : (l : List ℤ) → length (packed l) ≡ (3 * length l +
 unfolding packed
 length-packed-any l = omega (arith, length-bytes (spread l), length-spread l)
 
--- a field as code computes it: 4,096 added, and the rest of the division by that
+-- a field as code computes it: 4,096 added, and the remainder of the division by that
 abbrev pub raised : ℤ → ℕ
 raised (pos n) = n + 4096
 raised (negsuc n) = 4095 - n

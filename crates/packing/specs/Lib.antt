@@ -6,5 +6,5 @@ pub mod UnpackDemand
 pub mod LayoutLaws
 pub mod PairLaws
 pub mod UnpackingLaws
--- That it is met
+-- That demand 1 is met
 pub mod UnpackDemandMet

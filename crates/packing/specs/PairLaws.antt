@@ -63,7 +63,7 @@ module _ {A : Type 0} (d x : List A) (z : A) where
         let all : k + 1 ≡ length x = omega arith in
         store k k (omega arith) (omega arith) (omega arith) ∙ rw all (front-all d x (omega arith))
 
--- a first entry is stored, and what is behind it is lent and comes back
+-- a first entry is stored, and what follows it is lent and comes back
 pub first-and-rest : {A : Type 0} (d q : List A) (v : A) → 0 < length d → putMid 1 (length d - 1) (set d 0 v) q ≡ v ∷ q
 first-and-rest [] q v h = absurd (omega arith)
 first-and-rest (a ∷ d) q v h = back-from 1 (v ∷ d) q

@@ -1,5 +1,5 @@
 -- Demand 1 of `unpack`: 2 exactly if no record has a part of that length, then 3 exactly if the buffer's length is not the number of its readings.
--- Met in UnpackDemandMet.
+-- Proved in UnpackDemandMet.
 use mathlib.Core.Path.{_≡_}
 use mathlib.Core.List.{List, []}
 use Prim.Native.Nat.{ℕ, _^_, _≤_, _<_}

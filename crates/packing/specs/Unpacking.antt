@@ -12,7 +12,7 @@ use Rattle.code.specs.declared.Completed.the-variants.{Done, Refused}
 use Rattle.packing.specs.Layout.{unpacked, readingsIn}
 
 pub record UnpackedOutcome : Type 0 where
-  -- all 0 where the readings are unpacked, else what the refusal carries
+  -- all 0 if the readings are unpacked, else what the refusal carries
   pub carry : Carried
   -- the lent buffer as the call leaves it
   pub readings : List ℤ
@@ -21,7 +21,7 @@ pub record UnpackedOutcome : Type 0 where
 abbrev pub outcomeOf : Completed → List ℤ → UnpackedOutcome
 outcomeOf answer readings = record { carry = completed answer; readings = readings }
 
--- of a packed part, and the buffer for its readings
+-- from a packed part, and the buffer for its readings
 unfoldable pub unpacking : List ℕ → List ℤ → UnpackedOutcome
 unpacking part readings =
     let n = readingsIn (suc largestM) (length part) in

@@ -40,7 +40,7 @@ unpack-only o a b x y e f =
     let same : outcomeOf a x ≡ outcomeOf b y = e ∙ sym f in
     (completed-only a b (ap (λ (p : UnpackedOutcome). p .carry) same), ap (λ (p : UnpackedOutcome). p .readings) same)
 
--- 2 is given exactly where no record has a part of that length
+-- 2 is given exactly if no record has a part of that length
 pub part-of-none : (b k : ℕ) → ((m : ℕ) → m < b → k ≡ partLength m → ⊥) → readingsIn b k ≡ 0
 unfolding readingsIn
 part-of-none zero k h = refl

@@ -34,7 +34,7 @@ const BOTTOM_RAIL: u16 = 2048;
 
 const RAIL_READING: i16 = -Code::LARGEST_RECORD_READING;
 
-// The reading in a field of 12 bits: two's complement, but for the bottom rail.
+// The reading in a field of 12 bits: two's complement, except for the bottom rail.
 fn reading_of(field: u16) -> i16
     requires { ⌜ field < 4096 ⌝ }
     ensures { λ x. ⌜ x ≡ reading field ⌝ }
@@ -48,7 +48,7 @@ fn reading_of(field: u16) -> i16
     field as i16 - 4096
 }
 
-// Two readings from three bytes a pass; a last single one stays as it is.
+// Two readings from three bytes per pass; a last single one stays as it is.
 fn put_reading_pairs(part: &[u8], readings: &mut [i16])
     requires { ⌜ length (now readings) ≡ length (unpacked (now part)) ⌝ }
     ensures { λ _. ⌜ now (readings .exit) ≡ front (now (readings .entry))
@@ -87,7 +87,7 @@ fn field_of(reading: i16) -> u16
     (reading + 4096) as u16 % 4096
 }
 
-// Three bytes of two readings a pass; a last single reading is left.
+// Three bytes of two readings per pass; a last single reading is left.
 fn put_packed_pairs(readings: &[i16], part: &mut [u8])
     requires { ⌜ Within largestRecordReading (now readings)
         × (length (now part) ≡ length (packed (now readings))) ⌝ }
@@ -122,7 +122,7 @@ pub fn put_packed(readings: &[i16], part: &mut [u8])
     }
 }
 
-// How many readings a packed part of so many bytes holds; 0 where no record has such a part.
+// How many readings a packed part of this many bytes holds; 0 if no record has such a part.
 fn readings_in(bytes: usize) -> usize
     ensures { λ n. ⌜ n ≡ readingsIn (suc largestM) bytes ⌝ }
 {

@@ -1,4 +1,4 @@
--- The rules' example: the bytes 21 00 5F FE 00 30 01 give its two lines. And the program allows more visits than the short call.
+-- The rules' example: the bytes 21 00 5F FE 00 30 01 give its two lines. And the program allows more visits than the calls without an allowance.
 use mathlib.Core.Path.{_≡_, refl}
 use mathlib.Core.List.{[], _∷_}
 use Prim.Native.Nat.{_<_}

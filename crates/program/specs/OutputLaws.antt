@@ -1,4 +1,4 @@
--- Laws of what the program must write: it goes record by record, and bytes behind a record do not change its line.
+-- Laws of what the program must write: it goes record by record, and bytes after a record do not change its line.
 use mathlib.Core.Path.{_≡_, refl, ap, _∙_}
 use mathlib.Core.List.{List, [], _∷_, _++_}
 use mathlib.Core.Bool.{true, false, cond}
@@ -18,7 +18,7 @@ use Rattle.program.specs.Program.{Result, allowance, headed, resultOf, l
 pub allowance-is : allowance ≡ 10 ^ 6
 allowance-is = refl
 
--- where a record does not stop the program, all of its bytes are there
+-- if a record does not stop the program, all of its bytes are there
 pub goes-on-there : (s : List ℕ) → stops (resultOf s) ≡ false → There s
 unfolding resultOf
 goes-on-there s h = header-there s (λ e. let f : true ≡ false = rw e at h in let z : _≡_ {A = ℕ} 0 1 = cc in omega arith)
@@ -28,7 +28,7 @@ headed-before : (s rest : List ℕ) (h : Header) → headerOf s ≡ h → headed
 headed-before s rest (Refused why) e = refl
 headed-before s rest (Record c) e = rw (readings-before s rest c e)
 
--- what becomes of a record that is there as a whole does not depend on the bytes behind it
+-- what becomes of a record that is there completely does not depend on the bytes after it
 pub result-before : (s rest : List ℕ) → 0 < length s → nextStart s ≤ length s → resultOf (s ++ rest) ≡ resultOf s
 unfolding resultOf
 result-before s rest h n = ap (λ (x : Header). headed x (s ++ rest)) (header-before s rest h n) ∙ headed-before s rest (headerOf s) refl
@@ -52,7 +52,7 @@ enough (suc k) (suc j) a f (x ∷ s) h i =
     let short : length (drop (nextStart t) t) ≡ suc (length s) - nextStart t = length-drop (nextStart t) t in
     enough k j _ _ (drop (nextStart t) t) (omega (arith, there .some)) (omega (arith, there .some))))
 
--- the lines and the total of bytes s, when so many records before them were answered and refused
+-- the lines and the total of bytes s, when this many records before them were answered and refused
 abbrev pub linesOf : ℕ → ℕ → List ℕ → List ℕ
 linesOf answers refusals s = outputFrom (length s) answers refusals s
 
@@ -67,12 +67,12 @@ answersAfter result n = cond (isAnswered result) (suc n) n
 abbrev pub refusalsAfter : Result → ℕ → ℕ
 refusalsAfter result n = cond (isAnswered result) n (suc n)
 
--- after a record with this result, when s are the bytes behind it
+-- after a record with this result, when s are the bytes after it
 abbrev pub linesAfter : ℕ → ℕ → Result → List ℕ → List ℕ
 linesAfter a f result s =
     cond (stops result) (totalLine (answersAfter result a) (refusalsAfter result f)) (linesOf (answersAfter result a) (refusalsAfter result f) s)
 
--- the first record's line and then those of the others, whatever follows the bytes s if that does not change the record
+-- the first record's line and then those of the others, whatever follows the bytes s, as long as it does not change the record
 pub lines-first : (a f : ℕ) (s rest : List ℕ) → 0 < length s → resultOf (s ++ rest) ≡ resultOf s
     → linesOf a f (s ++ rest) ≡ lineOf (a + f) (resultOf s) ++ linesAfter a f (resultOf s) (drop (nextStart s) s ++ rest)
 unfolding outputFrom

@@ -1,4 +1,4 @@
--- Laws of the work on one record: what the search's answer says of its result.
+-- Laws of the work on one record: what the search's answer says about its result.
 use mathlib.Core.Path.{_≡_, refl, ap, sym, _∙_, subst}
 use mathlib.Core.List.{List}
 use Prim.Native.Nat.{ℕ, _-_, _^_, _≤_}
@@ -37,16 +37,16 @@ abbrev pub resultIn : Searched → List ℕ → Result
 resultIn (searched.Found penalty gap visits) bits = answered bits penalty gap visits
 resultIn (searched.Refused why) bits = refused why
 
-told-result : (a : Searched) (bits word bits₀ word₀ : List ℕ) (x : Answer)
+reported-result : (a : Searched) (bits word bits₀ word₀ : List ℕ) (x : Answer)
     → Outcome.outcomeOf a bits word ≡ Outcome.byAnswer allowance bits₀ word₀ x → resultIn a bits ≡ program.searched x
-told-result a bits word bits₀ word₀ (found b y p g v) e =
+reported-result a bits word bits₀ word₀ (found b y p g v) e =
     let o = search-only (Outcome.outcomeOf (searched.Found p g v) b y) a (searched.Found p g v) bits word b y e refl in
     ap (λ (a : Searched). resultIn a bits) (o .0) ∙ ap (λ (c : List ℕ). answered c p g v) (o .1)
-told-result a bits word bits₀ word₀ (tied p v) e =
+reported-result a bits word bits₀ word₀ (tied p v) e =
     let why = searched.Refused (Tied p v) in
     let o = search-only (Outcome.outcomeOf why bits₀ word₀) a why bits word bits₀ word₀ e refl in
     ap (λ (a : Searched). resultIn a bits) (o .0)
-told-result a bits word bits₀ word₀ outOfVisits e =
+reported-result a bits word bits₀ word₀ outOfVisits e =
     let why = searched.Refused (OutOfVisits allowance) in
     let o = search-only (Outcome.outcomeOf why bits₀ word₀) a why bits word bits₀ word₀ e refl in
     ap (λ (a : Searched). resultIn a bits) (o .0)
@@ -67,7 +67,7 @@ module _ (s : List ℕ) (c : Code) (bits word bits₀ word₀ : List ℕ) (h : h
   pub searched-result : (a : Searched) → Outcome.outcomeOf a bits word ≡ searchingBy (Record c) allowance s bits₀ word₀ → resultIn a bits ≡ resultOf s
   unfolding resultOf
   searched-result a e =
-      told-result a bits word bits₀ word₀ (answer (c .m) (kinds (c .r) (c .m)) (readingsOf c s) allowance)
+      reported-result a bits word bits₀ word₀ (answer (c .m) (kinds (c .r) (c .m)) (readingsOf c s) allowance)
       (e ∙ sound-answered bits₀ word₀ is-sound allowance)
       ∙ ap (λ (k : Header). headed k s) (sym h)
 

@@ -20,7 +20,7 @@ const ALLOWANCE: u32 = 1000000;
 
 // What becomes of a record.
 pub struct Step {
-    // the next record starts so many bytes on
+    // the next record starts this many bytes further on
     pub taken: usize,
     // the place after its line
     pub end: usize,
@@ -50,7 +50,7 @@ fn refuse(w: u64, s: &[u8], why: Refusal, out: &mut [u8], at: usize) -> Step
     }
 }
 
-fn tell(
+fn report(
     w: u64,
     s: &[u8],
     bits: &[u8],
@@ -94,14 +94,14 @@ fn search_into(
         (now (out .entry)) at t (now (out .exit)) ⌝ }
 {
     let answer = record::search_framed(s, code, ALLOWANCE, bits, word);
-    // the line says nothing of the runner-up
+    // the line says nothing about the runner-up
     let result = answer.result;
     match result {
         Searched::Found {
             penalty,
             gap,
             visits,
-        } => tell(w, s, bits, penalty, gap, visits, out, at),
+        } => report(w, s, bits, penalty, gap, visits, out, at),
         Searched::Refused(why) => refuse(w, s, why, out, at),
     }
 }

@@ -1,4 +1,4 @@
--- The version of the calls, and lengths as C asks for them: 0 where the code, or the first byte of a record, is refused.
+-- The version of the calls, and lengths as C asks for them: 0 if the code, or the first byte of a record, is refused.
 use mathlib.Core.Bool.{cond}
 use Prim.Native.Nat.{ℕ, _^_}
 use lib.Dec.{ltb}
@@ -21,6 +21,6 @@ abbrev pub dimensionIn : Made → ℕ
 dimensionIn Bad = 0
 dimensionIn (Good c) = dimension (c .r) (c .m)
 
--- a record's bytes, by its first; a number above 255 is no byte
+-- how many bytes a record has, by its first; a number above 255 is not a byte
 abbrev pub recordLength : ℕ → ℕ
 recordLength first = cond (ltb 255 first) 0 (lengthBy (codeOf first))

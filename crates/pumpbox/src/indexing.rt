@@ -1,4 +1,4 @@
-// The C exports of an index (docs/RULES.md, §14): making it, of the whole capture or of its front;
+// The C exports of an index (docs/RULES.md, §14): making it, for a whole capture or for its front;
 // asking it for a record; appending a record.
 use answers::put_appended;
 use answers::put_entry;
@@ -57,7 +57,7 @@ pub extern "C" fn cinorbis_index_find(
     put_entry(header, found.start, found.length, out)
 }
 
-// The index that was handed in.
+// The index that was passed.
 fn taken(index: &[u64; 2]) -> Index
     ensures { λ k. ⌜ k ≡ indexIn (now (index .entry)) ⌝ }
 {

@@ -1,4 +1,4 @@
-// The version of the calls; lengths, for a caller who has to lend memory: 0 where a code or a first
+// The version of the calls; lengths, for a caller who has to lend memory: 0 if a code or a first
 // byte is refused.
 use code::Code;
 use code::Made;
@@ -6,7 +6,7 @@ ghost use mathlib.Core.Path.{_≡_};
 ghost use Rattle.code.specs.Sound.{made};
 ghost use Rattle.pumpbox.specs.Lengths.{version, lengthIn, dimensionIn, recordLength};
 
-// Raised with the header's own.
+// Raised together with the header's.
 const VERSION: u32 = 17;
 
 #[no_mangle]

@@ -117,7 +117,7 @@ unfolding quickWord
 quick-halves zero ks l more = absurd (more refl)
 quick-halves (suc p) ks l more = let e : suc p - 1 ≡ p = omega arith in rw e
 
--- v is the two halves' words, to be folded
+-- v is the two halves' words, still to be folded
 pub record Foldable (m : ℕ) (kinds word : List ℕ) (l : List ℤ) (v : List ℕ) : Type 0 where
   pub long : length v ≡ mid word + mid word
   pub bits : Bits v
@@ -207,7 +207,7 @@ module _ (m : ℕ) (kinds word : List ℕ) (l : List ℤ) (s : Sized m kinds wor
               gives = ap (folded (mid word)) both ∙ rw (take-at x y (mid word) long-lower, drop-at x y (mid word) long-lower) (quick-halves m kinds l more);
             }
 
--- ---- the same where l is the row of 2^m sums of the scratch array
+-- ---- the same if l is the row of 2^m sums of the scratch array
 -- after the first half is read: q is the array, w the word
 pub record FirstRead (m : ℕ) (rows : List ℤ) (kinds word : List ℕ) (q : List ℤ) (w : List ℕ) : Type 0 where
   pub long-rows : length q ≡ length rows

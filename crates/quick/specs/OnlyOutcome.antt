@@ -24,23 +24,23 @@ same-answer (Refused why) (Refused why′) x y v w e f g =
     let carry = ap (λ (o : Outcome). carrying (o .number) (o .place) 0 0) e in
     ap Refused (refusal-only why why′ (carries-none why f g ∙ carry ∙ sym (carries-none why′ (λ k. f (number ∙ k)) (λ k. g (number ∙ k)))))
 
-bits-told : (a : Read) (x y : List ℕ) → outcomeOf a x y .bits ≡ x
-bits-told (Done penalty) x y = refl
-bits-told (Refused why) x y = refl
+outcome-bits : (a : Read) (x y : List ℕ) → outcomeOf a x y .bits ≡ x
+outcome-bits (Done penalty) x y = refl
+outcome-bits (Refused why) x y = refl
 
-word-told : (a : Read) (x y : List ℕ) → outcomeOf a x y .word ≡ y
-word-told (Done penalty) x y = refl
-word-told (Refused why) x y = refl
+outcome-word : (a : Read) (x y : List ℕ) → outcomeOf a x y .word ≡ y
+outcome-word (Done penalty) x y = refl
+outcome-word (Refused why) x y = refl
 
--- of any outcome that is none of the search's
+-- for any outcome that is not one of the search
 pub outcome-only : (o : Outcome) → (o .number ≡ 6 → ⊥) → (o .number ≡ 7 → ⊥)
     → (a b : Read) (x y v w : List ℕ) → outcomeOf a x y ≡ o → outcomeOf b v w ≡ o → (a ≡ b) × (x ≡ v) × (y ≡ w)
 outcome-only o six seven a b x y v w e f =
     let same = e ∙ sym f in
     let is = ap (λ (p : Outcome). p .number) (sym e) in (
       same-answer a b x y v w same (λ k. six (is ∙ k)) (λ k. seven (is ∙ k)),
-      sym (bits-told a x y) ∙ ap (λ (p : Outcome). p .bits) same ∙ bits-told b v w,
-      sym (word-told a x y) ∙ ap (λ (p : Outcome). p .word) same ∙ word-told b v w,
+      sym (outcome-bits a x y) ∙ ap (λ (p : Outcome). p .bits) same ∙ outcome-bits b v w,
+      sym (outcome-word a x y) ∙ ap (λ (p : Outcome). p .word) same ∙ outcome-word b v w,
     )
 
 module _ (r m : ℕ) (l : List ℤ) (bits word : List ℕ) where

@@ -13,7 +13,7 @@ use Rattle.quick.specs.declared.Read.{Read}
 use Rattle.quick.specs.declared.Read.the-variants.{Done, Refused}
 
 pub record Outcome : Type 0 where
-  -- 0 where the call is done, else the refusal's number
+  -- 0 if the call is done, else the refusal's number
   pub number : ℕ
   -- the place that 4 carries, else 0
   pub place : ℕ
@@ -35,10 +35,10 @@ abbrev pub outcomeOf : Read → List ℕ → List ℕ → Outcome
 outcomeOf (Done penalty) = done penalty
 outcomeOf (Refused why) = refused why
 
--- the written steps, where no test refuses
+-- the written steps, if no test refuses
 abbrev pub readingBy : Code → List ℤ → Outcome
 readingBy c l = let ks = kinds (c .r) (c .m) in done (quickPenalty (c .m) ks l) (quickBits (c .m) ks l) (quickWord (c .m) ks l)
 
--- of r, m, the readings, and the buffers for the information bits and the word
+-- from r, m, the readings, and the buffers for the information bits and the word
 unfoldable pub quickReading : ℕ → ℕ → List ℤ → List ℕ → List ℕ → Outcome
 quickReading r m l bits word = afterTest (admitted r m l (length bits) (length word)) (λ why. refused why bits word) (λ c. readingBy c l)

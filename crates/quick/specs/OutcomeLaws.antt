@@ -1,4 +1,4 @@
--- The outcome at each place where `quick` returns, and what the work between asks.
+-- The outcome at each place where `quick` returns, and what the work in between requires.
 use mathlib.Core.Path.{_≡_, ap, sym, _∙_}
 use mathlib.Core.List.{List}
 use Prim.Native.Nat.{ℕ, _-_, _^_, _<_}
@@ -34,7 +34,7 @@ module _ (r m : ℕ) (l : List ℤ) (bits word : List ℕ) where
   reading-done c o e f = rw (← e) f
 
 -- the running sums of sound readings are small
-pub sums-small : {c : Code} {l : List ℤ} {due k n : ℕ} → SoundFor c due k n (GoodReadings c l) → sizes l < sumLimit
+pub sums-small : {c : Code} {l : List ℤ} {expected k n : ℕ} → SoundFor c expected k n (GoodReadings c l) → sizes l < sumLimit
 sums-small {l = l} a =
     omega (arith, sums-most l (omega (arith, a .entries .long, length-most (a .sound))) (a .entries .within))
 

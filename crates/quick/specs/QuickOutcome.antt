@@ -1,5 +1,5 @@
--- What an outcome of `quick` says: of one that is done, the bits encode to the word, which is a word of the code, with its own penalty, at least the least;
--- of one that is refused, the number is that of the first test that applies, and both buffers are as they were.
+-- What an outcome of `quick` says: if it is done, the bits encode to the word, which is a word of the code, with its own penalty, at least the least;
+-- if it is refused, the number is that of the first test that applies, and both buffers are unchanged.
 use mathlib.Core.Path.{_≡_, refl, ap, sym}
 use mathlib.Core.List.{List}
 use Prim.Native.Nat.{ℕ, _^_, _≤_, _<_}

@@ -1,5 +1,5 @@
 -- The running sums of at most 256 readings, by the bound for any largest reading: none is above 256 × 32,767 = 8,388,352, and one reaches it.
--- No penalty is above it, nor the least penalty with the gap. What comes out of a record has a bound of its own: record/specs/RunningSums.antt.
+-- No penalty is above it, nor the least penalty plus the gap. What comes out of a record has a bound of its own: record/specs/RunningSums.antt.
 use mathlib.Core.Path.{_≡_}
 use mathlib.Core.List.{List}
 use Prim.Native.Nat.{ℕ, _+_, _≤_}
@@ -21,7 +21,7 @@ module _ (l : List ℤ) (short : length l ≤ 256) (within : Within largestReadi
   pub running-sum : (s : List Step) (i : ℕ) → natAbs (getD (sumsAfter l s) i (pos 0)) ≤ 8388352
   running-sum s i = omega (arith, running-sum-most largestReading l within s i)
 
-  -- of every word, and for any row of kinds that has an information index
+  -- for every word, and for any row of kinds that has an information index
   pub penalty-most : (x : List ℕ) → penalty l x ≤ 8388352
   penalty-most x = omega (arith, penalty-sizes l x, sums-most)
 

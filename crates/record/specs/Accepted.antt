@@ -1,5 +1,5 @@
 -- The reader accepts the bytes that begin with a record by the layout, and hands back that record's packed part. What it accepts begins with the record
--- of the readings in it, where no field is the bottom rail.
+-- of the readings in it, if no field is the bottom rail.
 use mathlib.Core.Path.{_≡_, refl, ap, _∙_}
 use mathlib.Core.List.{List, [], _∷_, _++_}
 use Prim.Native.Nat.{ℕ, zero, suc, _+_, _*_, _/_, _%_, _^_, _≤_}
@@ -94,7 +94,7 @@ written (first ∷ t) c h f n =
     packed-unpacked (c .m) p (length-part c (first ∷ t) (f .whole)) (take-below 256 (partLength (c .m)) t (λ i. h (suc i))) (f .clear) n in
     rw (again, take-append-drop (partLength (c .m)) t) (ap (λ (b : ℕ). b ∷ t) (first-byte first c (f .said)))
 
--- bytes that are accepted begin with a record: that of the readings in their packed part, where none of its fields is the bottom rail
+-- bytes that are accepted begin with a record: that of the readings in their packed part, if none of its fields is the bottom rail
 pub accepted-begins : (s : List ℕ) (c : Code) → Below 256 s → headerOf s ≡ Record c → NoRail (nibbles (partOf c s))
     → Begins s c (readingsOf c s) (drop (suc (partLength (c .m))) s)
 accepted-begins s c h e n =

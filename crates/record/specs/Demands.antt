@@ -1,5 +1,5 @@
--- Demand 1 of a record's header, the checks 1, 8 and 9, of its search, these and then 3, 6 and 7, and of the writer, the checks 1, 2, 4 and 3, in these
--- orders; and what a larger allowance changes. That this is met is proved in DemandsMet and WritingDemandMet.
+-- Demand 1 for a record's header (checks 1, 8 and 9), for its search (these, then 3, 6 and 7) and for the writer (checks 1, 2, 4 and 3), in these
+-- orders; and what a larger allowance changes. That they are met is proved in DemandsMet and WritingDemandMet.
 use mathlib.Core.Path.{_≡_}
 use mathlib.Core.Logic.{_⊎_}
 use mathlib.Core.List.{List, [], _∷_}
@@ -58,12 +58,12 @@ recordChecks allowed s bits word =
 abbrev pub RecordDemand1 : ℕ → List ℕ → List ℕ → List ℕ → Type 0
 RecordDemand1 allowed s bits word = Demand1 (recordChecks allowed s bits word) (bits ∷ word ∷ []) (view (searchingRecord allowed s bits word))
 
--- a larger allowance changes nothing that was answered or refused, but for 6, as with the search of plain readings: numbers, buffers and runner-up stay
+-- a larger allowance changes no answer and no refusal except 6, as with the search of plain readings: numbers, buffers and runner-up stay the same
 abbrev pub RecordLargerAllowance : List ℕ → List ℕ → List ℕ → Type 0
 RecordLargerAllowance s bits word = (allowed more : ℕ) → allowed ≤ more
     → (searchingRecord allowed s bits word .number ≡ 6 → ⊥) → searchingRecordWithRunnerUp more s bits word ≡ searchingRecordWithRunnerUp allowed s bits word
 
--- 4 is given neither by the header nor by the search, whatever the bytes are
+-- neither the header nor the search gives 4, whatever the bytes are
 pub record Never4 (allowed : ℕ) (s bits word : List ℕ) : Type 0 where
   pub header : outcomeOf (headerOf s) .carry .number ≡ 4 → ⊥
   pub search : searchingRecord allowed s bits word .number ≡ 4 → ⊥
@@ -74,7 +74,7 @@ writtenView o =
     let c = o .carry in
     record { number = c .number; place = c .place; penalty = c .penalty; gap = 0; visits = c .visits; buffers = o .buffer ∷ [] }
 
--- too little room from the place on; a place at or beyond the end leaves none; and what comes after
+-- too little room from the place on (none if the place is at or beyond the end); and what comes after
 abbrev pub writeChecks : ℕ → ℕ → List ℤ → List ℕ → ℕ → Checks → Checks
 writeChecks r m l buffer place rest =
     check Parameters ((largestM < m) ⊎ (m < r))

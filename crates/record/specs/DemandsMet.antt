@@ -30,7 +30,7 @@ use Rattle.record.specs.Searching.{searchingBy, searchingRecord, searchi
 use Rattle.record.specs.Accepted.{readings-allowed}
 use Rattle.record.specs.Demands.{saidR, saidM, headerChecks, headerView, HeaderDemand1, recordChecks, RecordDemand1, RecordLargerAllowance, Never4}
 
--- the checks on the bytes, for all that goes by the header: refused as the header is, and decided by the rest for a record
+-- the checks on the bytes, for everything that depends on the header: refused as the header is, and decided by the rest for a record
 module _ (before : List (List ℕ)) (o : View) (rest : Checks) where
   decides-header : (s : List ℕ) → ((why : Refusal) → headerOf s ≡ Refused why → o ≡ refusedAs why before)
       → (let c = rm (saidR s) (saidM s) in Sound c → suc (partLength (c .m)) ≤ length s → headerOf s ≡ Record c → Decides before o rest)
@@ -92,7 +92,7 @@ header-demand-1 s =
 
 -- ---- the search
 module _ (allowed : ℕ) (bits word : List ℕ) where
-  -- of as many readings as the code has positions, none beyond the largest, the search checks 3, 6 and 7
+  -- given as many readings as the code has positions, none beyond the largest, the search checks 3, 6 and 7
   then-search : (r m : ℕ) (s : List ℕ) → Sound (rm r m) → suc (partLength m) ≤ length s
       → let l = readingsOf (rm r m) s in
       Decides (bits ∷ word ∷ []) (view (searching r m allowed l bits word))

@@ -1,4 +1,4 @@
--- Laws for who reads one record after another: an accepted code is sound, a record has at most 385 bytes and is there as a whole unless it is refused
+-- Laws for reading one record after another: an accepted code is sound, a record has at most 385 bytes and is there completely unless it is refused
 -- as 1 or 8, and what follows a record changes nothing.
 use mathlib.Core.Path.{_≡_, refl, ap}
 use mathlib.Core.List.{List, [], _∷_, _++_}
@@ -30,7 +30,7 @@ length-by first (Good c) e = omega (arith, part-small c (made-of (first % 16) (f
 pub record-small : (first : ℕ) → lengthBy (codeOf first) ≤ 385
 record-small first = length-by first (codeOf first) refl
 
--- the bytes that the first one announces are there, and not none
+-- the bytes that the first one announces are there, and there is at least one
 pub record There (s : List ℕ) : Type 0 where
   pub some : 0 < lengthBy (codeOf (getD s 0 0))
   pub whole : lengthBy (codeOf (getD s 0 0)) ≤ length s
@@ -41,7 +41,7 @@ there-by first s Bad e p t = absurd (p refl)
 there-by first s (Good c) e p t =
     ⊎-elim (λ k. absurd (t (frame-torn c (first ∷ s) k))) (λ k. (omega arith, omega arith)) (lt-or-le (length (first ∷ s) - 1) (partLength (c .m)))
 
--- where the header is refused neither as 1 nor as 8
+-- if the header is refused neither as 1 nor as 8
 pub header-there : (s : List ℕ) → (headerOf s ≡ Refused Parameters → ⊥) → (headerOf s ≡ Refused Torn → ⊥) → There s
 unfolding headerOf
 header-there [] p t = absurd (t refl)
@@ -49,7 +49,7 @@ header-there (first ∷ s) p t =
     let r = there-by first s (codeOf first) refl p t in
     record { some = r .0; whole = r .1 }
 
--- the part of a record that is there as a whole
+-- the part of a record that is there completely
 part-before : (c : Code) (s rest : List ℕ) → suc (partLength (c .m)) ≤ length s → partOf c (s ++ rest) ≡ partOf c s
 part-before c [] rest h = absurd (omega arith)
 part-before c (first ∷ s) rest h = take-append-le (partLength (c .m)) s rest (omega arith)
@@ -65,7 +65,7 @@ framed-before first s rest (Good c) h =
     )
 
 module _ (s rest : List ℕ) where
-  -- of a record that is there as a whole, or whose first byte is refused: bytes behind it change neither its header nor its readings
+  -- for a record that is there completely, or whose first byte is refused: bytes after it change neither its header nor its readings
   pub header-before : 0 < length s → lengthBy (codeOf (getD s 0 0)) ≤ length s → headerOf (s ++ rest) ≡ headerOf s
   unfolding headerOf
   header-before = before s

@@ -25,12 +25,12 @@ high a b h = omega arith
 low : (a b : ℕ) → b < 16 → (16 * a + b) % 16 ≡ b
 low a b h = omega arith
 
--- the field a of two that stand in three bytes: all of the first byte, and the high nibble of the second
+-- the field a of two that share three bytes: all of the first byte, and the high nibble of the second
 first-field : (a b : ℕ) → b < 16
     → 256 * ((16 * (a / 256) + a / 16 % 16) / 16) + 16 * ((16 * (a / 256) + a / 16 % 16) % 16) + (16 * (a % 16) + b) / 16 ≡ a
 first-field a b h = rw (high (a / 256) (a / 16 % 16) (omega arith), low (a / 256) (a / 16 % 16) (omega arith), high (a % 16) b h) (omega arith)
 
--- the field a that stands alone
+-- the field a on its own
 only-field : (a : ℕ) → 256 * ((16 * (a / 256) + a / 16 % 16) / 16) + 16 * ((16 * (a / 256) + a / 16 % 16) % 16) + 16 * (a % 16) / 16 ≡ a
 only-field a =
     let last : 16 * (a % 16) / 16 ≡ a % 16 = omega arith in
@@ -52,7 +52,7 @@ no-rail-packed (x ∷ y ∷ l) h =
       (λ e. not-rail y (h 1) (sym (second-field (field x % 16) (field y) small) ∙ e), rest),
     )
 
--- whatever it is given: where it does not refuse, the part that the reader then finds has no such field
+-- for every input: if it does not refuse, the part that the reader then finds has no such field
 pub no-rail-written : (r m : ℕ) (l : List ℤ) (d : List ℕ) (place : ℕ) → writing r m l d place .carry .number ≡ 0
     → NoRail (nibbles (partOf (rm r m) (drop place (writing r m l d place .buffer))))
 unfolding packed

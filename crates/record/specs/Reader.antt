@@ -1,4 +1,4 @@
--- What the reader of packed records answers, as functions of the bytes handed in (docs/RULES.md, §7).
+-- What the reader of packed records answers, as functions of the bytes given (docs/RULES.md, §7).
 use mathlib.Core.List.{List, [], _∷_}
 use mathlib.Core.Bool.{cond}
 use Prim.Native.Nat.{ℕ, suc, _-_, _/_, _%_}
@@ -18,7 +18,7 @@ use Rattle.packing.specs.Layout.{unpacked, partLength, padOf}
 abbrev pub codeOf : ℕ → Made
 codeOf first = made (first % 16) (first / 16)
 
--- how many bytes a record has by its first byte; 0 where that is refused
+-- how many bytes a record has by its first byte; 0 if that is refused
 abbrev pub lengthBy : Made → ℕ
 lengthBy Bad = 0
 lengthBy (Good c) = suc (partLength (c .m))
@@ -43,7 +43,7 @@ unfoldable pub headerOf : List ℕ → Header
 headerOf [] = Refused Torn
 headerOf (first ∷ s) = headedBy (codeOf first) (first ∷ s)
 
--- the answer in the rules' numbers: 0 for a record and the refusal's number else, the values that it carries, and r and m of a record
+-- the answer in the rules' numbers: 0 for a record, otherwise the refusal's number; the values that it carries, and r and m of a record
 pub record HeaderOutcome : Type 0 where
   pub carry : Carried
   pub r : ℕ

@@ -35,7 +35,7 @@ module _ (c : Code) (s : List ℕ) where
   pub frame-whole : partLength (c .m) ≤ length s - 1 → padOf (c .m) (partOf c s) ≡ 0 → headedBy (Good c) s ≡ Record c
   frame-whole h z = rw (le-ltb (length s - 1) (partLength (c .m)) h, eq-eqb (padOf (c .m) (partOf c s)) 0 z)
 
--- the pad bits, as code looks at them
+-- the pad bits, as the code looks at them
 pub pad-third : (m : ℕ) (s : List ℕ) → m ≡ 0 → padOf m (take (partLength m) (drop 1 s)) ≡ getD s 2 0 % 16
 unfolding padOf partLength
 pad-third zero s e = rw (getD-take 2 (drop 1 s) 1 0 (omega arith), getD-drop 1 s 1 0)
@@ -50,7 +50,7 @@ pub part-of-one : (m : ℕ) → m ≡ 0 → partLength m ≡ 2
 unfolding partLength
 part-of-one m e = rw e
 
--- what is reported of bytes whose frame is accepted
+-- what is reported for bytes whose frame is accepted
 pub record Framed (s : List ℕ) (c : Code) : Type 0 where
   pub said : codeOf (getD s 0 0) ≡ Good c
   pub sound : Sound c
@@ -89,7 +89,7 @@ unfolding headerOf
 frame-by [] k h q = absurd (h refl)
 frame-by (first ∷ s) k h q = ap (λ (k : Made). headedBy k (first ∷ s)) q
 
--- the packed part as code takes it, and its readings
+-- the packed part as the code takes it, and its readings
 pub part-taken : (c : Code) (s : List ℕ) (k : ℕ) → k ≡ partLength (c .m) → take ((1 + k) - 1) (drop 1 s) ≡ partOf c s
 part-taken c s k e = let d : (1 + k) - 1 ≡ partLength (c .m) = omega arith in rw d
 

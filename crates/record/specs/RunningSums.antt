@@ -1,5 +1,5 @@
 -- How large the combining steps' sums, the walk's values and penalties can be: one statement for any largest reading, used for both numbers, 32,767 and 2,047.
--- What comes out of a record keeps the second: no running sum is above 256 × 2,047 = 524,032, and one reaches it.
+-- For what comes out of a record the second holds: no running sum is above 256 × 2,047 = 524,032, and one reaches it.
 use mathlib.Core.Path.{_≡_}
 use mathlib.Core.List.{List}
 use Prim.Native.Nat.{ℕ, _+_, _*_, _≤_}
@@ -22,14 +22,14 @@ use Rattle.record.specs.Reader.{readingsOf, headerOf}
 use Rattle.record.specs.ReaderLaws.{framed-record, length-readings-of}
 use Rattle.record.specs.Accepted.{readings-within}
 
--- of at most 256 readings up to `largest`: nothing is above `most`
+-- for at most 256 readings up to `largest`: nothing is above `most`
 pub record SizesMost (largest most : ℕ) : Type 0 where
   -- each entry of a combining step's row
   pub lower-step : (l : List ℤ) → length l ≤ 256 → Within largest l → (h i : ℕ) → natAbs (getD (lowerRow h l) i (pos 0)) ≤ most
   pub upper-step : (l : List ℤ) → length l ≤ 256 → Within largest l → (h : ℕ) (a : List ℕ) (i : ℕ) → natAbs (getD (upperRow h l a) i (pos 0)) ≤ most
   -- each running sum, after any steps
   pub running-sum : (l : List ℤ) → length l ≤ 256 → Within largest l → (s : List Step) (i : ℕ) → natAbs (getD (sumsAfter l s) i (pos 0)) ≤ most
-  -- each value of the walk, each row's penalty, and the least one with the gap
+  -- each value of the walk, each row's penalty, and the least one plus the gap
   pub value-of : (l : List ℤ) → length l ≤ 256 → Within largest l → (m : ℕ) (u : List ℕ) → natAbs (value m l u) ≤ most
   pub penalty-of : (l : List ℤ) → length l ≤ 256 → Within largest l → (x : List ℕ) → penalty l x ≤ most
   pub penalty-and-gap : (l : List ℤ) → length l ≤ 256 → Within largest l → (m : ℕ) (ks : List ℕ) → 1 ≤ sum ks → leastPenalty m ks l + gap m ks l ≤ most
@@ -74,7 +74,7 @@ readings-most = sizes-most largestReading
 pub record-readings-most : SizesMost largestRecordReading 524032
 record-readings-most = sizes-most largestRecordReading
 
--- of the bytes p, which begin with a record of the code c
+-- for the bytes p, which begin with a record of the code c
 pub running-sum-record : (p : List ℕ) (c : Code) → headerOf p ≡ Record c
     → (s : List Step) (i : ℕ) → natAbs (getD (sumsAfter (readingsOf c p) s) i (pos 0)) ≤ 524032
 running-sum-record p c is s i =

@@ -18,9 +18,9 @@ use Rattle.record.specs.declared.Written.the-variants.{Next, Refused}
 use Rattle.packing.specs.Layout.{recordOf, partLength}
 
 pub record WrittenOutcome : Type 0 where
-  -- all 0 where the record is written, else what the refusal carries
+  -- all 0 if the record is written, else what the refusal carries
   pub carry : Carried
-  -- the place after the record; 0 where refused
+  -- the place after the record; 0 if refused
   pub next : ℕ
   -- the lent buffer as the call leaves it
   pub buffer : List ℕ
@@ -30,7 +30,7 @@ abbrev pub outcomeOf : Written → List ℕ → WrittenOutcome
 outcomeOf (Next next) buffer = record { carry = carrying 0 0 0 0; next = next; buffer = buffer }
 outcomeOf (Refused why) buffer = record { carry = carried why; next = 0; buffer = buffer }
 
--- of a code: the readings l, and a record in a buffer of so many bytes from the place on
+-- for a code: the readings l, and a record in a buffer of this many bytes from the place on
 abbrev pub writableBy : Code → List ℤ → ℕ → ℕ → Admitted
 writableBy c l bytes place =
     let bad = firstBadReading largestRecordReading l in
@@ -46,6 +46,6 @@ writtenBy (admission.Refused why) l buffer place = outcomeOf (Refused why) buffe
 writtenBy (admission.Allowed c) l buffer place =
     let new = recordOf (c .r) (c .m) l in outcomeOf (Next (place + length new)) (laidAt place new buffer)
 
--- of r, m, the readings, the buffer and the place
+-- from r, m, the readings, the buffer and the place
 unfoldable pub writing : ℕ → ℕ → List ℤ → List ℕ → ℕ → WrittenOutcome
 writing r m l buffer place = writtenBy (writable r m l (length buffer) place) l buffer place

@@ -23,7 +23,7 @@ use Rattle.record.specs.WritingLaws.{not-made, not-long, not-good, no-ro
 use Rattle.record.specs.Demands.{writtenView, writeChecks, WriteDemand1}
 
 module _ (r m : ℕ) (l : List ℤ) (d : List ℕ) (place : ℕ) where
-  -- of any outcome that is refused as the tests say; what comes after them is asked where they all pass
+  -- for any outcome that is refused as the tests say; what comes after them matters only if they all pass
   pub decides-writing : (before : List (List ℕ)) (o : View) (rest : Checks)
       → ((why : Refusal) → admission.Refused why ≡ writable r m l (length d) place → o ≡ refusedAs why before)
       → (admission.Allowed (rm r m) ≡ writable r m l (length d) place → Decides before o rest)

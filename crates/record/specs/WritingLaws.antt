@@ -59,7 +59,7 @@ module _ (r m : ℕ) (l : List ℤ) (bytes place : ℕ) where
         may-write h =
             rw (good, eq-eqb (length l) (2 ^ c .m) long, le-ltb bad (length l) fine, le-ltb (bytes - place) (suc (partLength (c .m))) h)
 
--- ---- and back: what holds where none of the tests applies
+-- ---- and back: what holds if none of the tests applies
 pub record Writable (r m : ℕ) (l : List ℤ) (bytes place : ℕ) (c : Code) : Type 0 where
   pub same : c ≡ rm r m
   pub sound : Sound c
@@ -103,14 +103,14 @@ module _ (r m : ℕ) (l : List ℤ) (bytes place : ℕ) where
         | refuses why f ↦ let z : _≡_ {A = ℕ} 0 1 = cc in absurd (omega arith)
       ]
 
-  -- so the tests refuse nothing exactly then
+  -- so exactly then the tests refuse nothing
   pub writable-allowed : (c : Code) → Writable r m l bytes place c → admission.Allowed c ≡ writable r m l bytes place
   writable-allowed c w =
       let good : made r m ≡ Good c = rw (w .same) (made-good r m (rw (w .same) at (w .sound .m-small)) (rw (w .same) at (w .sound .r-small))) in
       let none = first-none (pos 0) natAbs largestRecordReading l (length l) (λ j h. w .within j) refl in
       may-write r m l bytes place c good (w .long) (omega (arith, none)) (w .room)
 
--- what a part of the buffer leaves that was lent for the record and came back as it
+-- the buffer, if a part of it was lent and came back as the record
 pub wrote : (c : Code) (l : List ℤ) (d q : List ℕ) (place k : ℕ) → q ≡ recordOf (c .r) (c .m) l → length q ≡ k
     → outcomeOf (Next (place + k)) (putMid place ((place + k) - place) d q) ≡ writtenBy (admission.Allowed c) l d place
 wrote c l d q place k e h =
@@ -126,11 +126,11 @@ answer-only (Next n) (Refused why) x y e = absurd (omega (arith, number-above wh
 answer-only (Refused why) (Next n) x y e = absurd (omega (arith, number-above why, ap (λ (o : WrittenOutcome). o .carry .number) e))
 answer-only (Refused why) (Refused why′) x y e = ap Refused (refusal-only why why′ (ap (λ (o : WrittenOutcome). o .carry) e))
 
-buffer-told : (a : Written) (x : List ℕ) → outcomeOf a x .buffer ≡ x
-buffer-told (Next n) x = refl
-buffer-told (Refused why) x = refl
+outcome-buffer : (a : Written) (x : List ℕ) → outcomeOf a x .buffer ≡ x
+outcome-buffer (Next n) x = refl
+outcome-buffer (Refused why) x = refl
 
 pub write-only : (o : WrittenOutcome) (a b : Written) (x y : List ℕ) → outcomeOf a x ≡ o → outcomeOf b y ≡ o → (a ≡ b) × (x ≡ y)
 write-only o a b x y e f =
     let same : outcomeOf a x ≡ outcomeOf b y = e ∙ sym f in
-    (answer-only a b x y same, sym (buffer-told a x) ∙ ap (λ (o : WrittenOutcome). o .buffer) same ∙ buffer-told b y)
+    (answer-only a b x y same, sym (outcome-buffer a x) ∙ ap (λ (o : WrittenOutcome). o .buffer) same ∙ outcome-buffer b y)

@@ -1,4 +1,4 @@
--- Reading what was written gives the same record. Writing what was read gives a record that is read the same, and the same bytes where no field is the
+-- Reading what was written gives the same record. Writing what was read gives a record that is read the same, and the same bytes if no field is the
 -- bottom rail.
 use mathlib.Core.Path.{_≡_, refl, ap, sym, _∙_}
 use mathlib.Core.List.{List, _++_}
@@ -25,7 +25,7 @@ use Rattle.record.specs.ReaderLaws.{framed-record, length-readings-of}
 use Rattle.record.specs.Writing.{WrittenOutcome, outcomeOf, writable, writtenBy, writing}
 use Rattle.record.specs.WritingLaws.{Writable, allowed-writable, writable-allowed}
 
--- ---- bytes laid over others
+-- ---- bytes written over others
 module _ (place : ℕ) (x d : List ℕ) (h : place + length x ≤ length d) where
   first : length (take place d) ≡ place
   first = length-take-le place d (omega arith)
@@ -45,14 +45,14 @@ module _ (place : ℕ) (x d : List ℕ) (h : place + length x ≤ length d) wher
   length-laid : length (laidAt place x d) ≡ length d
   length-laid = simp (length-append, first, length-drop) (omega arith)
 
--- the bytes that stood there already
+-- the bytes that were already there
 laid-same : (place k : ℕ) (d : List ℕ) → place + k ≤ length d → laidAt place (take k (drop place d)) d ≡ d
 laid-same place k d h =
     let long : length (take k (drop place d)) ≡ k = length-take-le k (drop place d) (simp length-drop (omega arith)) in
     let rest : drop (place + k) d ≡ drop k (drop place d) = sym (drop-drop k place d) in
     rw (long, rest, take-append-drop k (drop place d)) (take-append-drop place d)
 
--- ---- where the writer does not refuse
+-- ---- if the writer does not refuse
 module _ (r m : ℕ) (l : List ℤ) (d : List ℕ) (place : ℕ) where
   abbrev new : List ℕ
   new = recordOf r m l
@@ -150,7 +150,7 @@ module _ (s : List ℕ) (c : Code) (e : headerOf s ≡ Record c) where
   pub accepted-long : k ≤ length s
   accepted-long = framed-record s c e .whole
 
-  -- and where no field is the bottom rail, the same bytes
+  -- and if no field is the bottom rail, the same bytes
   module _ (bytes : Below 256 s) (none : NoRail (nibbles (partOf c s))) where
     abbrev b : Begins s c l (drop k s)
     b = accepted-begins s c bytes e none

@@ -37,7 +37,7 @@ fn code_of(first: u8) -> Made
     Code::new(first % 16, first / 16)
 }
 
-// How many bytes a record has, by its first byte; 0 where that byte is refused.
+// How many bytes a record has, by its first byte; 0 if that byte is refused.
 pub fn record_length(first: u8) -> usize
     ensures { λ k. ⌜ k ≡ lengthBy (codeOf first) ⌝ }
 {
@@ -109,7 +109,7 @@ pub fn search_record(s: &[u8], allowed: u32, bits: &mut [u8], word: &mut [u8]) -
     }
 }
 
-// The same of a record whose frame is known: its code is sound, and it is whole.
+// The same for a record whose frame is known: its code is sound, and it is complete.
 pub fn search_framed(
     s: &[u8],
     code: Code,
@@ -129,7 +129,7 @@ pub fn search_framed(
     search::search_within(code.r, code.m, allowed, &readings[0..n], bits, word)
 }
 
-// The tests of the writer: 1, 2, 4, then 3, for a buffer of so many bytes. No sum here could wrap.
+// The tests of the writer: 1, 2, 4, then 3, for a buffer of this many bytes. No sum here wraps.
 pub fn writable(r: u32, m: u32, readings: &[i16], bytes: usize, place: usize) -> Admitted
     ensures { λ answer. ⌜ answer ≡ writable r m (now (readings .entry)) bytes place ⌝ }
 {

@@ -48,7 +48,7 @@ map-exactly m A b long = (
   λ g. both-good m A b (all-bits A (g .0 .table-bits)) (all-bits b (g .0 .row-bits)) ∙ can-undo m A b .1 (g .1),
 )
 
--- ---- where nothing is refused
+-- ---- if nothing is refused
 by-lengths : {B : Type 0} (lent : B) (rest : Outcome B) (m : ℕ) (inputs outputs : Bool) → m ≤ largestM
     → cond (not inputs) (refused lent InputLength) (cond (not outputs) (refused lent OutputLength) rest) .carry .number ≡ 0
     → AllRight m inputs outputs × (rest .carry .number ≡ 0)
@@ -128,7 +128,7 @@ module _ {B : Type 0} (lent : B) where
       (λ h. rw (lt-ltb place (length l) h))
       (λ h. rw (le-ltb place (length l) h) (refl, refl))
 
-  -- what is lent stays where anything is refused
+  -- what is lent stays unchanged if anything is refused
   Kept : Outcome B → Type 0
   Kept o = 0 < o .carry .number → o .lent ≡ lent
 
@@ -156,7 +156,7 @@ module _ {B : Type 0} (lent : B) where
   kept-entry : (place n : ℕ) (x : B) → Kept (entryTested lent place n (done x))
   kept-entry place n x = kept-either (ltb place n) (refused lent (Entry place)) (done x) (kept-refused (Entry place)) (kept-done x)
 
-  -- both, of a call
+  -- both, for a call
   met : (m : ℕ) (inputs outputs maps : Bool) (P Q R : Type 0) → (inputs ≡ true) ↔ P → (outputs ≡ true) ↔ Q → (m ≤ largestM → P → (maps ≡ true) ↔ R)
       → (rest : Outcome B) (checks : Checks) → Decides [] (reorderView rest) checks → Kept rest
       → ReorderDemand1 (mapChecks m P Q R checks) lent (sized lent m inputs outputs (mapTested lent maps rest))
@@ -174,7 +174,7 @@ module _ (m : ℕ) (A b : List ℕ) where
   good-exactly : m ≤ largestM → LongMap m A b → (isMap m A b ≡ true) ↔ Good m A b
   good-exactly h p = map-exactly m A b (record { small = h; table-long = p .0; row-long = p .1 })
 
-  -- of a map and n entries
+  -- for a map and n entries
   with-entries : (n : ℕ) → (isLong m (length A) (length b) && eqb n (2 ^ m) ≡ true) ↔ (LongMap m A b × (n ≡ 2 ^ m))
   with-entries n = both-exactly (isLong m (length A) (length b)) (eqb n (2 ^ m)) (LongMap m A b) (n ≡ 2 ^ m) (long-exactly m A b) (equal-exactly n (2 ^ m))
 
@@ -205,7 +205,7 @@ module _ (m : ℕ) (A b : List ℕ) where
       (long-exactly m A b) (long-exactly m C c) good-exactly (done (undoTable m A, undoRow m A b)) passed (refl, refl)
       (kept-done (C, c) (undoTable m A, undoRow m A b))
 
-  -- where it is done, the map is one, and its undo map is handed back
+  -- if it is done, the map is a map, and its undo map is handed back
   undo-given : (C c : List ℕ) → undoing m A b C c .carry .number ≡ 0
       → let o = undoing m A b C c in Undoes m A b (o .lent .0) (o .lent .1) × Undoes m (o .lent .0) (o .lent .1) A b
   unfolding undoing

@@ -15,7 +15,7 @@ use Rattle.search.specs.Outcome as Search
 use Rattle.search.specs.Demands.{SoundSearch}
 use Rattle.reorder.specs.Outcome.{Outcome, reordering, reorderingWord, undoing, multiplying}
 
--- whole bits, and some table and row, of any kind, undo the map
+-- only bits, and some table and row, of any kind, undo the map
 abbrev pub Good : ℕ → List ℕ → List ℕ → Type 0
 Good m A b = Maps.Map m A b × Undoable m A b
 
@@ -51,7 +51,7 @@ reorderView o =
     let c = o .carry in
     record { number = c .number; place = c .place; penalty = c .penalty; gap = 0; visits = c .visits; buffers = [] }
 
--- Demand 1: each number exactly if the first check that applies gives it, with what it carries; a refusal leaves what is lent as it was
+-- Demand 1: each number exactly if the first check that applies gives it, with what it carries; a refusal leaves what is lent unchanged
 pub record ReorderDemand1 {B : Type 0} (checks : Checks) (lent : B) (o : Outcome B) : Type 0 where
   pub numbers : Demand1 checks [] (reorderView o)
   pub kept : 0 < o .carry .number → o .lent ≡ lent
@@ -61,12 +61,12 @@ pub record ReorderDemands (m : ℕ) (A b : List ℕ) : Type 0 where
   pub by-reorder-word : (x out : List ℕ) → ReorderDemand1 (reorderWordChecks m A b x out) out (reorderingWord m A b x out)
   pub by-undo : (C c : List ℕ) → ReorderDemand1 (undoChecks m A b C c) (C, c) (undoing m A b C c)
   pub by-product : (C c D d : List ℕ) → ReorderDemand1 (productChecks m A b C c D d) (D, d) (multiplying m A b C c D d)
-  -- where nothing is refused, the undo map that is handed back undoes the map, from both sides
+  -- if nothing is refused, the undo map that is handed back undoes the map, applied before or after
   pub undone : (C c : List ℕ) → undoing m A b C c .carry .number ≡ 0
       → let o = undoing m A b C c in Undoes m A b (o .lent .0) (o .lent .1) × Undoes m (o .lent .0) (o .lent .1) A b
 
 -- ---- two calls
--- Reordering by (A, b) and then by (C, c) tells and leaves what reordering by the product does that `product_map` hands back: with buffers D and d of a map's
+-- Reordering by (A, b) and then by (C, c) reports and leaves what reordering by the product from `product_map` does: with buffers D and d of a map's
 -- lengths, and any buffer of 2^m readings for the one call.
 pub record OneThenAnother (m : ℕ) (A b C c : List ℕ) (l out out′ out″ : List ℤ) (D d : List ℕ) : Type 0 where
   pub product-done : multiplying m A b C c D d .carry .number ≡ 0
@@ -74,15 +74,15 @@ pub record OneThenAnother (m : ℕ) (A b C c : List ℕ) (l out out′ out″ : 
       reordering m (product .0) (product .1) l out″ ≡ reordering m C c (reordering m A b l out .lent) out′
 
 -- ---- two searches
--- two outcomes of the search: of one number, penalty and gap; where the best word is found, the second word is the first, reordered
+-- two outcomes of the search with the same number, penalty and gap; if the best word is found, the second word is the first, reordered
 pub record WordReordered (m : ℕ) (A b : List ℕ) (o o′ : Search.Outcome) : Type 0 where
   pub same-number : o′ .number ≡ o .number
   pub same-penalty : o′ .penalty ≡ o .penalty
   pub same-gap : o′ .gap ≡ o .gap
   pub word-reordered : o .number ≡ 0 → o′ .word ≡ reordered 0 m A b (o .word)
 
--- where `reorder` is done: its readings l′ are sound input of the search as the given ones are, and if neither search is refused as 6,
--- their outcomes go together
+-- if `reorder` is done: its readings l′ are sound input of the search, as the given ones are, and if neither search is refused as 6,
+-- their outcomes agree
 pub record SearchReordered (r m : ℕ) (A b : List ℕ) (l l′ : List ℤ) (bits word bits′ word′ : List ℕ) : Type 0 where
   pub sound : SoundSearch r m l bits word
   pub sound′ : SoundSearch r m l′ bits′ word′

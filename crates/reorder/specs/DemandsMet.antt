@@ -1,4 +1,4 @@
--- Two searches, of readings and of what `reorder` left of them, go together.
+-- Two searches, of readings and of what `reorder` made of them, agree.
 use mathlib.Core.Path.{_≡_, refl, ap, sym, _∙_}
 use mathlib.Core.Bool.{true, _&&_}
 use mathlib.Core.List.{List}
@@ -25,8 +25,8 @@ use Rattle.reorder.specs.OutcomeLaws.{both-true, sized-right, map-allowe
 use Rattle.reorder.specs.Demands.{Good, WordReordered, SearchReordered, Buffers}
 use Rattle.reorder.specs.Demand1Met.{map-exactly, sized-zero, map-zero, entry-zero}
 
--- ---- where `reorder` is done
--- what holds of its arguments, and what it leaves
+-- ---- if `reorder` is done
+-- what holds for its arguments, and what it leaves
 pub record ReorderDone (m : ℕ) (A b : List ℕ) (l out : List ℤ) : Type 0 where
   pub map-long : Mapped m A b
   pub good : Good m A b

@@ -4,7 +4,7 @@ use Rattle.code.specs.RefusalLaws.{completed-only}
 use Rattle.code.specs.declared.Completed.{Completed}
 use Rattle.reorder.specs.Outcome.{Outcome, outcomeOf}
 
--- whatever outcome is promised
+-- for any promised outcome
 pub reorder-only : {B : Type 0} (o : Outcome B) (a b : Completed) (x y : B) → outcomeOf a x ≡ o → outcomeOf b y ≡ o → (a ≡ b) × (x ≡ y)
 reorder-only {B} o a b x y e f =
     let same : outcomeOf a x ≡ outcomeOf b y = e ∙ sym f in

@@ -16,7 +16,7 @@ use Rattle.code.specs.declared.Completed.the-variants.{Done, Refused}
 
 -- B is what is lent to be written: one buffer, or two
 pub record Outcome (B : Type 0) : Type 0 where
-  -- all 0 where the call is done, else what the refusal carries
+  -- all 0 if the call is done, else what the refusal carries
   pub carry : Carried
   -- what is lent, as the call leaves it
   pub lent : B
@@ -37,7 +37,7 @@ refused lent why = outcomeOf (Refused why) lent
 abbrev pub isLong : ℕ → ℕ → ℕ → Bool
 isLong m table row = eqb table (m * m) && eqb row m
 
--- 1, 2 and 3 in their order, by whether the inputs' and the outputs' lengths are right; `rest` where no test applies
+-- 1, 2 and 3 in their order, by whether the inputs' and the outputs' lengths are right; `rest` if no test applies
 abbrev pub sized : {B : Type 0} → B → ℕ → Bool → Bool → Outcome B → Outcome B
 sized lent m inputs outputs rest =
     cond (ltb largestM m) (refused lent Parameters)
@@ -52,21 +52,21 @@ mapTested lent maps rest = cond (not maps) (refused lent Map) rest
 abbrev pub entryTested : {B : Type 0} → B → ℕ → ℕ → Outcome B → Outcome B
 entryTested lent place n rest = cond (ltb place n) (refused lent (Entry place)) rest
 
--- ---- the outcomes where all lengths are right
--- of m, a table, a row, readings, and the buffer for the reordered readings
+-- ---- the outcomes if all lengths are right
+-- from m, a table, a row, readings, and the buffer for the reordered readings
 abbrev pub reorderingLong : ℕ → List ℕ → List ℕ → List ℤ → List ℤ → Outcome (List ℤ)
 reorderingLong m A b l out =
     mapTested out (isMap m A b) (entryTested out (firstBadReading largestReading l) (length l) (done (reordered (pos 0) m A b l)))
 
--- of a word instead of readings
+-- with a word instead of readings
 abbrev pub reorderingWordLong : ℕ → List ℕ → List ℕ → List ℕ → List ℕ → Outcome (List ℕ)
 reorderingWordLong m A b x out = mapTested out (isMap m A b) (entryTested out (firstBadBit x) (length x) (done (reordered 0 m A b x)))
 
--- of m, a table, a row, and the buffers for the undo map's
+-- from m, a table, a row, and the buffers for those of the undo map
 abbrev pub undoingLong : ℕ → List ℕ → List ℕ → List ℕ → List ℕ → Outcome (List ℕ × List ℕ)
 undoingLong m A b C c = mapTested (C, c) (isMap m A b) (done (undoTable m A, undoRow m A b))
 
--- of m, the first map's table and row, the second's, and the buffers for the product's
+-- from m, the first map's table and row, the second's, and the buffers for the product's
 abbrev pub multiplyingLong : ℕ → List ℕ → List ℕ → List ℕ → List ℕ → List ℕ → List ℕ → Outcome (List ℕ × List ℕ)
 multiplyingLong m A b C c D d = mapTested (D, d) (isMap m A b && isMap m C c) (done (productTable m A C, productRow m A b c))
 

@@ -1,4 +1,4 @@
--- The outcome at each place where a call returns, and what holds where the tests on lengths find nothing.
+-- The outcome at each place where a call returns, and what holds if the tests on lengths find nothing.
 use mathlib.Core.Path.{_≡_, refl, ap, sym, _∙_}
 use mathlib.Core.Logic.{⊎-elim}
 use mathlib.Core.Bool.{Bool, true, false, not, cond, _&&_, and-true, and-false}
@@ -35,7 +35,7 @@ module _ {B : Type 0} (lent : B) (rest : Outcome B) where
   pub entry-allowed : (place first n : ℕ) → place ≡ first → n ≤ place → rest ≡ entryTested lent first n rest
   entry-allowed place first n e h = rw (← e, le-ltb place n h)
 
--- of two maps: the second is none, the first is none, and the first where the second is one
+-- for two maps: the second is not a map; the first is not; and the first, if the second is
 module _ (x y good : Bool) where
   pub second-not : good ≡ y → good ≡ false → good ≡ x && y
   second-not e f = rw (← e, f) (sym (and-false x))

@@ -1,4 +1,4 @@
--- Reordering by one call and then by another is reordering by their product, over what the calls tell and leave.
+-- Reordering by one call and then by another is reordering by their product, over what the calls report and leave.
 use mathlib.Core.Path.{_≡_, refl, ap, sym, _∙_}
 use mathlib.Core.Bool.{true, _&&_}
 use mathlib.Core.List.{List}
@@ -23,7 +23,7 @@ use Rattle.reorder.specs.DemandsMet.{ReorderDone, reorder-done}
 all-within : (l : List ℤ) → Within largestReading l → length l ≤ firstBadReading largestReading l
 all-within l h = let place = first-none (pos 0) natAbs largestReading l (length l) (λ j k. h j) refl in omega (arith, place)
 
--- where no test applies
+-- if no test applies
 reorder-does : (m : ℕ) (A b : List ℕ) (l out : List ℤ) → Mapped m A b → Good m A b → length l ≡ 2 ^ m → Within largestReading l → length out ≡ 2 ^ m
     → reordering m A b l out ≡ done (reordered (pos 0) m A b l)
 unfolding reordering

@@ -7,7 +7,7 @@ use Rattle.code.specs.Sound.{largestM}
 use Rattle.reorder.specs.declared.Sizes.{Sizes}
 use Rattle.reorder.specs.declared.Sizes.the-variants.{Right, Wrong}
 
--- the number of positions, 0 where m is too large
+-- the number of positions, 0 if m is too large
 abbrev pub lengthOf : ℕ → ℕ
 lengthOf m = cond (ltb largestM m) 0 (2 ^ m)
 

@@ -19,7 +19,7 @@ enum Sizes {
     Wrong(Refusal),
 }
 
-// Writes the readings in the map's order: position j reads position A·j + b.
+// Writes the readings in the map's order: position j gets the reading at A·j + b.
 pub fn reorder(m: u32, table: &[u8], row: &[u8], readings: &[i16], out: &mut [i16]) -> Completed
     ensures { λ answer. ⌜ outcomeOf answer (now (out .exit))
         ≡ reordering m (now (table .entry)) (now (row .entry)) (now (readings .entry))
@@ -84,7 +84,7 @@ pub fn product_map(
     }
 }
 
-// The number of positions, 0 where m is too large.
+// The number of positions, 0 if m is too large.
 fn length(m: u32) -> usize
     ensures { λ n. ⌜ n ≡ lengthOf m ⌝ }
 {
@@ -118,7 +118,7 @@ fn test_sizes(m: u32, inputs: bool, outputs: bool) -> Sizes
     Sizes::Right
 }
 
-// The tests 11 and 4, and the work, where all lengths are right.
+// The tests 11 and 4, and the work, if all lengths are right.
 fn reorder_long(m: usize, table: &[u8], row: &[u8], readings: &[i16], out: &mut [i16]) -> Completed
     requires { ⌜ Mapped m (now table) (now row)
         × (length (now readings) ≡ 2 ^ m) × (length (now out) ≡ 2 ^ m) ⌝ }

@@ -1,4 +1,4 @@
--- Laws of the program's state: what is next, a record that is taken, and the bytes behind which is read.
+-- Laws of the program's state: what is next, a record that is taken, and the bytes after which a read puts new ones.
 use mathlib.Core.Path.{_≡_, refl, ap, sym, _∙_, subst}
 use mathlib.Core.List.{List, _++_}
 use mathlib.Core.Logic.{_⊎_, inl, inr, ⊎-elim}
@@ -92,7 +92,7 @@ module _ (z : ℤ) (n : ℕ) (s : Situation) where
       came (pos zero) e h m = absurd (h refl)
       came (pos (suc k)) e h m = rw m
 
--- what was in front before a read behind it is there still
+-- what was in front of the bytes of a read is still there
 pub kept-front : (d m q : List ℕ) (at «end» : ℕ) → at ≤ «end» → «end» ≤ length d → m ≡ take («end» - at) (drop at d) ++ drop («end» - at) d
     → take («end» - at) (putMid («end» - at) (length m - («end» - at)) m q) ≡ take («end» - at) (drop at d)
 kept-front d m q at «end» h l e =
@@ -101,7 +101,7 @@ kept-front d m q at «end» h l e =
     let front : take k m ≡ take k (drop at d) = ap (take k) e ∙ take-at (take k (drop at d)) (drop k d) k long in
     rw (back-from k m q, front) (take-at (take k (drop at d)) q k long)
 
--- how many bytes there are behind them
+-- how many bytes there are after them
 pub length-behind : (k n : ℕ) (m q : List ℕ) → length m ≡ n → k ≤ n → length q ≡ length (midOf k (length m - k) m)
     → length (midOf k (length (putMid k (length m - k) m q) - k) (putMid k (length m - k) m q)) ≡ n - k
 length-behind k n m q e h l =

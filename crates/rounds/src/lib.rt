@@ -16,7 +16,7 @@ pub struct Situation {
     // the bytes that are read and not yet used are input[at..end]
     pub at: usize,
     pub end: usize,
-    // no byte behind these will be used
+    // no byte after these will be used
     pub ended: bool,
     // output[..text] waits to be written
     pub text: usize,
@@ -69,7 +69,7 @@ fn is_there(input: &[u8], s: Situation) -> bool
     record::record_length(input[at]) <= end - at
 }
 
-// Of an output of so many bytes.
+// For an output of this many bytes.
 pub fn next_round(input: &[u8], output: usize, s: Situation) -> Next
     requires { ⌜ (s .at ≤ s .«end») × (s .«end» ≤ length (now input)) × (s .text ≤ output) ⌝ }
     ensures { λ r. ⌜ r ≡ nextOf s (now (input .entry)) output ⌝ }
@@ -136,7 +136,7 @@ pub fn take_record(input: &[u8], output: &mut [u8], s: Situation) -> Situation
     count(s, step)
 }
 
-// Puts the total behind the lines that wait.
+// Puts the total after the lines that wait.
 pub fn finish(output: &mut [u8], s: Situation) -> Situation
     requires { ⌜ s .text + room ≤ length (now output) ⌝ }
     ensures { λ t. ⌜ Finished s (now (output .entry)) t (now (output .exit)) ⌝ }
@@ -164,7 +164,7 @@ pub fn move_to_front(buffer: &mut [u8], at: usize, end: usize)
     }
 }
 
-// After a read into fresh, the bytes behind the unread ones, returned got.
+// After a read into `fresh`, the bytes after the unread ones, returned `got`.
 pub fn after_read(got: isize, fresh: &[u8], s: Situation) -> Situation
     requires { ⌜ (s .at ≤ s .«end») × (s .«end» - s .at + length (now fresh) < 2 ^ 64) ⌝ }
     ensures { λ t. ⌜ t ≡ afterRead got (length (now (fresh .entry))) s ⌝ }
@@ -223,7 +223,7 @@ pub fn after_write(done: bool, s: Situation) -> Situation
     }
 }
 
-// What is said of an error on standard error: the text where one was reported, else nothing.
+// What is written to standard error: the text if an error was reported, else nothing.
 pub fn complaint(text: &[u8], s: Situation) -> &[u8]
     ensures { λ r. ⌜ now r ≡ complaintOf (now (text .entry)) s ⌝ }
 {

@@ -13,7 +13,7 @@ use Rattle.search.specs.declared.Searched.{Searched}
 use Rattle.search.specs.declared.WithRunnerUp.{WithRunnerUp}
 use Rattle.search.specs.Outcome.{Outcome, outcomeOf, byAnswer, searching}
 
--- the second full path held: none where fewer than two are
+-- the second full path held: none if fewer than two are held
 abbrev pub secondHeld : Held → List ℕ
 secondHeld none = []
 secondHeld (one a) = []
@@ -45,10 +45,10 @@ runnerUpOutcomeOf a bits word = record { outcome = outcomeOf (a .result) bits wo
 abbrev pub withNone : Searched → WithRunnerUp
 withNone a = record { result = a; «runner_up» = replicate 256 0 }
 
--- where tests 1 to 4 refuse nothing, over the words of any row of kinds: by the answer
+-- if tests 1 to 4 refuse nothing, over the words of any row of kinds: by the answer
 abbrev pub runnerUpOutcomeBy : ℕ → List ℕ → List ℤ → ℕ → List ℕ → List ℕ → RunnerUpOutcome
 runnerUpOutcomeBy m ks l allowed bits word = shownWith (runnerUp m ks l) (byAnswer allowed bits word (answer m ks l allowed))
 
--- of r, m, the allowance, the readings, and the buffers for the information bits and the word
+-- from r, m, the allowance, the readings, and the buffers for the information bits and the word
 abbrev pub searchingWithRunnerUp : ℕ → ℕ → ℕ → List ℤ → List ℕ → List ℕ → RunnerUpOutcome
 searchingWithRunnerUp r m allowed l bits word = shownWith (runnerUp m (kinds r m) l) (searching r m allowed l bits word)

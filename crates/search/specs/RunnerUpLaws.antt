@@ -30,7 +30,7 @@ use Rattle.search.specs.Work.{Pickable}
 pub none-shown : (x : List ℕ) (why : Refusal) (bits word : List ℕ) → shownWith x (refused why bits word) ≡ runnerUpOutcomeOf (withNone (Refused why)) bits word
 none-shown x why bits word = rw (ne-eqb (numberOf why) 0 (λ e. omega (arith, number-above why)))
 
--- where tests 1 to 4 refuse nothing: by the answer, over the words of any row of kinds
+-- if tests 1 to 4 refuse nothing: by the answer, over the words of any row of kinds
 module _ (m : ℕ) (ks : List ℕ) (l : List ℤ) (allowed : ℕ) (bits word : List ℕ) where
   pub runner-up-out : answer m ks l allowed ≡ outOfVisits
       → runnerUpOutcomeOf (withNone (Refused (OutOfVisits allowed))) bits word ≡ runnerUpOutcomeBy m ks l allowed bits word

@@ -31,7 +31,7 @@ use Rattle.search.specs.DemandsMet.{sound-answered}
 
 -- ---- over the words of any row of kinds
 module _ (m : ℕ) (ks : List ℕ) (l : List ℤ) (e : length l ≡ 2 ^ m) (f : length ks ≡ 2 ^ m) (kinds : Bits ks) (information : 1 ≤ sum ks) where
-  -- where the best word is found: the second full path is a row of the code with the next penalty
+  -- if the best word is found: the second full path is a row of the code with the next penalty
   shown-beside : (o : Outcome) → 0 < gap m ks l → o .penalty ≡ leastPenalty m ks l → o .gap ≡ gap m ks l → o .word ≡ bestWord m ks l
       → RunnerUpShown m ks l (record { outcome = o; runnerUp = runnerUp m ks l })
   unfolding runnerUp bestWord
@@ -67,7 +67,7 @@ module _ (m : ℕ) (ks : List ℕ) (l : List ℤ) (e : length l ≡ 2 ^ m) (f : 
       (lt-or-le 0 (gap m ks l)))
       (lt-or-le allowed (needed m ks l))
 
--- ---- whatever the search is given
+-- ---- for every input of the search
 module _ (r m allowed : ℕ) (l : List ℤ) (bits word : List ℕ) where
   -- nothing is found unless tests 1 to 4 refuse nothing
   found-sound : searching r m allowed l bits word .number ≡ 0 → SoundSearch r m l bits word

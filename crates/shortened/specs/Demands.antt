@@ -23,7 +23,7 @@ afterFirst why applies passed = check why applies passed
 afterFirst why applies (check first when rest) = check first when (check why applies rest)
 afterFirst why applies (checkAt first when rest) = checkAt first when (check why applies rest)
 
--- the row is no good one
+-- the row is not a good one
 abbrev pub withRow : ℕ → ℕ → List ℕ → Checks → Checks
 withRow r m named = afterFirst Named (GoodRow named (kinds r m) → ⊥)
 
@@ -50,7 +50,7 @@ abbrev pub QuickShortenedDemand1 : ℕ → ℕ → List ℕ → List ℤ → Lis
 QuickShortenedDemand1 r m named l bits word =
     Demand1 (quickShortenedChecks r m named l bits word) (bits ∷ word ∷ []) (quick.view (quickShortened r m named l bits word))
 
--- ---- what a quick reading that is done says: the row is a good one, the tests 2 to 4 find nothing, and what is left in the buffers is a word of the smaller
+-- ---- what a quick reading that is done shows: the row is good, the tests 2 to 4 find nothing, and what is left in the buffers is a word of the smaller
 -- set with its bits, which has the penalty that is reported
 abbrev pub ShortenedQuickDone : ℕ → ℕ → List ℕ → List ℤ → List ℕ → List ℕ → Type 0
 ShortenedQuickDone r m named l bits word =

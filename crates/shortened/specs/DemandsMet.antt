@@ -149,7 +149,7 @@ module _ (r m : ℕ) (named : List ℕ) where
               ]
         ]
 
--- ---- surely right: the set lies in RM(r,m), so that the sum is compared with the full code's distance
+-- ---- surely right: the set is inside RM(r,m), so that the sum is compared with the full code's distance
 pub left-inside : (r m : ℕ) (named : List ℕ) → Inside r m (leftOf named (rm r m))
 left-inside r m named = record { long = long-left named (rm r m); are-bits = are-left named (rm r m); frozen = left-frozen named (kinds r m) }
 

@@ -1,5 +1,5 @@
 -- What the calls on a shortened set report and leave, for every input (docs/RULES.md, §15): refused as 1 or 12 by the row's tests, else as the
--- plain calls do it, over the words of the kinds that are left.
+-- plain calls do, over the words of the kinds that are left.
 use mathlib.Core.List.{List}
 use Prim.Native.Nat.{ℕ, _^_}
 use lib.IntN.{ℤ}
@@ -18,7 +18,7 @@ use Rattle.quick.specs.Outcome as reader
 abbrev pub leftOf : List ℕ → Code → List ℕ
 leftOf named c = left named (kinds (c .r) (c .m))
 
--- ---- over the words of a row of kinds: information bits are as many as the indices that carry them
+-- ---- over the words of a row of kinds: there are as many information bits as indices that carry them
 abbrev pub encodingOver : List ℕ → Code → List ℕ → List ℕ → encoder.Outcome
 encodingOver ks c bits word = encoder.tested (c .r) (c .m) bits (sum ks) word (2 ^ c .m) (encoder.done (encoded (c .m) ks bits))
 
@@ -33,7 +33,7 @@ abbrev pub quickOver : List ℕ → Code → List ℤ → List ℕ → List ℕ 
 quickOver ks c l bits word =
     afterTest (admittedBy c (sum ks) l (length bits) (length word)) (λ why. reader.refused why bits word) (λ d. readingOver (d .m) ks l)
 
--- ---- the calls: of r, m, the row, the input, and the lent buffers
+-- ---- the calls: from r, m, the row, the input, and the lent buffers
 unfoldable pub encodingShortened : ℕ → ℕ → List ℕ → List ℕ → List ℕ → encoder.Outcome
 encodingShortened r m named bits word =
     afterTest (rowAdmitted r m named) (λ why. encoder.refused why word) (λ c. encodingOver (leftOf named c) c bits word)

@@ -53,12 +53,12 @@ pub good-allowed : (r m : ℕ) (named : List ℕ) → Sound (rm r m) → GoodRow
 good-allowed r m named s g = row-allowed r m named (rm r m) (made-good r m (s .m-small) (s .r-small)) (good-row named (kinds r m) (bits-kinds r m) g)
 
 -- ---- tests 2 to 4 of readings
-pub allowed-over : (c : Code) (due : ℕ) (l : List ℤ) (k n : ℕ) → Sound c → (d : Code) → Allowed d ≡ admittedBy c due l k n
-    → (d ≡ c) × SoundFor c due k n (GoodReadings c l)
-allowed-over c due l k n s d e =
+pub allowed-over : (c : Code) (expected : ℕ) (l : List ℤ) (k n : ℕ) → Sound c → (d : Code) → Allowed d ≡ admittedBy c expected l k n
+    → (d ≡ c) × SoundFor c expected k n (GoodReadings c l)
+allowed-over c expected l k n s d e =
     let good = made-good (c .r) (c .m) (s .m-small) (s .r-small) in
-    let a = allowed-sound-for (λ x. due) (c .r) (c .m) l k n d (e ∙ tested-made (λ x. due) (c .r) (c .m) l k n c good) in
-    (a .0, subst (λ (x : Code). SoundFor x due k n (GoodReadings x l)) (a .0) (a .1))
+    let a = allowed-sound-for (λ x. expected) (c .r) (c .m) l k n d (e ∙ tested-made (λ x. expected) (c .r) (c .m) l k n c good) in
+    (a .0, subst (λ (x : Code). SoundFor x expected k n (GoodReadings x l)) (a .0) (a .1))
 
 module _ (ks : List ℕ) (c : Code) (l : List ℤ) (bits word : List ℕ) where
   pub over-refused : (why : Refusal) → Refused why ≡ admittedBy c (sum ks) l (length bits) (length word)

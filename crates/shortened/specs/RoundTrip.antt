@@ -30,10 +30,10 @@ module _ (r m : ℕ) (named : List ℕ) where
   -- a call with another number than 1 and 12 has an allowed row
   row-let : (n : ℕ) → ((why : Refusal) → Refused why ≡ rowAdmitted r m named → numberOf why ≡ n) → (n ≡ 1 → ⊥) → (n ≡ 12 → ⊥)
       → Allowed (rm r m) ≡ rowAdmitted r m named
-  row-let n tells one twelve =
+  row-let n shows one twelve =
       elim (row-decided r m named) [
-        | bad-parameters b e ↦ absurd (one (sym (tells Parameters e)))
-        | bad-row s bad e ↦ absurd (twelve (sym (tells Named e)))
+        | bad-parameters b e ↦ absurd (one (sym (shows Parameters e)))
+        | bad-row s bad e ↦ absurd (twelve (sym (shows Named e)))
         | sound-row s g e ↦ e
       ]
 
@@ -81,7 +81,7 @@ module _ (r m : ℕ) (named : List ℕ) where
         no-bits-give r m (sum ks) ks (long-left named (rm r m)) (are-left named (rm r m)) refl word bits i
         (inverting-left r m named (rm r m) five-left word bits ∙ e)
 
-  -- and the other way: what no information bits give is refused so
+  -- and conversely: what no information bits give is refused as 5
   pub shortened-no-word-five : GoodRow named (kinds r m) → (word bits : List ℕ) → SoundFor (rm r m) (sum ks) (length bits) (length word) (Bits word)
       → (Word m ks word → ⊥) → (i : ℕ) × (invertingShortened r m named word bits ≡ encoder.refused (NotAWord i) bits)
   shortened-no-word-five g word bits p none =

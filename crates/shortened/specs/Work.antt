@@ -1,4 +1,4 @@
--- What the inner functions ask.
+-- What the inner functions require.
 use mathlib.Core.Path.{_≡_}
 use mathlib.Core.List.{List}
 use Prim.Native.Nat.{ℕ, _^_}

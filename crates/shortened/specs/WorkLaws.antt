@@ -1,4 +1,4 @@
--- What the steps of the work ask of each other, once a row k came back as the kinds that are left.
+-- What the steps of the work require of each other, once a row k came back as the kinds that are left.
 use mathlib.Core.Path.{_≡_, ap, ap₂, sym, _∙_}
 use mathlib.Core.List.{List}
 use Prim.Native.Nat.{ℕ, _-_, _^_, _≤_}

@@ -85,7 +85,7 @@ fn encode_left(code: Code, named: &[u8], bits: &[u8], word: &mut [u8]) -> Comple
     Completed::Done
 }
 
-// The kinds that are left go into a row of scratch, and by them the bits into the word.
+// The kinds that are left go into a row of scratch, and the bits into the word by these kinds.
 fn put_word(code: Code, named: &[u8], kinds: &mut [u8], bits: &[u8], word: &mut [u8])
     requires { ⌜ Workable code (now named) (now kinds) (length (now bits)) (length (now word))
         (Bits (now bits)) ⌝ }

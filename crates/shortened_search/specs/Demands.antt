@@ -24,7 +24,7 @@ abbrev pub ShortenedDemand1 : ℕ → ℕ → ℕ → List ℕ → List ℤ → 
 ShortenedDemand1 r m allowed named l bits word =
     Demand1 (searchShortenedChecks r m allowed named l bits word) (bits ∷ word ∷ []) (view (searchingShortened r m allowed named l bits word .outcome))
 
--- A larger allowance changes nothing that was answered or refused, but for 6, as with the plain search: numbers, buffers and runner-up stay
+-- A larger allowance changes no answer and no refusal except 6, as with the plain search: numbers, buffers and runner-up stay the same
 abbrev pub ShortenedLargerAllowance : ℕ → ℕ → List ℕ → List ℤ → List ℕ → List ℕ → Type 0
 ShortenedLargerAllowance r m named l bits word = (allowed more : ℕ) → allowed ≤ more
     → (searchingShortened r m allowed named l bits word .outcome .number ≡ 6 → ⊥)
@@ -34,7 +34,7 @@ ShortenedLargerAllowance r m named l bits word = (allowed more : ℕ) → allowe
 abbrev pub smallerSet : ℕ → ℕ → List ℕ → Searching
 smallerSet r m named =
     let ks = leftOf named (rm r m) in
-    record { code = rm r m; kinds = ks; due = sum ks; by = λ allowed l bits word. searchingShortened r m allowed named l bits word .outcome }
+    record { code = rm r m; kinds = ks; expected = sum ks; by = λ allowed l bits word. searchingShortened r m allowed named l bits word .outcome }
 
 abbrev pub ShortenedDemands : ℕ → ℕ → List ℕ → List ℤ → List ℕ → List ℕ → Type 0
 ShortenedDemands r m named = DemandsOf (smallerSet r m named)
@@ -46,8 +46,8 @@ pub record RunnerUpLeft (r m allowed : ℕ) (named : List ℕ) (l : List ℤ) (b
   pub refused : (searchingShortened r m allowed named l bits word .outcome .number ≡ 0 → ⊥)
       → searchingShortened r m allowed named l bits word .runnerUp ≡ replicate 256 0
 
--- a turned-over link: where the plain search of the readings finds a word of the smaller set, the search on the set gives the negated readings a penalty
--- that is larger by the plain search's gap at least, if it is not refused as 6
+-- a turned-over link: if the plain search of the readings finds a word of the smaller set, the search on the set gives the negated readings a penalty
+-- that is larger by at least the plain search's gap, if it is not refused as 6
 pub record DearerTurnedOver (r m : ℕ) (named : List ℕ) (l : List ℤ) (bits word bits′ word′ : List ℕ) : Type 0 where
   pub dearer : (allowed allowed′ : ℕ) → let o = searching r m allowed l bits word in
       let o′ = searchingShortened r m allowed′ named (map negℤ l) bits′ word′ .outcome in

@@ -49,7 +49,7 @@ module _ (r m allowed : ℕ) (named : List ℕ) (l : List ℤ) (bits word : List
   same-tests : Sound (rm r m) → admittedBy (rm r m) (sum ks) l (length bits) (length word) ≡ admittedFor (λ c. sum ks) r m l (length bits) (length word)
   same-tests s = tested-made (λ c. sum ks) r m l (length bits) (length word) (rm r m) (made-good r m (s .m-small) (s .r-small))
 
-  -- where tests 2 to 4 find nothing, by the answer
+  -- if tests 2 to 4 find nothing, by the answer
   over-sound : SoundFor (rm r m) (sum ks) (length bits) (length word) (GoodReadings (rm r m) l) → runnerUpOutcomeBy m ks l allowed bits word ≡ over
   over-sound a =
       over-answered ks (rm r m) allowed l bits word (rm r m)

@@ -1,5 +1,5 @@
 -- What the search on a shortened set reports and leaves, for every input (docs/RULES.md, §15): refused as 1 or 12 by the row's tests, else as the
--- plain search does it, over the words of the kinds that are left.
+-- plain search does, over the words of the kinds that are left.
 use mathlib.Core.List.{List}
 use Prim.Native.Nat.{ℕ}
 use lib.IntN.{ℤ}
@@ -17,13 +17,13 @@ use Rattle.shortened.specs.Outcome.{leftOf}
 abbrev pub refusedWithNone : Refusal → List ℕ → List ℕ → RunnerUpOutcome
 refusedWithNone why bits word = runnerUpOutcomeOf (withNone (Refused why)) bits word
 
--- over the words of a row of kinds: information bits are as many as the indices that carry them
+-- over the words of a row of kinds: there are as many information bits as indices that carry them
 abbrev pub searchingOver : List ℕ → Code → ℕ → List ℤ → List ℕ → List ℕ → RunnerUpOutcome
 searchingOver ks c allowed l bits word =
     afterTest (admittedBy c (sum ks) l (length bits) (length word)) (λ why. refusedWithNone why bits word)
     (λ d. runnerUpOutcomeBy (d .m) ks l allowed bits word)
 
--- of r, m, the allowance, the row, the readings, and the buffers for the information bits and the word
+-- from r, m, the allowance, the row, the readings, and the buffers for the information bits and the word
 unfoldable pub searchingShortened : ℕ → ℕ → ℕ → List ℕ → List ℤ → List ℕ → List ℕ → RunnerUpOutcome
 searchingShortened r m allowed named l bits word =
     afterTest (rowAdmitted r m named) (λ why. refusedWithNone why bits word) (λ c. searchingOver (leftOf named c) c allowed l bits word)

@@ -1,4 +1,4 @@
--- The outcome at each place where the search on a shortened set returns, and what its work asks.
+-- The outcome at each place where the search on a shortened set returns, and what its work requires.
 use mathlib.Core.Path.{_≡_}
 use mathlib.Core.List.{List}
 use Prim.Native.Nat.{ℕ}

@@ -1,4 +1,4 @@
--- The search on a set that does not have the all-ones word, since its row names the last index, tells a turned-over link by a larger penalty.
+-- The search on a set that does not have the all-ones word, since its row names the last index, shows a turned-over link by a larger penalty.
 use mathlib.Core.Path.{_≡_, refl, ap, sym, subst, _∙_}
 use mathlib.Core.List.{List, map}
 use mathlib.Core.Logic.{⊎-elim}

@@ -1,4 +1,4 @@
-// The search on a shortened set (docs/RULES.md, §15): with an allowance, and the short call.
+// The search on a shortened set (docs/RULES.md, §15): with an allowance and without.
 use code::Admitted;
 use code::Code;
 use search::WithRunnerUp;
@@ -13,7 +13,7 @@ ghost use Rattle.search.specs.RunnerUp.{runnerUpOutcomeOf, runnerUpOutcomeBy};
 ghost use Rattle.shortened.specs.Outcome.{leftOf};
 ghost use Rattle.shortened_search.specs.Outcome.{searchingOver, searchingShortened};
 
-// Writes the information bits and the word of least penalty in the smaller set, where no other
+// Writes the information bits and the word of least penalty in the smaller set, if no other
 // word of it has that penalty and the walk needs no more visits than allowed.
 pub fn search_within_shortened(
     r: u32,

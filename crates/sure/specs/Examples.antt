@@ -1,5 +1,5 @@
--- Examples, computed from the definitions, as one statement; and one real case, where the theorem speaks of all 65,536 words of RM(2,5)
--- what none of them was asked.
+-- Examples, computed from the definitions, as one statement; and one real case, where the theorem covers all 65,536 words of RM(2,5)
+-- without trying them one by one.
 use mathlib.Core.Path.{_≡_, refl}
 use mathlib.Core.List.{List, [], _∷_, map}
 use Prim.Native.Nat.{ℕ, _*_, _^_}
@@ -33,7 +33,7 @@ abbrev pub oneError : List ℤ
 oneError = negsuc 0 ∷ pos 1 ∷ pos 1 ∷ pos 1 ∷ []
 
 pub record Examples : Type 0 where
-  -- RM(1,3) with two readings against the word, one more than the textbook rule bears: with M = 9 the sum is 28, below 9 × 4 = 36
+  -- RM(1,3) with two readings against the word, one more than the textbook rule allows: with M = 9 the sum is 28, below 9 × 4 = 36
   pub noisy-errors : distance (map hard noisy) sent ≡ 2
   pub noisy-sum : doubt 9 noisy sent ≡ 28
   pub noisy-quick : quickWord 3 (kinds 1 3) noisy ≡ sent

@@ -23,7 +23,7 @@ unfolding largest
 largest-least M [] h = omega arith
 largest-least M (x ∷ l) h = omega (arith, h 0, largest-least M l (λ i. h (suc i)))
 
--- d is at most n, so that n × M outweighs M × d the more the larger M is
+-- d is at most n, so that the larger M is, the more n × M outweighs M × d
 smaller-will-do : (M N n d p s : ℕ) → N ≤ M → d ≤ n → 2 * p + n * M < s + M * d → 2 * p + n * N < s + N * d
 smaller-will-do M N n d p s h k c =
     let apart : (K : ℕ) → n * K ≡ K * d + (n - d) * K = λ K.
@@ -31,7 +31,7 @@ smaller-will-do M N n d p s h k c =
     ap (λ (x : ℕ). x * K) whole ∙ add-mul d (n - d) K ∙ ap (λ (x : ℕ). x + (n - d) * K) (mul-comm d K) in
     omega (arith, apart M, apart N, mul-le-mul-left (n - d) h)
 
--- and it is not 0, where nothing is below M × d
+-- and it is not 0, since nothing is below 0 × d
 not-zero : (N n d p s : ℕ) → s ≤ n * N → 2 * p + n * N < s + N * d → 1 ≤ N
 not-zero zero n d p s h c = absurd (omega arith)
 not-zero (suc N) n d p s h c = omega arith

@@ -1,5 +1,5 @@
 -- When the quick reading is surely right (docs/RULES.md, §4): the sum that shows it, the property, and all that follows from it.
--- A set of words is given by a row of kinds that lies in RM(r,m), as that of RM(r,m) itself does.
+-- A set of words is given by a row of kinds inside that of RM(r,m), such as that of RM(r,m) itself.
 use mathlib.Core.Path.{_≡_}
 use mathlib.Core.List.{List, [], _∷_, map}
 use Prim.Native.Nat.{ℕ, zero, suc, _+_, _-_, _*_, _^_, _≤_, _<_, max}
@@ -52,12 +52,12 @@ pub record SurelyRight (M r m : ℕ) (ks : List ℕ) (l : List ℤ) (c bits : Li
   -- the quick reading returns it
   pub quick-word : quickWord m ks l ≡ c
   pub quick-bits : quickBits m ks l ≡ bits
-  -- it is the best word, and where there is a second word the gap is above 0
+  -- it is the best word, and if there is a second word the gap is above 0
   pub best-word : bestWord m ks l ≡ c
   pub best-bits : bestBits m ks l ≡ bits
   pub least-penalty : leastPenalty m ks l ≡ penalty l c
   pub gap-above : 0 < sum ks → 0 < gap m ks l
-  -- the search with a whole tree's allowance answers it
+  -- the search answers with it if the whole tree is allowed
   pub answered : 0 < sum ks → (allowed : ℕ) → tree ks ≤ allowed
       → answer m ks l allowed ≡ found bits c (penalty l c) (gap m ks l) (needed m ks l)
 
@@ -67,7 +67,7 @@ pub record FewErrors (r m : ℕ) (l : List ℤ) (c : List ℕ) : Type 0 where
   pub size-one : (i : ℕ) → i < 2 ^ m → natAbs (getD l i (pos 0)) ≡ 1
   pub few : 2 * distance (map hard l) c < 2 ^ (m - r)
 
--- no larger sum will do: two words of the code have the sum M × 2^(m-r) itself, so the quick reading misses one of them, and the gap is 0
+-- the bound cannot be raised: two words of the code have the sum M × 2^(m-r) itself, so the quick reading misses one of them, and the gap is 0
 pub record AtTheBound (M r m : ℕ) (l : List ℤ) (x y : List ℕ) : Type 0 where
   pub within : Within M l
   pub long : length l ≡ 2 ^ m

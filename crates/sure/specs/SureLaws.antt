@@ -46,7 +46,7 @@ module _ (M r m : ℕ) (l : List ℤ) (h : r ≤ m) (x y : List ℕ) (v : Word m
       apart-penalty M l x y (s .long ∙ sym long-x) (s .long ∙ sym long-y) (s .within) (word-bits m (kinds r m) x e v) (word-bits m (kinds r m) y e w) in
       omega (arith, sure-clear M r m l x long-x s, apart, mul-le-mul-left M (distance-least r m x y h v w z))
 
-  -- so a word with no larger penalty is the same
+  -- so a word with no larger penalty is the same word
   no-other : penalty l y ≤ penalty l x → x ≡ y
   no-other k = elim (List-discrete ℕ-discrete x y) [ yes e ↦ e | no z ↦ absurd (omega (arith, k, others-more z)) ]
 
@@ -129,7 +129,7 @@ quick-sure M r m ks l h inside s =
     let right = surely-right M r m ks l (quickWord m ks l) h inside w s in
     subst (SurelyRight M r m ks l (quickWord m ks l)) (sym (right .quick-bits)) right
 
--- of RM(r,m) itself, which always has a second word
+-- for RM(r,m) itself, which always has a second word
 pub inside-code : (r m : ℕ) → Inside r m (kinds r m)
 inside-code r m = record { long = length-kinds r m; are-bits = bits-kinds r m; frozen = λ i z. z }
 

@@ -8,11 +8,11 @@ use Rattle.words.specs.Kinds.{Word}
 use Rattle.decoding.specs.Quick.{quickWord}
 use Rattle.sure.specs.Sure.{largest, doubt, Sure}
 
--- of a word x; never with M = 0, as nothing is below 0
+-- for a word x; never with M = 0, as nothing is below 0
 unfoldable pub isSure : ℕ → ℕ → List ℤ → List ℕ → Bool
 isSure r m l x = let M = largest l in ltb (doubt M l x) (M * 2 ^ (m - r))
 
--- of the quick reading's word, in the set of ks
+-- for the quick reading's word, in the set of ks
 abbrev pub passes : ℕ → ℕ → List ℕ → List ℤ → Bool
 passes r m ks l = isSure r m l (quickWord m ks l)
 

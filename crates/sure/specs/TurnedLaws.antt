@@ -1,4 +1,4 @@
--- Readings negated where a word c has 1: the sum of x + c is that of x, so a word has the property exactly if its sum with c has it then.
+-- Readings negated where a word c has 1: the sum of x + c is that of x, so a word has the property exactly if its sum with c has it for the negated readings.
 use mathlib.Core.Path.{_≡_, refl, ap₂, sym, _∙_}
 use mathlib.Core.List.{List, [], _∷_}
 use Prim.Native.Nat.{ℕ, zero, suc, _+_, _%_, _^_, _<_, max}

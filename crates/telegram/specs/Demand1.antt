@@ -34,7 +34,7 @@ pub record WriterMeets (t : Telegram) (word : List ℕ) (o : WriteOutcome) : Typ
   pub fifteen : (o .carry .number ≡ 15) ↔ (length word ≡ 32) × LevelToPort t
   pub sixteen : (o .carry .number ≡ 16) ↔ (length word ≡ 32) × TiltGood t × BeyondField t
   pub done : (o .carry .number ≡ 0) ↔ (length word ≡ 32) × Writable t
-  -- nothing but its number is carried, and the buffer is as it came
+  -- nothing but its number is carried, and the buffer is unchanged
   pub refused : 0 < o .carry .number → o ≡ record { carry = carrying (o .carry .number) 0 0 0; word = word }
   pub no-place : o .carry .number ≡ 0 → o .carry .place ≡ 0
 
@@ -56,14 +56,14 @@ pub record ReaderMeets (checks : Checks) (b : List ℕ) (o : ReadOutcome) : Type
   pub refused : 0 < o .carry .number → (o .telegram ≡ noTelegram) × (o .gap ≡ 0)
   pub no-place : o .carry .number ≡ 0 → o .carry .place ≡ 0
 
--- of readings: the checks of the search of RM(2,5), into buffers of the right lengths, and the bits that it finds
+-- for readings: the checks of the search of RM(2,5), into buffers of the right lengths, and the bits that it finds
 abbrev pub linkChecks : ℕ → List ℤ → Checks
 linkChecks allowed l = searchChecks 2 5 allowed l (replicate 16 0) (replicate 32 0)
 
 abbrev pub TelegramReadDemand1 : ℕ → List ℤ → Type 0
 TelegramReadDemand1 allowed l = ReaderMeets (linkChecks allowed l) (linkSearch allowed l .bits) (readingTelegram allowed l)
 
--- of information bits: their number and their entries
+-- for information bits: their number and their entries
 abbrev pub bitsChecks : List ℕ → Checks
 bitsChecks b = check InputLength (length b ≡ 16 → ⊥) (checkAt Entry (LowestBad 0 (λ x. x) 1 b) passed)
 

@@ -102,7 +102,7 @@ module _ (t : Telegram) (word : List ℕ) where
   written-is (beyond e g h) = tested (Bad Field) e (rw (tilt-good t g, field-beyond t h))
   written-is (good e w) = tested Good e (writer-good t w)
 
-  -- what each number says of the case
+  -- what each number says about the case
   three : (c : WriterCase t word) → writtenBy c .carry .number ≡ 3 → length word ≡ 32 → ⊥
   three (short e) n = e
   three (tilted e h) n = absurd (omega arith)
@@ -197,13 +197,13 @@ first-why such (checkAt why applies rest) f =
 
 -- what a reader reports, by what the checks before its tests report (v): nothing is refused, and its tests are made on the bits, with these numbers; or
 -- that refusal
-record Tells (v : View) (b : List ℕ) (penalty gap visits : ℕ) (o : ReadOutcome) : Type 0 where
+record Reports (v : View) (b : List ℕ) (penalty gap visits : ℕ) (o : ReadOutcome) : Type 0 where
   bit : v .number ≡ 0 → markerOf b < 2
   found : v .number ≡ 0 → o ≡ judged b penalty gap visits
   other : (v .number ≡ 0 → ⊥) → o ≡ record { carry = carrying (v .number) (v .place) (v .penalty) (v .visits); gap = v .gap; telegram = noTelegram }
 
 module _ (checks : Checks) (before : List (List ℕ)) (v : View) (checked : Demand1 checks before v) (b : List ℕ) (p g w : ℕ) (o : ReadOutcome)
-    (tells : Tells v b p g w o) where
+    (reports : Reports v b p g w o) where
   abbrev Case : Type 0
   Case = ReaderCase checks b
 
@@ -211,7 +211,7 @@ module _ (checks : Checks) (before : List (List ℕ)) (v : View) (checked : Dema
   found-case n =
       let none = checked .done .0 n in
       elim (ℕ-discrete (markerOf b) 0) [
-        | no m ↦ marked none (omega (arith, m, tells .bit n))
+        | no m ↦ marked none (omega (arith, m, reports .bit n))
         | yes m ↦ elim (tilt-case (telegramOf b)) [
           | high h ↦ inclined none m h
           | level h ↦ upright none m h
@@ -239,11 +239,11 @@ module _ (checks : Checks) (before : List (List ℕ)) (v : View) (checked : Dema
   link-number why f = ap (λ (v : View). v .number) (checked .refused why f)
 
   judged-as : (x : Tested) → NoneApplies checks → readerFault (markerOf b) (telegramOf b) ≡ x → o ≡ shownIf x (telegramOf b) p g w
-  judged-as x none e = tells .found (checked .done .1 none) ∙ ap (λ (x : Tested). shownIf x (telegramOf b) p g w) e
+  judged-as x none e = reports .found (checked .done .1 none) ∙ ap (λ (x : Tested). shownIf x (telegramOf b) p g w) e
 
   read-is : (c : Case) → o ≡ readBy c
   read-is (linked why f) =
-      tells .other (λ z. omega (arith, z, link-number why f, number-above why))
+      reports .other (λ z. omega (arith, z, link-number why f, number-above why))
       ∙ ap (λ (v : View). record { carry = carrying (v .number) (v .place) (v .penalty) (v .visits); gap = v .gap; telegram = noTelegram })
       (checked .refused why f)
   read-is (marked none m) = judged-as (Bad Marker) none (rw m)
@@ -251,7 +251,7 @@ module _ (checks : Checks) (before : List (List ℕ)) (v : View) (checked : Dema
   read-is (upright none m h) = judged-as (Bad ZeroTilt) none (rw (m, tilt-level (telegramOf b) (h .0) (h .1)))
   read-is (clear none m g) = judged-as Good none (rw (m, tilt-good (telegramOf b) g))
 
-  -- what each number says of the case
+  -- what each number says about the case
   below-thirteen : (c : Case) (n : ℕ) → 0 < n → n < 13 → readBy c .carry .number ≡ n → First (λ why. numberOf why ≡ n) checks
   below-thirteen (linked why f) n some few e = checked .number n some .0 (link-number why f ∙ e)
   below-thirteen (marked none m) n some few e = absurd (omega arith)
@@ -337,53 +337,53 @@ module _ (checks : Checks) (before : List (List ℕ)) (v : View) (checked : Dema
         no-place = λ n. ap (λ (o : ReadOutcome). o .carry .place) is ∙ is-clear c (same ∙ n) .1;
       }
 
--- ---- of readings, by the search
+-- ---- for readings, by the search
 module _ (allowed : ℕ) (l : List ℤ) where
-  abbrev searchTold : Search.Outcome
-  searchTold = linkSearch allowed l
+  abbrev searchReport : Search.Outcome
+  searchReport = linkSearch allowed l
 
   searched : SearchDemand1 2 5 allowed l (replicate 16 0) (replicate 32 0)
   searched = search-demand-1 2 5 allowed l (replicate 16 0) (replicate 32 0)
 
-  after-search : Tells (view searchTold) (searchTold .bits) (searchTold .penalty) (searchTold .gap) (searchTold .visits) (readingTelegram allowed l)
+  after-search : Reports (view searchReport) (searchReport .bits) (searchReport .penalty) (searchReport .gap) (searchReport .visits) (readingTelegram allowed l)
   after-search =
       record { bit = λ n. found-bits allowed l (found-all allowed l n) 15; found = reading-found allowed l; other = reading-other allowed l }
 
   pub telegram-read-demand-1 : TelegramReadDemand1 allowed l
   telegram-read-demand-1 = meets (linkChecks allowed l) _ _ searched _ _ _ _ _ after-search
 
-  pub unmarked : NoneApplies (linkChecks allowed l) → markerOf (searchTold .bits) ≡ 0
+  pub unmarked : NoneApplies (linkChecks allowed l) → markerOf (searchReport .bits) ≡ 0
       → let n = readingTelegram allowed l .carry .number in (n ≡ 0) ⊎ (n ≡ 14) ⊎ (n ≡ 15)
   unmarked = not-marked (linkChecks allowed l) _ _ searched _ _ _ _ _ after-search
 
--- ---- of information bits
+-- ---- for information bits
 module _ (b : List ℕ) where
-  -- what the two checks tell
-  abbrev bitsTold : View
-  bitsTold =
+  -- what the two checks show
+  abbrev bitsReport : View
+  bitsReport =
       cond (not (eqb (length b) 16)) (refusedAs InputLength [])
       (cond (ltb (firstBadBit b) (length b)) (refusedAs (Entry (firstBadBit b)) [])
       (record { number = 0; place = 0; penalty = 0; gap = 0; visits = 0; buffers = [] }))
 
-  bits-decide : Decides [] bitsTold (bitsChecks b)
+  bits-decide : Decides [] bitsReport (bitsChecks b)
   bits-decide =
       elim (ℕ-discrete (length b) 16) [
         | no n ↦ inl (n, rw (ne-eqb (length b) 16 n))
         | yes e ↦ inr (
           λ n. n e,
-          decides-entry 0 (λ x. x) 1 b [] bitsTold passed
+          decides-entry 0 (λ x. x) 1 b [] bitsReport passed
               (λ h. rw (eq-eqb (length b) 16 e, lt-ltb (firstBadBit b) (length b) h))
               (λ h. rw (eq-eqb (length b) 16 e, le-ltb (firstBadBit b) (length b) h) (refl, refl)),
         )
       ]
 
-  checked-bits : Demand1 (bitsChecks b) [] bitsTold
-  checked-bits = demand-1 [] bitsTold (bitsChecks b) bits-decide
+  checked-bits : Demand1 (bitsChecks b) [] bitsReport
+  checked-bits = demand-1 [] bitsReport (bitsChecks b) bits-decide
 
-  abbrev Bits-tell : View → Type 0
-  Bits-tell v = Tells v b 0 0 0 (readingBits b)
+  abbrev BitsReport : View → Type 0
+  BitsReport v = Reports v b 0 0 0 (readingBits b)
 
-  after-bits : Bits-tell bitsTold
+  after-bits : BitsReport bitsReport
   after-bits =
       elim (ℕ-discrete (length b) 16) [
         | no n ↦ rw (ne-eqb (length b) 16 n) (record {
@@ -403,4 +403,4 @@ module _ (b : List ℕ) where
       ]
 
   pub telegram-bits-demand-1 : TelegramBitsDemand1 b
-  telegram-bits-demand-1 = meets (bitsChecks b) [] bitsTold checked-bits b 0 0 0 (readingBits b) after-bits
+  telegram-bits-demand-1 = meets (bitsChecks b) [] bitsReport checked-bits b 0 0 0 (readingBits b) after-bits

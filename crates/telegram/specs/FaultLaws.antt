@@ -1,4 +1,4 @@
--- Laws of the faults: which telegrams have none, and that a fault is known by what it carries.
+-- Laws of the faults: which telegrams have none, and that a fault is determined by what it carries.
 use mathlib.Core.Path.{_≡_, refl, ap, sym, _∙_}
 use mathlib.Core.Bool.{_&&_}
 use mathlib.Core.Logic.{_⊎_, inl, inr, ⊎-elim}
@@ -99,7 +99,7 @@ module _ (t : Telegram) where
   own-reader marker = own-before (markerFault marker) (tiltFault t) (cond-by Own (eqb marker 0) Good (Bad Marker) (λ e. tt) (λ e. omega arith)) own-tilt
 
 -- ---- the telegrams that have no fault
--- 0 where the tests find nothing, else the fault's number
+-- 0 if the tests find nothing, else the fault's number
 abbrev testNumber : Tested → ℕ
 testNumber Good = 0
 testNumber (Bad why) = faultNumber why
@@ -109,7 +109,7 @@ good-before Good y e = (refl, e)
 good-before (Bad why) y e = absurd (omega (arith, ap testNumber e, fault-above why))
 
 module _ (t : Telegram) where
-  -- each test where it finds its fault
+  -- each test when it finds its fault
   pub tilt-high : largestTilt < t .tilt → tiltFault t ≡ Bad Tilt
   tilt-high h = rw (lt-ltb largestTilt (t .tilt) h)
 

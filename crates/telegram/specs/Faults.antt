@@ -56,7 +56,7 @@ pub record Writable (t : Telegram) : Type 0 where
   pub tilt-small : t .tilt ≤ largestTilt
   pub zero-level : t .tilt ≡ 0 → t .direction ≡ 0
 
--- ---- what a fault reports: what the search's refusal carries, else its number alone
+-- ---- what a fault reports: what the search's refusal carries, else only its number
 abbrev pub faultCarries : Fault → Carried
 faultCarries (Link why) = carried why
 faultCarries Marker = carrying 13 0 0 0

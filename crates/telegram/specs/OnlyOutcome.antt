@@ -18,7 +18,7 @@ same-heard (hear.Shown t p g v) (hear.Refused why) e = absurd (omega (arith, ap 
 same-heard (hear.Refused why) (hear.Shown t p g v) e = absurd (omega (arith, ap (λ (o : ReadOutcome). o .carry .number) e, fault-above why))
 same-heard (hear.Refused why) (hear.Refused why′) e = ap hear.Refused (fault-only why why′ (ap (λ (o : ReadOutcome). o .carry) e))
 
--- whatever outcome is promised
+-- for any promised outcome
 pub read-only : (o : ReadOutcome) (a b : Heard) → outcomeOf a ≡ o → outcomeOf b ≡ o → a ≡ b
 read-only o a b e f = same-heard a b (e ∙ sym f)
 
@@ -29,11 +29,11 @@ same-written write.Done (write.Refused why) x y e = absurd (omega (arith, ap (λ
 same-written (write.Refused why) write.Done x y e = absurd (omega (arith, ap (λ (o : WriteOutcome). o .carry .number) e, fault-above why))
 same-written (write.Refused why) (write.Refused why′) x y e = ap write.Refused (fault-only why why′ (ap (λ (o : WriteOutcome). o .carry) e))
 
-told-word : (a : Written) (x : List ℕ) → writtenOutcomeOf a x .word ≡ x
-told-word write.Done x = refl
-told-word (write.Refused why) x = refl
+outcome-word : (a : Written) (x : List ℕ) → writtenOutcomeOf a x .word ≡ x
+outcome-word write.Done x = refl
+outcome-word (write.Refused why) x = refl
 
 pub write-only : (o : WriteOutcome) (a b : Written) (x y : List ℕ) → writtenOutcomeOf a x ≡ o → writtenOutcomeOf b y ≡ o → (a ≡ b) × (x ≡ y)
 write-only o a b x y e f =
     let same : writtenOutcomeOf a x ≡ writtenOutcomeOf b y = e ∙ sym f in
-    (same-written a b x y same, sym (told-word a x) ∙ ap (λ (p : WriteOutcome). p .word) same ∙ told-word b y)
+    (same-written a b x y same, sym (outcome-word a x) ∙ ap (λ (p : WriteOutcome). p .word) same ∙ outcome-word b y)

@@ -23,7 +23,7 @@ use Rattle.telegram.specs.Faults.{writerFault, readerFault, faultCarries
 
 -- ---- the writer
 pub record WriteOutcome : Type 0 where
-  -- 0 where the word is written, else what the refusal carries
+  -- 0 if the word is written, else what the refusal carries
   pub carry : Carried
   -- the lent buffer as the call leaves it
   pub word : List ℕ
@@ -44,7 +44,7 @@ abbrev pub writtenIf : Tested → Telegram → List ℕ → WriteOutcome
 writtenIf Good t word = done (wordOf t)
 writtenIf (Bad why) t word = refused why word
 
--- of cylinder, direction, tilt, and the buffer for the word: 3, then the writer's tests
+-- from cylinder, direction, tilt, and the buffer for the word: 3, then the writer's tests
 unfoldable pub writingTelegram : ℕ → ℕ → ℕ → List ℕ → WriteOutcome
 writingTelegram cylinder direction tilt word =
     let t : Telegram = record { cylinder = cylinder; direction = direction; tilt = tilt } in
@@ -52,7 +52,7 @@ writingTelegram cylinder direction tilt word =
 
 -- ---- the reader
 pub record ReadOutcome : Type 0 where
-  -- number 0 where the telegram is shown, with the search's penalty and visits; else what the refusal carries
+  -- number 0 if the telegram is shown, with the search's penalty and visits; else what the refusal carries
   pub carry : Carried
   pub gap : ℕ
   -- all fields 0 under every refusal
@@ -76,7 +76,7 @@ abbrev pub shownIf : Tested → Telegram → ℕ → ℕ → ℕ → ReadOutcome
 shownIf Good t penalty gap visits = showing t penalty gap visits
 shownIf (Bad why) t penalty gap visits = faulted why
 
--- of the information bits that the search found, and their penalty, gap and visits: the reader's tests
+-- from the information bits that the search found, and their penalty, gap and visits: the reader's tests
 abbrev pub judged : List ℕ → ℕ → ℕ → ℕ → ReadOutcome
 judged b penalty gap visits = shownIf (readerFault (markerOf b) (telegramOf b)) (telegramOf b) penalty gap visits
 
@@ -91,11 +91,11 @@ heard o = cond (eqb (o .number) 0) (judged (o .bits) (o .penalty) (o .gap) (o .v
 abbrev pub linkSearch : ℕ → List ℤ → Search.Outcome
 linkSearch allowed l = Search.searching 2 5 allowed l (replicate 16 0) (replicate 32 0)
 
--- of the allowance and the readings
+-- from the allowance and the readings
 unfoldable pub readingTelegram : ℕ → List ℤ → ReadOutcome
 readingTelegram allowed l = heard (linkSearch allowed l)
 
--- ---- of information bits, without readings: 2, 4, then the reader's tests. No search is made, so penalty, gap and visits are 0
+-- ---- from information bits, without readings: 2, 4, then the reader's tests. No search is made, so penalty, gap and visits are 0
 unfoldable pub readingBits : List ℕ → ReadOutcome
 readingBits b =
     let place = firstBadBit b in

@@ -74,9 +74,9 @@ module _ (t : Telegram) (x : List ℕ) (cylinder : x ≡ digits 3 (t .cylinder))
       bits-put = rw (tilt, direction, cylinder)
 
 -- the encoder writes the telegram's word
-buffer-told : (a : Completed) (x : List ℕ) → Encode.outcomeOf a x .buffer ≡ x
-buffer-told encode.Done x = refl
-buffer-told (encode.Refused why) x = refl
+outcome-buffer : (a : Completed) (x : List ℕ) → Encode.outcomeOf a x .buffer ≡ x
+outcome-buffer encode.Done x = refl
+outcome-buffer (encode.Refused why) x = refl
 
 pub word-written : (t : Telegram) (word : List ℕ) → length word ≡ 32 → (a : Completed) (x : List ℕ)
     → Encode.outcomeOf a x ≡ Encode.encoding 2 5 (telegramBits t) word → x ≡ wordOf t
@@ -89,7 +89,7 @@ word-written t word e a x is =
       long-word = e;
       entries = bits-bits 0 t (omega arith);
     }) in
-    sym (buffer-told a x) ∙ ap (λ (o : Encode.Outcome). o .buffer) (is ∙ done)
+    sym (outcome-buffer a x) ∙ ap (λ (o : Encode.Outcome). o .buffer) (is ∙ done)
 
 module _ (cylinder direction tilt : ℕ) (word : List ℕ) where
   abbrev pub given : Telegram
@@ -202,7 +202,7 @@ module _ (allowed : ℕ) (l : List ℤ) where
   pub found-bits : FoundBest allowed l → Bits (linkSearch allowed l .bits)
   found-bits f = f .best .information .1
 
-  -- so in the reader, with what the search's answer is
+  -- so in the reader, for the search's answer
   module _ (p g v : ℕ) (b w : List ℕ) (e : Search.foundWith p g v b w ≡ linkSearch allowed l) where
     pub judged-bits : Bits b × (length b ≡ 16)
     judged-bits =

@@ -1,4 +1,4 @@
--- What is proved of telegrams, sentence by sentence, over the definitions that the contracts cite. That it holds is proved in TheoremsMet.
+-- What is proved about telegrams, sentence by sentence, over the definitions that the contracts cite. That it holds is proved in TheoremsMet.
 use mathlib.Core.Path.{_≡_}
 use mathlib.Core.Logic.{_⊎_, _↔_}
 use mathlib.Core.List.{List, map}
@@ -32,10 +32,10 @@ pub record WriteTheorems : Type 0 where
   -- The writer accepts these telegrams and no others.
   pub accepts : (t : Telegram) (word : List ℕ) → length word ≡ 32
       → (writingTelegram (t .cylinder) (t .direction) (t .tilt) word ≡ done (wordOf t)) ↔ Writable t
-  -- No two telegrams have one word.
+  -- No two telegrams have the same word.
   pub one-word : (t t′ : Telegram) → Writable t → Writable t′ → wordOf t ≡ wordOf t′ → t ≡ t′
 
--- A larger allowance changes nothing that was shown or refused, but for 6: every number and every field stay.
+-- A larger allowance changes no telegram and no refusal except 6: every number and every field stay the same.
 abbrev pub TelegramLargerAllowance : List ℤ → Type 0
 TelegramLargerAllowance l = (allowed more : ℕ) → allowed ≤ more
     → (readingTelegram allowed l .carry .number ≡ 6 → ⊥) → readingTelegram more l ≡ readingTelegram allowed l
@@ -57,7 +57,7 @@ pub record TurnedTheorems (l : List ℤ) : Type 0 where
   pub marked : (allowed : ℕ) → needed 5 (kinds 2 5) (turned l) ≤ allowed → readingTelegram allowed (turned l) ≡ faulted Marker
   -- else with 6.
   pub out : (allowed : ℕ) → allowed < needed 5 (kinds 2 5) (turned l) → readingTelegram allowed (turned l) ≡ faulted (Link (OutOfVisits allowed))
-  -- The negated walk needs exactly as many visits, so under one allowance it is 13 exactly where the upright one was read.
+  -- The walk on the negated readings needs exactly as many visits, so under the same allowance they are refused as 13 exactly if the upright ones are read.
   pub same-visits : needed 5 (kinds 2 5) (turned l) ≡ needed 5 (kinds 2 5) l
   pub exactly : (allowed : ℕ) → (readingTelegram allowed (turned l) .carry .number ≡ 13) ↔ (readingTelegram allowed l .carry .number ≡ 0)
 
@@ -67,18 +67,18 @@ NeverShown =
     (t : Telegram) → Writable t → (l : List ℤ) (allowed allowed′ : ℕ) → Finds allowed l t
     → (let o = readingTelegram allowed′ (turned l) in (0 < o .carry .number) × (o .telegram ≡ noTelegram))
 
--- Of all readings, whatever their search finds, and the same readings negated:
+-- For all readings, whatever their search finds, and the same readings negated:
 pub record TurnedOver (l : List ℤ) : Type 0 where
-  -- no two readers show a telegram both ways, whatever they allow.
+  -- no readings show a telegram on both polarities, whatever the two readers allow.
   pub never-both : (allowed allowed′ : ℕ) → readingTelegram allowed l .carry .number ≡ 0 → readingTelegram allowed′ (turned l) .carry .number ≡ 0 → ⊥
-  -- Under one allowance the negated ones are refused by their marker exactly if the upright ones pass that test: they are read, or refused as 14 or 15.
+  -- Under the same allowance the negated ones are refused by their marker exactly if the upright ones pass that test: they are read, or refused as 14 or 15.
   pub marked-exactly : (allowed : ℕ) → let n = readingTelegram allowed l .carry .number in
       (readingTelegram allowed (turned l) .carry .number ≡ 13) ↔ ((n ≡ 0) ⊎ (n ≡ 14) ⊎ (n ≡ 15))
   -- And the upright ones exactly if the negated ones do.
   pub upright-exactly : (allowed : ℕ) → let n = readingTelegram allowed (turned l) .carry .number in
       (readingTelegram allowed l .carry .number ≡ 13) ↔ ((n ≡ 0) ⊎ (n ≡ 14) ⊎ (n ≡ 15))
 
--- what bits say, with a search's penalty, gap and visits beside it where they say a telegram
+-- what bits say, with a search's penalty, gap and visits added if they give a telegram
 abbrev pub withNumbers : ℕ → ℕ → ℕ → ReadOutcome → ReadOutcome
 withNumbers penalty gap visits o = cond (eqb (o .carry .number) 0) (showing (o .telegram) penalty gap visits) o
 
@@ -86,9 +86,9 @@ abbrev pub saidAfter : Search.Outcome → ReadOutcome
 saidAfter o = cond (eqb (o .number) 0) (withNumbers (o .penalty) (o .gap) (o .visits) (readingBits (o .bits))) (passedOn o)
 
 pub record BitsTheorems : Type 0 where
-  -- The bits of a telegram that the writer accepts say that telegram,
+  -- The bits of a telegram that the writer accepts give that telegram,
   pub written-said : (t : Telegram) → Writable t → readingBits (telegramBits t) ≡ showing t 0 0 0
-  -- and no others say one.
+  -- and no other bits give one.
   pub said-written : (b : List ℕ) → readingBits b .carry .number ≡ 0 → Writable (readingBits b .telegram) × (b ≡ telegramBits (readingBits b .telegram))
   -- The reader of readings is the reader of the bits that its search finds.
   pub after-search : (allowed : ℕ) (l : List ℤ) → readingTelegram allowed l ≡ saidAfter (linkSearch allowed l)

@@ -1,4 +1,4 @@
--- The theorems on telegrams are met: by what the encoder and the search promise, and by the demands.
+-- The theorems on telegrams hold: by what the encoder and the search promise, and by the demands.
 use mathlib.Core.Path.{_≡_, refl, ap, ap₂, sym, subst, _∙_}
 use mathlib.Core.Logic.{_⊎_, inl, inr, ⊎-elim, _↔_}
 use mathlib.Core.List.{List, [], _∷_, _++_}
@@ -62,7 +62,7 @@ bits-only b b′ i i′ e =
 information : (t : Telegram) → InformationBits (kinds 2 5) (telegramBits t)
 information t = (length-bits 0 t ∙ sym sum-25, bits-bits 0 t (omega arith))
 
--- the all-ones word has the marker alone
+-- the all-ones word has only the marker
 abbrev markerAlone : List ℕ
 markerAlone = replicate 15 0 ++ 1 ∷ []
 
@@ -100,7 +100,7 @@ judged-turned : (t : Telegram) (p g v : ℕ) → judged (xors (telegramBits t) m
 unfolding digits
 judged-turned t p g v = refl
 
--- the search of the negated readings finds a word where the upright one does: it has the marker added
+-- the search of the negated readings finds a word if the upright one does: it has the marker added
 turned-found : (allowed : ℕ) (l : List ℤ) → linkSearch allowed l .number ≡ 0
     → (linkSearch allowed (turned l) .number ≡ 0) × (linkSearch allowed (turned l) .bits ≡ xors (linkSearch allowed l .bits) markerAlone)
 unfolding ones-word
@@ -256,7 +256,7 @@ reader-after-search allowed l =
       | no n ↦ reading-other allowed l n ∙ rw (ne-eqb (o .number) 0 n)
     ]
 
--- bits that say a telegram passed all tests
+-- bits that give a telegram passed all tests
 module _ (b : List ℕ) (z : readingBits b .carry .number ≡ 0) where
   all-passed : (length b ≡ 16) × Bits b
   all-passed =

@@ -1,5 +1,5 @@
 // The tilt telegram (docs/RULES.md, §11): a cylinder, a direction and a tilt in one word of
-// RM(2,5), over the encoder and the search, of which no more is known here than they promise.
+// RM(2,5), over the encoder and the search, of which only what they promise is known here.
 use code::Refusal;
 use code::Shown;
 use search::Searched;
@@ -30,7 +30,7 @@ impl Telegram {
 
     pub const LENGTH: usize = 32;
 
-    // of information bits
+    // the number of information bits
     pub const BITS: usize = 16;
 }
 
@@ -98,7 +98,7 @@ pub fn read_within(allowed: u32, readings: &[i16]) -> Heard
     let mut found = [0u8; 16];
     let mut word = [0u8; 32];
     let answer = search::search_within(2, 5, allowed, readings, &mut found, &mut word);
-    // of its runner-up nothing is shown
+    // nothing of its runner-up is shown
     let result = answer.result;
     match result {
         Searched::Refused(why) => Heard::Refused(Fault::Link(why)),
@@ -118,7 +118,7 @@ pub fn read(readings: &[i16]) -> Heard
     read_within(code::Code::DEFAULT_ALLOWANCE, readings)
 }
 
-// What 16 information bits say, those of a runner-up for one: the reader without its search.
+// What 16 information bits say, for example those of a runner-up: the reader without its search.
 pub fn of_bits(bits: &[u8]) -> Heard
     ensures { λ answer. ⌜ outcomeOf answer ≡ readingBits (now (bits .entry)) ⌝ }
 {
@@ -243,7 +243,7 @@ fn telegram_of(bits: &[u8]) -> Telegram
     }
 }
 
-// Shows the telegram of the bits that the search found, where no fault forbids it.
+// Shows the telegram of the bits that the search found, unless a fault forbids it.
 fn judge(bits: &[u8], penalty: u32, gap: u32, visits: u32) -> Heard
     requires { ⌜ Bits (now bits) × (length (now bits) ≡ 16) ⌝ }
     ensures { λ answer. ⌜ outcomeOf answer ≡ judged (now (bits .entry)) penalty gap visits ⌝ }
@@ -261,7 +261,7 @@ fn judge(bits: &[u8], penalty: u32, gap: u32, visits: u32) -> Heard
 }
 
 impl Fault {
-    // What the fault reports: what the search's refusal does, else its number alone.
+    // What the fault reports: what the search's refusal does, else only its number.
     pub fn shown(self) -> Shown
         ensures { λ s. ⌜ (s .number ≡ faultCarries self .number)
             × (s .place ≡ faultCarries self .place)

@@ -1,4 +1,4 @@
--- Laws of frozen indices taken at once: what the call that takes them gives, what it is asked, and where the frozen step stands after it.
+-- Laws of frozen indices taken at once: what the call that takes them gives, what it is asked, and where the frozen step is after it.
 use mathlib.Core.Path.{_≡_, refl, ap, sym, _∙_, subst}
 use mathlib.Core.Bool.{true, false}
 use mathlib.Core.List.{List, _++_, append-assoc}
@@ -20,12 +20,12 @@ use Rattle.decoding.specs.Walk.{addedBy}
 use Rattle.decoding.specs.Blocks.{zeros, blockRow, Starts}
 use Rattle.decoding.specs.BlockLaws.{starts, length-block}
 use Rattle.rows.specs.Rows.{rowOf}
-use Rattle.memory.specs.Memory.{Stands}
+use Rattle.memory.specs.Memory.{RowsFor}
 use Rattle.memory.specs.RowLaws.{start-le, row-block, row-sizes}
-use Rattle.memory.specs.StandsLaws.{stands-path}
+use Rattle.memory.specs.RowsForLaws.{rows-for-path}
 use Rattle.blocks.specs.Frozen.{frozenRun, runAdds}
 use Rattle.blocks.specs.FrozenLaws.{run-sizes, run-frozen, run-added, adds-size}
-use Rattle.walk.specs.Progress.{Progress, seen, front, more, standing, visiting, drops, Visited, Kept, Ready, Onward, StepGiven, Reached, ValueGiven}
+use Rattle.walk.specs.Progress.{Progress, seen, front, more, madeFor, visiting, drops, Visited, Kept, Ready, Onward, StepGiven, Reached, ValueGiven}
 use Rattle.walk.specs.Progress.{allowsMore, countedMore}
 use Rattle.walk.specs.ProgressLaws.{shows-visits}
 use Rattle.walk.specs.StepLaws.{true-false, was-more, sum-small}
@@ -64,7 +64,7 @@ module _ (n q : ℕ) (σ : List ℕ) where
 -- ---- what the call gives, as its code goes: n is the run's length, and a what its zeros add
 module _ (k₀ : List ℕ) (s : List ℤ) (y σ : List ℕ) (i p : ℕ) where
   left-alone : takenAt k₀ s σ i p ≡ false → ZerosGiven k₀ s y σ i p 0 y σ
-  left-alone e = record { tells = rw e refl; path = rw e refl; counts = rw e refl }
+  left-alone e = record { answers = rw e refl; path = rw e refl; counts = rw e refl }
 
   pub given-short : getD σ 6 0 < 5 → ZerosGiven k₀ s y σ i p 0 y σ
   given-short h = left-alone (takes-none (runAt k₀ σ i) (runPenalty s (runAt k₀ σ i) p) σ (run-short k₀ σ i h))
@@ -97,14 +97,14 @@ module _ (k₀ : List ℕ) (s : List ℤ) (y σ : List ℕ) (i p : ℕ) where
             → ZerosGiven k₀ s y σ i p ((p + a) * 256 + n) y′ σ′
         given-taken e put counts =
             record {
-              tells = rw (taken-by, e, same-penalty, same-run) refl;
+              answers = rw (taken-by, e, same-penalty, same-run) refl;
               path = rw (taken-by, e) put;
               counts = rw (taken-by, e, same-run) counts;
             }
 
--- ---- at the start of a block of 16 in a code of more positions, where all rows of sums stand for its first index
+-- ---- at the start of a block of 16 in a code of more positions, where all rows of sums are made for its first index
 module _ (m : ℕ) (l : List ℤ) (y : List ℕ) (i : ℕ) (s : List ℤ) (more-than-16 : 5 ≤ m) (at : i % 16 ≡ 0) (inside : i < 2 ^ m)
-    (long : length l ≡ 2 ^ m) (path : i ≤ length y) (rows : Stands m l y i i s) where
+    (long : length l ≡ 2 ^ m) (path : i ≤ length y) (rows : RowsFor m l y i i s) where
   here : length (take i y) ≡ i
   here = length-take-le i y path
 
@@ -120,7 +120,7 @@ module _ (m : ℕ) (l : List ℤ) (y : List ℕ) (i : ℕ) (s : List ℤ) (more-
       omega (arith, here, begins .at)
 
   block-is : rowOf 16 s ≡ blockRow m (m - 4) l (take i y)
-  block-is = rows .stands 4 (omega arith) (start-le 4 i) ∙ row-block m i y l (m - 4) (omega arith) inside path
+  block-is = rows .rows 4 (omega arith) (start-le 4 i) ∙ row-block m i y l (m - 4) (omega arith) inside path
 
   block-long : 16 + 16 ≤ length s
   block-long =
@@ -129,14 +129,14 @@ module _ (m : ℕ) (l : List ℤ) (y : List ℕ) (i : ℕ) (s : List ℤ) (more-
       omega (arith, row, length-take 16 (drop 16 s), length-drop 16 s)
 
   block-small : sizes (rowOf 16 s) ≤ sizes l
-  block-small = rw (rows .stands 4 (omega arith) (start-le 4 i)) (row-sizes m l i y (m - 4))
+  block-small = rw (rows .rows 4 (omega arith) (start-le 4 i)) (row-sizes m l i y (m - 4))
 
   block-adds : (n p : ℕ) → (n ≡ 15) ⊎ (n ≡ 16) → runPenalty s n p ≡ p + addedBy m l (take i y) (zeros n)
   block-adds n p h = ap (λ (r : List ℤ). p + runAdds n r) block-is ∙ ap (λ (k : ℕ). p + k) (sym (run-added m (m - 4) l (take i y) begins long n h))
 
--- rows that stand for an index stand for it however the path goes on
-stands-on : {m : ℕ} {l : List ℤ} {y z : List ℕ} {i : ℕ} {s : List ℤ} (b : ℕ) → take i y ≡ take i z → Stands m l y i i s → Stands m l z i b s
-stands-on {m} {l} {y} {z} {i} {s} b e f = record { stands = λ t k h. stands-path m l i i s y z e f .stands t k (start-le t i) }
+-- rows made for an index are its rows however the path goes on
+rows-for-on : {m : ℕ} {l : List ℤ} {y z : List ℕ} {i : ℕ} {s : List ℤ} (b : ℕ) → take i y ≡ take i z → RowsFor m l y i i s → RowsFor m l z i b s
+rows-for-on {m} {l} {y} {z} {i} {s} b e f = record { rows = λ t k h. rows-for-path m l i i s y z e f .rows t k (start-le t i) }
 
 -- ---- the path with k zeros put at i
 module _ (y : List ℕ) (i n k : ℕ) (few : n ≤ k) (room : i + k ≤ length y) where
@@ -180,10 +180,10 @@ module _ {l₀ : List ℤ} {k₀ : List ℕ} {s : List ℤ} {y best second σ y�
   ready = r .asked .ready
 
   counts : seen σ₁ ≡ more (seen σ)
-  counts = was-more (seen σ) (v .shows .is) (sym (v .tells))
+  counts = was-more (seen σ) (v .shows .is) (sym (v .answers))
 
-  shows : seen σ₂ ≡ standing i (more (seen σ))
-  shows = given .shows .is ∙ ap (standing i) counts
+  shows : seen σ₂ ≡ madeFor i (more (seen σ))
+  shows = given .shows .is ∙ ap (madeFor i) counts
 
   same-m : getD σ₂ 6 0 ≡ getD σ 6 0
   same-m = ap (λ (k : Progress). k .m) shows
@@ -194,8 +194,8 @@ module _ {l₀ : List ℤ} {k₀ : List ℕ} {s : List ℤ} {y best second σ y�
   same-allowed : getD σ₂ 7 0 ≡ getD σ 7 0
   same-allowed = ap (λ (k : Progress). k .allowed) shows
 
-  rows : Stands (getD σ 6 0) (front σ l₀) y i i s₂
-  rows = subst (λ (k : Progress). Stands (k .m) (take (2 ^ k .m) l₀) y i i s₂) counts (given .rows)
+  rows : RowsFor (getD σ 6 0) (front σ l₀) y i i s₂
+  rows = subst (λ (k : Progress). RowsFor (k .m) (take (2 ^ k .m) l₀) y i i s₂) counts (given .rows)
 
   in-path : i ≤ length y
   in-path = omega (arith, ready .room, ready .kept .long-path)
@@ -233,14 +233,14 @@ module _ {l₀ : List ℤ} {k₀ : List ℕ} {s : List ℤ} {y best second σ y�
     pub zeros-left : t ≡ 0 → (y′ ≡ y) × (σ′ ≡ σ₂)
     zeros-left e =
         cond-by (λ (u : Unit {0}). (y′ ≡ y) × (σ′ ≡ σ₂)) (takenAt k₀ s₂ σ₂ i p) tt tt
-        (λ b. let all : t ≡ q * 256 + n = z .tells ∙ rw b refl in absurd (took-some n q σ₂ b (omega arith)))
+        (λ b. let all : t ≡ q * 256 + n = z .answers ∙ rw b refl in absurd (took-some n q σ₂ b (omega arith)))
         (λ b. (z .path ∙ rw b refl, z .counts ∙ rw b refl))
 
     -- n are taken
     module _ (some : t ≡ 0 → ⊥) where
       took : takes n q σ₂ ≡ true
       took =
-          cond-by (λ (u : Unit {0}). takes n q σ₂ ≡ true) (takes n q σ₂) tt tt (λ b. b) (λ b. absurd (some (z .tells ∙ rw b refl)))
+          cond-by (λ (u : Unit {0}). takes n q σ₂ ≡ true) (takes n q σ₂) tt tt (λ b. b) (λ b. absurd (some (z .answers ∙ rw b refl)))
 
       more-than-16 : 5 ≤ getD σ 6 0
       more-than-16 =
@@ -256,8 +256,8 @@ module _ {l₀ : List ℤ} {k₀ : List ℕ} {s : List ℤ} {y best second σ y�
       few : n ≤ 16
       few = ⊎-elim (λ (e : n ≡ 15). omega arith) (λ (e : n ≡ 16). omega arith) size
 
-      tells : t ≡ q * 256 + n
-      tells = z .tells ∙ rw took refl
+      answers : t ≡ q * 256 + n
+      answers = z .answers ∙ rw took refl
 
       counted : σ′ ≡ countedMore (n - 1) σ₂
       counted = z .counts ∙ rw took refl
@@ -296,7 +296,7 @@ module _ {l₀ : List ℤ} {k₀ : List ℕ} {s : List ℤ} {y best second σ y�
             bits = subst Bits (sym put) (zeros-bits y i 16 (k .bits));
             both = k .both;
             sorted = k .sorted;
-            rows = stands-on (i + n - 1) begin rows;
+            rows = rows-for-on (i + n - 1) begin rows;
           }
 
       ends-n : i + n ≤ 2 ^ getD σ 6 0
@@ -328,12 +328,12 @@ module _ {l₀ : List ℤ} {k₀ : List ℕ} {s : List ℤ} {y best second σ y�
           }
 
       many : n ≡ t % 256
-      many = omega (arith, tells, few)
+      many = omega (arith, answers, few)
 
       sum : q ≡ t / 256
-      sum = omega (arith, tells, few)
+      sum = omega (arith, answers, few)
 
-      -- as the code reads them from what is told
+      -- as the code reads them from the answer
       pub zeros-reached : Reached l₀ k₀ y₀ best₀ second₀ σ₀ from p₀ s₂ y′ best second σ′ (i + t % 256) (t / 256)
       zeros-reached =
           subst (λ (k : ℕ). Reached l₀ k₀ y₀ best₀ second₀ σ₀ from p₀ s₂ y′ best second σ′ (i + k) (t / 256)) many

@@ -42,8 +42,8 @@ pub record ZerosAsked (k₀ : List ℕ) (s : List ℤ) (y σ : List ℕ) (i p : 
 abbrev pub takenAt : List ℕ → List ℤ → List ℕ → ℕ → ℕ → Bool
 takenAt k₀ s σ i p = takes (runAt k₀ σ i) (runPenalty s (runAt k₀ σ i) p) σ
 
--- what is told: the penalty after them times 256, and how many; 0 where none is taken, and then nothing changes
+-- the answer: the penalty after them times 256, and how many; 0 where none is taken, and then nothing changes
 pub record ZerosGiven (k₀ : List ℕ) (s : List ℤ) (y σ : List ℕ) (i p r : ℕ) (y′ σ′ : List ℕ) : Type 0 where
-  pub tells : r ≡ cond (takenAt k₀ s σ i p) (runPenalty s (runAt k₀ σ i) p * 256 + runAt k₀ σ i) 0
+  pub answers : r ≡ cond (takenAt k₀ s σ i p) (runPenalty s (runAt k₀ σ i) p * 256 + runAt k₀ σ i) 0
   pub path : y′ ≡ cond (takenAt k₀ s σ i p) (paste y i (zeros 16) 16) y
   pub counts : σ′ ≡ cond (takenAt k₀ s σ i p) (countedMore (runAt k₀ σ i - 1) σ) σ

@@ -17,11 +17,11 @@ use Rattle.decoding.specs.OfferLaws.{Sorted}
 use Rattle.decoding.specs.InformationLaws.{sorted-hold}
 use Rattle.decoding.specs.Allowance.{ended}
 use Rattle.decoding.specs.PathLaws.{loss-hard}
-use Rattle.memory.specs.Memory.{Stands, ValueReady}
-use Rattle.walk.specs.Progress.{Progress, seen, front, stateOf, limitedOf, more, standing, drops, none-yet}
+use Rattle.memory.specs.Memory.{RowsFor, ValueReady}
+use Rattle.walk.specs.Progress.{Progress, seen, front, stateOf, limitedOf, more, madeFor, drops, none-yet}
 use Rattle.walk.specs.Progress.{Visited, Finished, Kept, Ready, Stepped, Extended, Going, Onward}
 use Rattle.walk.specs.Progress.{StepAsked, StepGiven, Reached, ValueAsked, ValueGiven}
-use Rattle.walk.specs.StepLaws.{true-false, was-more, was-stopped, kept-less, kept-standing, kept-more, walk-end, value-ready, sum-small}
+use Rattle.walk.specs.StepLaws.{true-false, was-more, was-stopped, kept-less, kept-made-for, kept-more, walk-end, value-ready, sum-small}
 use Rattle.walk.specs.StepLaws.{next-ready, left-path, left-kept, left-walks, extension-out, extension-dropped, extension-on}
 use Rattle.walk.specs.StepLaws.{one-extension, second-out, went-on, two-extensions, info-out, onward-start, onward-stepped, onward-more}
 
@@ -62,7 +62,7 @@ module _ {l : List ℤ} {kinds : List ℕ} {s : List ℤ} {y best second : List 
       → Stepped l kinds (i + 1) q (seen σ) (set y₁ i b) best₁ second₁ w′ s′ y′ best′ second′
       → Extended l kinds i p b (take i y) z best₁ second₁ w′ s′ y′ best′ second′
   go-on {w′} {s′} {y′} {best′} {second′} d st =
-      let st′ : Stepped l kinds (i + 1) q (standing (g .index) (more z)) (set y₁ i b) best₁ second₁ w′ s′ y′ best′ second′ =
+      let st′ : Stepped l kinds (i + 1) q (madeFor (g .index) (more z)) (set y₁ i b) best₁ second₁ w′ s′ y′ best′ second′ =
       subst (λ (k : Progress). Stepped l kinds (i + 1) q k (set y₁ i b) best₁ second₁ w′ s′ y′ best′ second′) (g .shows) st in
       extension-on l kinds i p b (take i y) z best₁ second₁ q adds-z (g .may) low (g .kept .high) (g .index) (drops-z false d)
       (left-walks r b inside bit y₁ (g .path) (g .kept .long-path) st′) (st′ .same-m) (st′ .same-allowed) (st′ .spent)
@@ -118,21 +118,21 @@ module _ {l₀ : List ℤ} {k₀ : List ℕ} {s : List ℤ} {y best second σ : 
         record {
           long = v .shows .long;
           stepped = one-extension (a .ready) inside (kind-same ∙ e)
-              (extension-out (front σ l₀) (front σ k₀) i p 0 (take i y) (seen σ) best second (sym (v .tells))
-              (was-stopped (seen σ) (v .shows .is) (sym (v .tells))) refl (a .ready .kept));
+              (extension-out (front σ l₀) (front σ k₀) i p 0 (take i y) (seen σ) best second (sym (v .answers))
+              (was-stopped (seen σ) (v .shows .is) (sym (v .answers))) refl (a .ready .kept));
         }
 
     pub info-stop : {σ₁ : List ℕ} → (getD k₀ i 0 ≡ 0 → ⊥) → Visited σ false σ₁ → StepGiven l₀ k₀ y best second σ i p s y best second σ₁
     info-stop e v =
         record {
           long = v .shows .long;
-          stepped = info-out (a .ready) inside (λ k. e (sym kind-same ∙ k)) (sym (v .tells)) (was-stopped (seen σ) (v .shows .is) (sym (v .tells)));
+          stepped = info-out (a .ready) inside (λ k. e (sym kind-same ∙ k)) (sym (v .answers)) (was-stopped (seen σ) (v .shows .is) (sym (v .answers)));
         }
 
     -- one is: the value
     module _ {σ₁ : List ℕ} (v : Visited σ true σ₁) where
       counts : seen σ₁ ≡ more (seen σ)
-      counts = was-more (seen σ) (v .shows .is) (sym (v .tells))
+      counts = was-more (seen σ) (v .shows .is) (sym (v .answers))
 
       pub value-asked : ValueAsked l₀ s y σ₁ i
       value-asked =
@@ -151,13 +151,13 @@ module _ {l₀ : List ℤ} {k₀ : List ℕ} {s : List ℤ} {y best second σ : 
         value-going =
             record {
               same-m = refl;
-              may = sym (v .tells);
+              may = sym (v .answers);
               going = a .ready .going;
               index = i;
               long = given .shows .long;
-              shows = given .shows .is ∙ ap (standing i) counts;
+              shows = given .shows .is ∙ ap (madeFor i) counts;
               path = refl;
-              kept = kept-standing i s₂ inside (a .ready .kept) (subst (λ (k : Progress). Stands (k .m) (take (2 ^ k .m) l₀) y i i s₂) counts (given .rows));
+              kept = kept-made-for i s₂ inside (a .ready .kept) (subst (λ (k : Progress). RowsFor (k .m) (take (2 ^ k .m) l₀) y i i s₂) counts (given .rows));
             }
 
 -- ---- along the frozen indices
@@ -233,7 +233,7 @@ module _ {l₀ : List ℤ} {k₀ : List ℕ} {s : List ℤ} {y best second σ : 
       pub deeper-given : Extended (front σ l₀) (front σ k₀) i p b (take i y) z best₁ second₁ (seen σ′) s′ y′ best′ second′
       deeper-given = go-on (a .ready) inside g b bit adds d there
 
-      -- the rows still stand for what the path says below i + 1
+      -- the rows are still those of the path's bits below i + 1
       pub deeper-kept : Kept (front σ l₀) (seen σ′) s′ y′ best′ second′ i
       deeper-kept = left-kept (a .ready) b inside bit y₁ (g .path) (g .kept .long-path) there
 
@@ -256,7 +256,7 @@ module _ {l₀ : List ℤ} {k₀ : List ℕ} {s : List ℤ} {y best second σ : 
     second-stop v =
         record {
           long = v .shows .long;
-          stepped = second-out (a .ready) inside (info kind) x (sym (v .tells)) (was-stopped (seen σ₃) (v .shows .is) (sym (v .tells)));
+          stepped = second-out (a .ready) inside (info kind) x (sym (v .answers)) (was-stopped (seen σ₃) (v .shows .is) (sym (v .answers)));
         }
 
     pub second-going : Visited σ₃ true σ₄ → Kept (front σ l₀) (seen σ₃) s₃ y₃ best₃ second₃ i
@@ -264,11 +264,11 @@ module _ {l₀ : List ℤ} {k₀ : List ℕ} {s : List ℤ} {y best second σ : 
     second-going v k =
         record {
           same-m = x .same-m;
-          may = sym (v .tells);
-          going = went-on (a .ready) inside (info kind) x (sym (v .tells));
+          may = sym (v .answers);
+          going = went-on (a .ready) inside (info kind) x (sym (v .answers));
           index = getD σ₃ 5 0;
           long = v .shows .long;
-          shows = was-more (seen σ₃) (v .shows .is) (sym (v .tells));
+          shows = was-more (seen σ₃) (v .shows .is) (sym (v .answers));
           path = x .path-stays;
           kept = kept-more k;
         }

@@ -23,12 +23,12 @@ use Rattle.decoding.specs.Blocks.{blockRow, Starts, visitedBy}
 use Rattle.decoding.specs.BlockLaws.{starts}
 use Rattle.decoding.specs.InformationLaws.{hardRow, bits-hardRow, loss-other, chosen-kinds, long-word, block-least, block-path, run-information-within}
 use Rattle.rows.specs.Rows.{rowOf}
-use Rattle.memory.specs.Memory.{Stands}
+use Rattle.memory.specs.Memory.{RowsFor}
 use Rattle.memory.specs.RowLaws.{start-le, row-block}
-use Rattle.memory.specs.StandsLaws.{stands-path}
+use Rattle.memory.specs.RowsForLaws.{rows-for-path}
 use Rattle.blocks.specs.Information.{allChosen, withHard}
 use Rattle.blocks.specs.InformationLaws.{and-both, each-chosen}
-use Rattle.walk.specs.Progress.{Progress, seen, front, stateOf, limitedOf, visiting, more, countedBy, standing, drops, none-yet}
+use Rattle.walk.specs.Progress.{Progress, seen, front, stateOf, limitedOf, visiting, more, countedBy, madeFor, drops, none-yet}
 use Rattle.walk.specs.Progress.{Shows, Visited, Kept, Ready, Stepped, Going, StepAsked, StepGiven, ValueGiven}
 use Rattle.walk.specs.InformationBlocks.{HardAsked, mayTake}
 use Rattle.walk.specs.InformationTestLaws.{lower-power, block-fits, BlockTaken}
@@ -72,9 +72,9 @@ module _ (n : ℕ) (w : Progress) where
           rw (le-leb (w .visits + n) (w .allowed) k, o) (sym (allowance.seen-ended allowed (visitedBy n (stateOf w best second)) (omega (arith, same)))))
           (lt-or-le (w .allowed) (w .visits + n))
 
--- ---- where the rows stand for i
+-- ---- where the rows are made for i
 module _ {l : List ℤ} {kinds : List ℕ} {s : List ℤ} {y best second : List ℕ} {i p : ℕ} {w : Progress} (r : Ready l kinds s y best second i p w)
-    (inside : i < 2 ^ w .m) {s₂ : List ℤ} (rows : Stands (w .m) l y i i s₂) (t : ℕ) (less : 2 ^ t < 2 ^ w .m) (at : i % 2 ^ t ≡ 0) where
+    (inside : i < 2 ^ w .m) {s₂ : List ℤ} (rows : RowsFor (w .m) l y i i s₂) (t : ℕ) (less : 2 ^ t < 2 ^ w .m) (at : i % 2 ^ t ≡ 0) where
   lower : t < w .m
   lower = lower-power (w .m) t less
 
@@ -95,7 +95,7 @@ module _ {l : List ℤ} {kinds : List ℕ} {s : List ℤ} {y best second : List 
 
   word-is : hardRow t (rowOf (2 ^ t) s₂) ≡ word
   word-is =
-      ap (hardRow t) (rows .stands t lower (start-le t i) ∙ row-block (w .m) i y l (w .m - t) (omega arith) inside long-path)
+      ap (hardRow t) (rows .rows t lower (start-le t i) ∙ row-block (w .m) i y l (w .m - t) (omega arith) inside long-path)
 
   long-all : length word ≡ 2 ^ t
   long-all = long-word (w .m) (w .m - t) t l (r .long) (take i y) begins
@@ -138,10 +138,10 @@ module _ {l : List ℤ} {kinds : List ℕ} {s : List ℤ} {y best second : List 
         ap (λ (x : List ℕ). pathPenalty (w .m) l (take i y ++ x)) (sym (take-all (2 ^ t) word (omega (arith, long-all))))
         ∙ block-path (w .m) (w .m - t) t l (r .long) (take i y) begins (2 ^ t) (omega arith)
 
-    still-stand : Stands (w .m) l y₃ i (i + 2 ^ t - 1) s₂
+    still-stand : RowsFor (w .m) l y₃ i (i + 2 ^ t - 1) s₂
     still-stand =
-        let f = stands-path (w .m) l i i s₂ y y₃ (sym same-before) rows in
-        record { stands = λ k h e. f .stands k h (start-le k i) }
+        let f = rows-for-path (w .m) l i i s₂ y y₃ (sym same-before) rows in
+        record { rows = λ k h e. f .rows k h (start-le k i) }
 
     -- what the step behind the block asks
     pub hard-ready : Ready l kinds s₂ y₃ best second (i + 2 ^ t) p (ran (2 ^ t) i w)
@@ -217,16 +217,16 @@ going-left {l} {y} {i} {w} {z} {σ} {σ′} {s} {y₁} {y′} {best} {second} (e
 module _ {l₀ : List ℤ} {k₀ : List ℕ} {s : List ℤ} {y best second σ : List ℕ} {i p : ℕ} (a : StepAsked l₀ k₀ s y best second σ i p)
     (inside : i < 2 ^ getD σ 6 0) {σ₁ : List ℕ} (v : Visited σ true σ₁) {x : ℤ} {s₂ : List ℤ} {σ₂ : List ℕ} (given : ValueGiven l₀ y σ₁ i x s₂ σ₂) where
   visited : seen σ₁ ≡ more (seen σ)
-  visited = was-more (seen σ) (v .shows .is) (sym (v .tells))
+  visited = was-more (seen σ) (v .shows .is) (sym (v .answers))
 
-  shown : seen σ₂ ≡ standing i (more (seen σ))
-  shown = given .shows .is ∙ ap (standing i) visited
+  shown : seen σ₂ ≡ madeFor i (more (seen σ))
+  shown = given .shows .is ∙ ap (madeFor i) visited
 
   same : getD σ₂ 6 0 ≡ getD σ 6 0
   same = ap (λ (k : Progress). k .m) shown
 
-  made : Stands (getD σ 6 0) (front σ l₀) y i i s₂
-  made = subst (λ (k : Progress). Stands (k .m) (take (2 ^ k .m) l₀) y i i s₂) visited (given .rows)
+  made : RowsFor (getD σ 6 0) (front σ l₀) y i i s₂
+  made = subst (λ (k : Progress). RowsFor (k .m) (take (2 ^ k .m) l₀) y i i s₂) visited (given .rows)
 
   pub hard-asked : HardAsked σ₂ i
   hard-asked = record { long = given .shows .long; room = rw same (a .ready .room); inside = rw same inside }
@@ -266,7 +266,7 @@ module _ {l₀ : List ℤ} {k₀ : List ℕ} {s : List ℤ} {y best second σ : 
         record {
           long = ap length (tk .counts) ∙ c .long;
           is = ap seen (tk .counts) ∙ c .is ∙ ap (λ (k : Progress). visiting (k .visits + (n - 1)) (k .out) k) shown
-              ∙ ap (λ (k : ℕ). visiting k (seen σ .out) (standing i (seen σ))) visits;
+              ∙ ap (λ (k : ℕ). visiting k (seen σ .out) (madeFor i (seen σ))) visits;
         }
 
     pub hard-ends : i + k ≤ 2 ^ getD σ 6 0

@@ -27,13 +27,13 @@ pub record HardAsked (σ : List ℕ) (i : ℕ) : Type 0 where
 
 -- what one block of n = 2^s gives
 pub record HardGiven (kinds : List ℕ) (rows : List ℤ) (σ y : List ℕ) (i n s : ℕ) (r : Bool) (σ′ y′ : List ℕ) : Type 0 where
-  pub tells : r ≡ hardHere kinds σ i n
+  pub answers : r ≡ hardHere kinds σ i n
   pub counts : σ′ ≡ cond (hardHere kinds σ i n) (countedMore (n - 1) σ) σ
   pub puts : y′ ≡ cond (hardHere kinds σ i n) (withHard n s i rows y) y
 
 -- the largest, where `may` allows one: its length, or 0
 pub record BlockGiven (may : Bool) (kinds : List ℕ) (rows : List ℤ) (σ y : List ℕ) (i n : ℕ) (σ′ y′ : List ℕ) : Type 0 where
-  pub tells : n ≡ cond may (byBlock kinds σ i (λ n s. n) 0) 0
+  pub answers : n ≡ cond may (byBlock kinds σ i (λ n s. n) 0) 0
   pub counts : σ′ ≡ cond may (byBlock kinds σ i (λ n s. countedMore (n - 1) σ) σ) σ
   pub puts : y′ ≡ cond may (byBlock kinds σ i (λ n s. withHard n s i rows y) y) y
 

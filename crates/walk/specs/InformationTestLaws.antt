@@ -67,7 +67,7 @@ module _ {kinds : List ℕ} {rows : List ℤ} {σ y : List ℕ} {i n s : ℕ} wh
   refused : hardHere kinds σ i n ≡ false → HardGiven kinds rows σ y i n s false σ y
   refused e =
       record {
-        tells = sym e;
+        answers = sym e;
         counts = sym (ap (λ (b : Bool). cond b (countedMore (n - 1) σ) σ) e);
         puts = sym (ap (λ (b : Bool). cond b (withHard n s i rows y) y) e);
       }
@@ -103,7 +103,7 @@ module _ {kinds : List ℕ} {rows : List ℤ} {σ y : List ℕ} {i n s : ℕ} wh
         ∙ ap (λ (b : Bool). b && (allChosen kinds i n && allowsMore (n - 1) σ)) second
         ∙ ap (λ (b : Bool). b && allowsMore (n - 1) σ) third ∙ fourth in
         record {
-          tells = sym here;
+          answers = sym here;
           counts = counts ∙ sym (ap (λ (b : Bool). cond b (countedMore (n - 1) σ) σ) here);
           puts = puts ∙ ap (λ (x : ℕ). withHard x s i rows y) same ∙ sym (ap (λ (b : Bool). cond b (withHard n s i rows y) y) here);
         }
@@ -111,10 +111,10 @@ module _ {kinds : List ℕ} {rows : List ℤ} {σ y : List ℕ} {i n s : ℕ} wh
 -- ---- one block, by the code's answer
 module _ {kinds : List ℕ} {rows : List ℤ} {σ y : List ℕ} {i n s : ℕ} {r : Bool} {σ′ y′ : List ℕ} (g : HardGiven kinds rows σ y i n s r σ′ y′) where
   pub taken-here : r ≡ true → hardHere kinds σ i n ≡ true
-  taken-here e = sym (g .tells) ∙ e
+  taken-here e = sym (g .answers) ∙ e
 
   pub left-here : r ≡ false → hardHere kinds σ i n ≡ false
-  left-here e = sym (g .tells) ∙ e
+  left-here e = sym (g .answers) ∙ e
 
   pub taken-counts : r ≡ true → σ′ ≡ countedMore (n - 1) σ
   taken-counts e = g .counts ∙ ap (λ (b : Bool). cond b (countedMore (n - 1) σ) σ) (taken-here e)
@@ -164,7 +164,7 @@ module _ {kinds : List ℕ} {rows : List ℤ} {σ y σ₁ y₁ : List ℕ} {i : 
   given-16 e =
       let here = taken-here g e in
       record {
-        tells = sym (by-16 kinds σ i (λ n s. n) 0 here);
+        answers = sym (by-16 kinds σ i (λ n s. n) 0 here);
         counts = taken-counts g e ∙ sym (by-16 kinds σ i (λ n s. countedMore (n - 1) σ) σ here);
         puts = taken-puts g e ∙ sym (by-16 kinds σ i (λ n s. withHard n s i rows y) y here);
       }
@@ -178,7 +178,7 @@ module _ {kinds : List ℕ} {rows : List ℤ} {σ y σ₁ y₁ : List ℕ} {i : 
         let above = left-here g no-16 in
         let here = taken-here next-8 e in
         record {
-          tells = sym (by-8 kinds σ i (λ n s. n) 0 above here);
+          answers = sym (by-8 kinds σ i (λ n s. n) 0 above here);
           counts = taken-counts next-8 e ∙ sym (by-8 kinds σ i (λ n s. countedMore (n - 1) σ) σ above here);
           puts = taken-puts next-8 e ∙ sym (by-8 kinds σ i (λ n s. withHard n s i rows y) y above here);
         }
@@ -193,7 +193,7 @@ module _ {kinds : List ℕ} {rows : List ℤ} {σ y σ₁ y₁ : List ℕ} {i : 
           let next = left-here next-8 no-8 in
           let here = taken-here next-4 e in
           record {
-            tells = sym (by-4 kinds σ i (λ n s. n) 0 above next here);
+            answers = sym (by-4 kinds σ i (λ n s. n) 0 above next here);
             counts = taken-counts next-4 e ∙ sym (by-4 kinds σ i (λ n s. countedMore (n - 1) σ) σ above next here);
             puts = taken-puts next-4 e ∙ sym (by-4 kinds σ i (λ n s. withHard n s i rows y) y above next here);
           }
@@ -204,7 +204,7 @@ module _ {kinds : List ℕ} {rows : List ℤ} {σ y σ₁ y₁ : List ℕ} {i : 
           let next = left-here next-8 no-8 in
           let here = left-here next-4 e in
           record {
-            tells = sym (by-none kinds σ i (λ n s. n) 0 above next here);
+            answers = sym (by-none kinds σ i (λ n s. n) 0 above next here);
             counts = left-state next-4 e ∙ sym (by-none kinds σ i (λ n s. countedMore (n - 1) σ) σ above next here);
             puts = left-path next-4 e ∙ sym (by-none kinds σ i (λ n s. withHard n s i rows y) y above next here);
           }
@@ -212,7 +212,7 @@ module _ {kinds : List ℕ} {rows : List ℤ} {σ y σ₁ y₁ : List ℕ} {i : 
 -- none where it is not tried
 pub not-tried : {may : Bool} {kinds : List ℕ} {rows : List ℤ} {σ y : List ℕ} {i : ℕ} → may ≡ false → BlockGiven may kinds rows σ y i 0 σ y
 not-tried {may} {kinds} {rows} {σ} {y} {i} e =
-    subst (λ (b : Bool). BlockGiven b kinds rows σ y i 0 σ y) (sym e) (record { tells = refl; counts = refl; puts = refl })
+    subst (λ (b : Bool). BlockGiven b kinds rows σ y i 0 σ y) (sym e) (record { answers = refl; counts = refl; puts = refl })
 
 pub as-tried : {may : Bool} {kinds : List ℕ} {rows : List ℤ} {σ y : List ℕ} {i n : ℕ} {σ′ y′ : List ℕ} → may ≡ true
     → BlockGiven true kinds rows σ y i n σ′ y′ → BlockGiven may kinds rows σ y i n σ′ y′
@@ -240,25 +240,25 @@ module _ {kinds : List ℕ} {rows : List ℤ} {σ y : List ℕ} {i n : ℕ} {σ�
       (record { tried = refl; size = s; is = e; here = here; counts = counts; puts = puts })
 
   which : (may : Bool) → BlockGiven may kinds rows σ y i n σ′ y′ → BlockTaken may kinds rows σ y i n σ′ y′ ⊎ ((n ≡ 0) × (σ′ ≡ σ) × (y′ ≡ y))
-  which false b = inr (b .tells, b .counts, b .puts)
+  which false b = inr (b .answers, b .counts, b .puts)
   which true b =
       let length : ℕ → ℕ → ℕ = λ n s. n in
       let state : ℕ → ℕ → List ℕ = λ n s. countedMore (n - 1) σ in
       let path : ℕ → ℕ → List ℕ = λ n s. withHard n s i rows y in
       ⊎-elim
       (λ (a : hardHere kinds σ i 16 ≡ true).
-      inl (taken-of 16 4 refl a (b .tells ∙ by-16 kinds σ i length 0 a) (b .counts ∙ by-16 kinds σ i state σ a) (b .puts ∙ by-16 kinds σ i path y a)))
+      inl (taken-of 16 4 refl a (b .answers ∙ by-16 kinds σ i length 0 a) (b .counts ∙ by-16 kinds σ i state σ a) (b .puts ∙ by-16 kinds σ i path y a)))
       (λ (a : hardHere kinds σ i 16 ≡ false).
       ⊎-elim
       (λ (c : hardHere kinds σ i 8 ≡ true).
-      inl (taken-of 8 3 refl c (b .tells ∙ by-8 kinds σ i length 0 a c) (b .counts ∙ by-8 kinds σ i state σ a c) (b .puts ∙ by-8 kinds σ i path y a c)))
+      inl (taken-of 8 3 refl c (b .answers ∙ by-8 kinds σ i length 0 a c) (b .counts ∙ by-8 kinds σ i state σ a c) (b .puts ∙ by-8 kinds σ i path y a c)))
       (λ (c : hardHere kinds σ i 8 ≡ false).
       ⊎-elim
       (λ (d : hardHere kinds σ i 4 ≡ true).
-      inl (taken-of 4 2 refl d (b .tells ∙ by-4 kinds σ i length 0 a c d) (b .counts ∙ by-4 kinds σ i state σ a c d)
+      inl (taken-of 4 2 refl d (b .answers ∙ by-4 kinds σ i length 0 a c d) (b .counts ∙ by-4 kinds σ i state σ a c d)
       (b .puts ∙ by-4 kinds σ i path y a c d)))
       (λ (d : hardHere kinds σ i 4 ≡ false).
-      inr (b .tells ∙ by-none kinds σ i length 0 a c d, b .counts ∙ by-none kinds σ i state σ a c d, b .puts ∙ by-none kinds σ i path y a c d))
+      inr (b .answers ∙ by-none kinds σ i length 0 a c d, b .counts ∙ by-none kinds σ i state σ a c d, b .puts ∙ by-none kinds σ i path y a c d))
       (either (hardHere kinds σ i 4)))
       (either (hardHere kinds σ i 8)))
       (either (hardHere kinds σ i 16))
@@ -276,10 +276,10 @@ short-of true h k = h
 short-of false h k = k
 
 -- it has 16 indices at the most
-pub block-short : {may : Bool} {kinds : List ℕ} {rows : List ℤ} {σ y : List ℕ} {i n : ℕ} {σ′ y′ : List ℕ} → BlockGiven may kinds rows σ y i n σ′ y′
+pub at-most-16 : {may : Bool} {kinds : List ℕ} {rows : List ℤ} {σ y : List ℕ} {i n : ℕ} {σ′ y′ : List ℕ} → BlockGiven may kinds rows σ y i n σ′ y′
     → n ≤ 16
-block-short {may} {kinds} {rows} {σ} {y} {i} {n} g =
-    subst (λ (k : ℕ). k ≤ 16) (sym (g .tells))
+at-most-16 {may} {kinds} {rows} {σ} {y} {i} {n} g =
+    subst (λ (k : ℕ). k ≤ 16) (sym (g .answers))
     (short-of may (short-of (hardHere kinds σ i 16) (omega arith) (short-of (hardHere kinds σ i 8) (omega arith)
     (short-of (hardHere kinds σ i 4) (omega arith) (omega arith)))) (omega arith))
 

@@ -1,4 +1,4 @@
--- What the walk's eight numbers and its two kept rows of bits stand for, and what its steps ask and give.
+-- What the walk's eight numbers and its two kept rows of bits mean, and what its steps ask and give.
 use mathlib.Core.Path.{_≡_}
 use mathlib.Core.Bool.{Bool, true, false, cond}
 use mathlib.Core.List.{List, []}
@@ -11,10 +11,10 @@ use Rattle.decoding.specs.Readings.{sizes, sumLimit}
 use Rattle.decoding.specs.Walk.{Full, Held, none, one, two, State, start, finished, value, pathPenalty}
 use Rattle.decoding.specs.OfferLaws.{Sorted}
 use Rattle.decoding.specs.Allowance.{Limited, ended, out, extendWithin, walkWithin}
-use Rattle.memory.specs.Memory.{Stands, ValueReady}
+use Rattle.memory.specs.Memory.{RowsFor, ValueReady}
 
 -- the eight numbers: how many full paths are held and their penalties; the visits, and whether one was wanted that is not allowed; the index that
--- the rows stand for; m, and the allowance
+-- the rows are made for; m, and the allowance
 pub record Progress : Type 0 where
   pub held : ℕ
   pub best : ℕ
@@ -96,9 +96,9 @@ countedMore n s = set s 3 (getD s 3 0 + n)
 abbrev pub countedBy : ℕ → Progress → Progress
 countedBy n w = cond (leb (w .visits + n) (w .allowed)) (visiting (w .visits + n) (w .out) w) (visiting (w .allowed) true w)
 
--- the rows stand for index i
-abbrev pub standing : ℕ → Progress → Progress
-standing i w =
+-- the rows are made for index i
+abbrev pub madeFor : ℕ → Progress → Progress
+madeFor i w =
     record {
       held = w .held;
       best = w .best;
@@ -131,7 +131,7 @@ pub record Shows (s : List ℕ) (w : Progress) : Type 0 where
 
 -- the array after a visit
 pub record Visited (s : List ℕ) (r : Bool) (s′ : List ℕ) : Type 0 where
-  pub tells : r ≡ allows (seen s)
+  pub answers : r ≡ allows (seen s)
   pub shows : Shows s′ (counted (seen s))
 
 -- the penalty is not below the second's, which is above all penalties while no second is held
@@ -153,7 +153,7 @@ pub record Finished (p : ℕ) (w : Progress) (y best second : List ℕ) (w′ : 
   pub rest : w′ ≡ holding (w′ .held) (w′ .best) (w′ .second) w
   pub bits : Bits (take (2 ^ w .m) y) → AreBits (w .m) best second → AreBits (w .m) best′ second′
 
--- what holds before and after each step: what is held stands in order, and rows s stand for w's index, but for what depends on the path y from b on
+-- what holds before and after each step: what is held is in order, and rows s are made for w's index, but for what depends on the path y from b on
 pub record Kept (l : List ℤ) (w : Progress) (s : List ℤ) (y best second : List ℕ) (b : ℕ) : Type 0 where
   pub high : w .held < 2 → w .second ≡ none-yet
   pub sorted : Sorted (stateOf w best second .held)
@@ -161,7 +161,7 @@ pub record Kept (l : List ℤ) (w : Progress) (s : List ℤ) (y best second : Li
   pub long-path : length y ≡ 256
   pub bits : Bits y
   pub both : AreBits (w .m) best second
-  pub rows : Stands (w .m) l y (w .index) b s
+  pub rows : RowsFor (w .m) l y (w .index) b s
 
 -- what each step asks: the path of i bits has penalty p and is not dropped
 pub record Ready (l : List ℤ) (kinds : List ℕ) (s : List ℤ) (y best second : List ℕ) (i p : ℕ) (w : Progress) : Type 0 where
@@ -210,11 +210,11 @@ pub record Going (l : List ℤ) (y : List ℕ) (i : ℕ) (w z : Progress) (σ : 
   pub going : z .out ≡ false
   pub index : ℕ
   pub long : length σ ≡ 8
-  pub shows : seen σ ≡ standing index (more z)
+  pub shows : seen σ ≡ madeFor index (more z)
   pub path : take i y₁ ≡ take i y
-  pub kept : Kept l (standing index (more z)) s₁ y₁ best₁ second₁ i
+  pub kept : Kept l (madeFor index (more z)) s₁ y₁ best₁ second₁ i
 
--- ---- where the frozen step stands in its loop: the walk from the path of i bits on is the walk from the path of the first `from` of them
+-- ---- where the frozen step is in its loop: the walk from the path of i bits on is the walk from the path of the first `from` of them
 pub record Onward (l : List ℤ) (kinds : List ℕ) (from p₀ : ℕ) (w₀ : Progress) (y₀ best₀ second₀ : List ℕ)
     (i p : ℕ) (w : Progress) (y best second : List ℕ) : Type 0 where
   pub on : from ≤ i
@@ -224,7 +224,7 @@ pub record Onward (l : List ℤ) (kinds : List ℕ) (from p₀ : ℕ) (w₀ : Pr
   pub walks : walkWithin (w .allowed) (w .m) l (drop i kinds) (take i y) p (stateOf w best second)
       ≡ walkWithin (w₀ .allowed) (w₀ .m) l (drop from kinds) (take from y₀) p₀ (stateOf w₀ best₀ second₀)
 
--- ---- the same of the arrays: σ are the eight numbers, l₀ and k₀ the readings and kinds with what stands behind them
+-- ---- the same of the arrays: σ are the eight numbers, l₀ and k₀ the readings and kinds with what is behind them
 pub record StepAsked (l₀ : List ℤ) (k₀ : List ℕ) (s : List ℤ) (y best second σ : List ℕ) (i p : ℕ) : Type 0 where
   pub long : length σ ≡ 8
   pub ready : Ready (front σ l₀) (front σ k₀) s y best second i p (seen σ)
@@ -243,8 +243,8 @@ pub record ValueAsked (l₀ s : List ℤ) (y σ : List ℕ) (i : ℕ) : Type 0 w
 
 pub record ValueGiven (l₀ : List ℤ) (y σ : List ℕ) (i : ℕ) (x : ℤ) (s′ : List ℤ) (σ′ : List ℕ) : Type 0 where
   pub is : x ≡ value (getD σ 6 0) (front σ l₀) (take i y)
-  pub rows : Stands (getD σ 6 0) (front σ l₀) y i i s′
-  pub shows : Shows σ′ (standing i (seen σ))
+  pub rows : RowsFor (getD σ 6 0) (front σ l₀) y i i s′
+  pub shows : Shows σ′ (madeFor i (seen σ))
 
 -- what the walk asks, and what it gives: its end, as the written walk has it
 pub record Walkable (m : ℕ) (l : List ℤ) (kinds best second : List ℕ) : Type 0 where

@@ -9,8 +9,8 @@ use lib.ListN.{length, set, take, replicate}
 use lib.Pow.{pow-pos}
 use Rattle.words.specs.Bits.{Bits}
 use Rattle.decoding.specs.Walk.{addedBy}
-use Rattle.memory.specs.Memory.{Stands}
-use Rattle.memory.specs.StandsLaws.{stands-none}
+use Rattle.memory.specs.Memory.{RowsFor}
+use Rattle.memory.specs.RowsForLaws.{rows-for-none}
 use Rattle.walk.specs.Progress.{seen, none-yet, AreBits, StepAsked, StepGiven, Walkable, Walked}
 
 -- 2^m as the machine shifts it
@@ -44,7 +44,7 @@ module _ (m n allowed : ℕ) (l₀ : List ℤ) (k₀ best second : List ℕ) (is
             long-path = long;
             bits = bits;
             both = x .both;
-            rows = subst (λ (k : ℕ). Stands m (take (2 ^ m) l₀) y (k - 1) 0 s) (sym is) (stands-none m (take (2 ^ m) l₀) y s);
+            rows = subst (λ (k : ℕ). RowsFor m (take (2 ^ m) l₀) y (k - 1) 0 s) (sym is) (rows-for-none m (take (2 ^ m) l₀) y s);
           };
         };
       }

@@ -19,9 +19,9 @@ use Rattle.decoding.specs.Quick.{hard}
 use Rattle.decoding.specs.Walk.{State, Full, dropped, finished, value}
 use Rattle.decoding.specs.Allowance.{Limited, ended, out, andThen, extendWithin, walkWithin}
 use Rattle.decoding.specs.PathLaws.{value-sizes, path-more, path-sizes}
-use Rattle.memory.specs.Memory.{Stands, ValueReady}
-use Rattle.memory.specs.StandsLaws.{stands-less, stands-path}
-use Rattle.walk.specs.Progress.{Progress, seen, fullOf, heldBy, stateOf, limitedOf, allows, more, stopped, counted, standing, drops, none-yet}
+use Rattle.memory.specs.Memory.{RowsFor, ValueReady}
+use Rattle.memory.specs.RowsForLaws.{rows-for-less, rows-for-path}
+use Rattle.walk.specs.Progress.{Progress, seen, fullOf, heldBy, stateOf, limitedOf, allows, more, stopped, counted, madeFor, drops, none-yet}
 use Rattle.walk.specs.Progress.{Kept, Ready, Stepped, extension, Extended, Going, Onward}
 
 pub true-false : {A : Type 0} → true ≡ false → A
@@ -82,7 +82,7 @@ module _ {l : List ℤ} {w : Progress} {s : List ℤ} {y best second : List ℕ}
         long-path = k .long-path;
         bits = k .bits;
         both = k .both;
-        rows = stands-less (w .m) l (w .index) b s y a h (k .rows);
+        rows = rows-for-less (w .m) l (w .index) b s y a h (k .rows);
       }
 
   -- a bit of the path is put
@@ -95,13 +95,13 @@ module _ {l : List ℤ} {w : Progress} {s : List ℤ} {y best second : List ℕ}
         long-path = length-set y i b ∙ k .long-path;
         bits = bits-set y i b h (k .bits);
         both = k .both;
-        rows = stands-path (w .m) l (w .index) i s y (set y i b) (sym (take-set-le i y i b (omega arith))) (k .rows);
+        rows = rows-for-path (w .m) l (w .index) i s y (set y i b) (sym (take-set-le i y i b (omega arith))) (k .rows);
       }
 
   -- rows are made for index i
-  pub kept-standing : {b : ℕ} (i : ℕ) (s′ : List ℤ) → i < 2 ^ w .m → Kept l w s y best second b → Stands (w .m) l y i i s′
-      → Kept l (standing i (more w)) s′ y best second i
-  kept-standing i s′ h k f =
+  pub kept-made-for : {b : ℕ} (i : ℕ) (s′ : List ℤ) → i < 2 ^ w .m → Kept l w s y best second b → RowsFor (w .m) l y i i s′
+      → Kept l (madeFor i (more w)) s′ y best second i
+  kept-made-for i s′ h k f =
       record {
         high = k .high;
         sorted = k .sorted;
@@ -226,8 +226,8 @@ module _ (l : List ℤ) (kinds : List ℕ) (i p b : ℕ) (u : List ℕ) (z : Pro
     held-test : (t : Bool) → drops z q ≡ t → dropped (stateOf z best second .held) (p + loss (value (z .m) l u) b) ≡ t
     held-test t d = rw (← adds) (sym (drops-held z best second q high low) ∙ d)
 
-    pub extension-dropped : {w′ : Progress} {s : List ℤ} {y : List ℕ} → z .out ≡ false → (j : ℕ) → w′ ≡ standing j (more z) → drops z q ≡ true → take i y ≡ u
-        → Kept l (standing j (more z)) s y best second (i - 1)
+    pub extension-dropped : {w′ : Progress} {s : List ℤ} {y : List ℕ} → z .out ≡ false → (j : ℕ) → w′ ≡ madeFor j (more z) → drops z q ≡ true → take i y ≡ u
+        → Kept l (madeFor j (more z)) s y best second (i - 1)
         → Extended l kinds i p b u z best second w′ s y best second
     extension-dropped {s = s} {y = y} o j e d path k =
         subst (λ (x : Progress). Extended l kinds i p b u z best second x s y best second) (sym e) (record {
@@ -241,11 +241,11 @@ module _ (l : List ℤ) (kinds : List ℕ) (i p b : ℕ) (u : List ℕ) (z : Pro
 
     -- gone on with: the walk from the longer path on
     pub extension-is : (j : ℕ) → drops z q ≡ false → extension z l kinds i p b u (stateOf z best second)
-        ≡ walkWithin (z .allowed) (z .m) l (drop (i + 1) kinds) (u ++ b ∷ []) q (stateOf (standing j (more z)) best second)
+        ≡ walkWithin (z .allowed) (z .m) l (drop (i + 1) kinds) (u ++ b ∷ []) q (stateOf (madeFor j (more z)) best second)
     extension-is j d = rw (a, held-test false d, ← adds)
 
     pub extension-on : {w′ : Progress} {s′ : List ℤ} {y′ best′ second′ : List ℕ} (j : ℕ) → drops z q ≡ false
-        → limitedOf w′ best′ second′ ≡ walkWithin (z .allowed) (z .m) l (drop (i + 1) kinds) (u ++ b ∷ []) q (stateOf (standing j (more z)) best second)
+        → limitedOf w′ best′ second′ ≡ walkWithin (z .allowed) (z .m) l (drop (i + 1) kinds) (u ++ b ∷ []) q (stateOf (madeFor j (more z)) best second)
         → w′ .m ≡ z .m → w′ .allowed ≡ z .allowed → (w′ .out ≡ true → w′ .allowed ≤ w′ .visits) → take i y′ ≡ u → Kept l w′ s′ y′ best′ second′ i
         → Extended l kinds i p b u z best second w′ s′ y′ best′ second′
     extension-on j d walks same-m same-allowed spent path k =
@@ -390,7 +390,7 @@ module _ {l : List ℤ} {kinds : List ℕ} {from p₀ : ℕ} {w₀ : Progress} {
         same-m = o .same-m;
         same-allowed = o .same-allowed;
         path-stays = begins (set y₁ i 0) (take-set-le i y₁ i 0 (omega arith) ∙ g .path);
-        walks = ap (λ (u : List ℕ). walkWithin (w .allowed) (w .m) l (drop (i + 1) kinds) u q (stateOf (standing (g .index) (more w)) best second))
+        walks = ap (λ (u : List ℕ). walkWithin (w .allowed) (w .m) l (drop (i + 1) kinds) u q (stateOf (madeFor (g .index) (more w)) best second))
             (put-path r 0 inside (omega arith) y₁ (g .kept .long-path) (g .path))
             ∙ sym (extension-is l kinds i p 0 (take i y) w best second q adds (g .may) low (g .kept .high) (g .index) undropped)
             ∙ sym (walk-frozen (w .allowed) (w .m) l kinds i (take i y) p (stateOf w best second) (within r inside) kind)

@@ -13,15 +13,15 @@ ghost use lib.ListN.{length, getD, take, set, replicate};
 ghost use lib.Dec.{eqb, ltb};
 ghost use Rattle.decoding.specs.Quick.{hard};
 ghost use Rattle.walk.specs.Progress.{allowsMore, countedBy, countedMore, drops, seen};
-ghost use Rattle.walk.specs.Progress.{standing};
+ghost use Rattle.walk.specs.Progress.{madeFor};
 ghost use Rattle.walk.specs.Progress.{Finished, Shows, StepAsked, StepGiven, Visited};
 ghost use Rattle.walk.specs.Progress.{ValueAsked, ValueGiven, Walkable, Walked};
 ghost use Rattle.walk.specs.FrozenBlocks.{ZerosAsked, ZerosGiven};
 ghost use Rattle.walk.specs.InformationBlocks.{mayTake, HardAsked, HardGiven, BlockGiven};
 
 // The places in state: how many full paths are held, the penalty of best and that of second, the
-// visits, whether a visit was wanted that is not allowed, the index that the rows stand for, m, and
-// the allowance.
+// visits, whether a visit was wanted that is not allowed, the index that the rows are made for, m,
+// and the allowance.
 pub const HELD: usize = 0;
 
 pub const BEST_PENALTY: usize = 1;
@@ -74,10 +74,10 @@ fn dropped(state: &[u32; 8], penalty: u32) -> bool
 }
 
 // The rows are made for index i now.
-pub fn stands(state: &mut [u32; 8], i: usize) -> usize
+pub fn made_for(state: &mut [u32; 8], i: usize) -> usize
     requires { ⌜ (length (now state) ≡ 8) × (i < 256) ⌝ }
     ensures { λ r. ⌜ (r ≡ getD (now (state .entry)) 5 0)
-        × Shows (now (state .exit)) (standing i (seen (now (state .entry)))) ⌝ }
+        × Shows (now (state .exit)) (madeFor i (seen (now (state .entry)))) ⌝ }
 {
     let was = state[ROWS_INDEX];
     state[ROWS_INDEX] = i as u32;
@@ -170,7 +170,7 @@ fn value_at(
         r (now (rows .exit)) (now (state .exit)) ⌝ }
 {
     let m = state[EXPONENT];
-    let was = stands(state, i);
+    let was = made_for(state, i);
     memory::value(readings, rows, path, word, wide(m), was, i)
 }
 
@@ -262,7 +262,7 @@ fn has_row(state: &[u32; 8], n: usize) -> bool
     n < 1usize << m
 }
 
-// A block of n = 2^s indices starts at i, for which the rows stand and a visit is counted. Where
+// A block of n = 2^s indices starts at i, for which the rows are made and a visit is counted. Where
 // all its indices carry information and the other visits are allowed, those are counted, and each
 // index has the bit that its value speaks for.
 fn hard_block(

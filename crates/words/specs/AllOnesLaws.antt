@@ -1,4 +1,4 @@
--- The row u that the all-ones word comes from: 1 at the last index alone.
+-- The row u that the all-ones word comes from: 1 only at the last index.
 use mathlib.Core.Path.{_≡_, ap, _∙_}
 use mathlib.Core.Logic.{⊎-elim}
 use mathlib.Core.List.{List}

@@ -30,7 +30,7 @@ factor-one true zero (suc (suc b)) h k = absurd (omega arith)
 factor-one true (suc zero) (suc (suc b)) h k = absurd (omega arith)
 factor-one true (suc (suc a)) b h k = absurd (omega arith)
 
--- it is 1 just where every one-bit of j is also a one-bit of i
+-- it is 1 exactly where every one-bit of j is also a one-bit of i
 pub basis-covers : (m i j : ℕ) → basisRow m i j ≡ cond (covers m j i) 1 0
 unfolding basisRow covers
 basis-covers zero i j = refl

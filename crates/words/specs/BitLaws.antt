@@ -1,4 +1,4 @@
--- Laws of the binary digits of an index: of an index in the first half 0, 1, .. below 2^m, and of one in the second half, 2^m further on.
+-- Laws of the binary digits of an index: of an index in the first half, 0, 1, .. below 2^m, and of one in the second half, 2^m further on.
 use mathlib.Core.Path.{_≡_, refl, ap, ap₂, sym, subst, _∙_}
 use mathlib.Core.Logic.{⊎-elim}
 use mathlib.Core.List.{_∷_}
@@ -77,7 +77,7 @@ pub ones-second : (m i : ℕ) → i < 2 ^ m → ones (suc m) (2 ^ m + i) ≡ suc
 unfolding ones
 ones-second m i h = omega (arith, digit-second m i h, ones-alike m (2 ^ m + i) i (second-alike m i))
 
--- a fact of every index of the first half and of every index of the second half is one of every index
+-- a fact about every index of the first half and every index of the second half is one about every index
 pub by-halves : (P : ℕ → Type 0) (m : ℕ) → ((i : ℕ) → i < 2 ^ m → P i) → ((i : ℕ) → i < 2 ^ m → P (2 ^ m + i))
     → (i : ℕ) → i < 2 ^ suc m → P i
 by-halves P m f g i h =
@@ -87,7 +87,7 @@ by-halves P m f g i h =
     subst P e (g (i - 2 ^ m) (omega (arith, two-pow-succ m))))
     (lt-or-le i (2 ^ m))
 
--- every index but the last has a bit that is 0
+-- every index except the last has a bit that is 0
 pub ones-early : (m i : ℕ) → suc i < 2 ^ m → ones m i < m
 unfolding ones
 ones-early zero i h = absurd (omega arith)

@@ -1,4 +1,4 @@
--- A word of RM(r,m) that is not the zero row has at least 2^(m-r) ones, and one has as many; so the least distance of two words is 2^(m-r).
+-- A word of RM(r,m) that is not the zero row has at least 2^(m-r) ones, and one has exactly that many; so the least distance of two words is 2^(m-r).
 use mathlib.Core.Path.{_≡_, refl, ap, ap₂, sym, subst, _∙_}
 use mathlib.Core.Logic.{_⊎_, inl, inr, ⊎-elim}
 use mathlib.Core.Bool.{cond}
@@ -27,7 +27,7 @@ weight-xors [] y = omega arith
 weight-xors (a ∷ x) [] = omega arith
 weight-xors (a ∷ x) (b ∷ y) = omega (arith, weight-xors x y)
 
--- two rows whose sum is the zero row are one
+-- two rows whose sum is the zero row are equal
 alike : (n : ℕ) (x y : List ℕ) → length x ≡ n → length y ≡ n → Bits x → Bits y → xors x y ≡ replicate n 0 → x ≡ y
 alike n x y e f h k z =
     sym (xors-twice x y (e ∙ sym f) h)
@@ -50,7 +50,7 @@ distance-weight [] y h k = refl
 distance-weight (a ∷ x) [] h k = refl
 distance-weight (a ∷ x) (b ∷ y) h k = ap₂ _+_ (differ-one a b (h 0) (k 0)) (distance-weight x y (λ i. h (suc i)) (λ i. k (suc i)))
 
--- ---- at least so many ones
+-- ---- at least that many ones
 abbrev Heavy : ℕ → ℕ → List ℕ → Type 0
 Heavy r m x = (x ≡ replicate (2 ^ m) 0) ⊎ (2 ^ m ≤ weight x * 2 ^ r)
 
@@ -115,7 +115,7 @@ distance-least r m x y h v w z =
     (weight-least r m (xors x y) h (word-xors m ks x y e v w)
     (λ k. z (alike (2 ^ m) x y (word-length m ks x e v) (word-length m ks y e w) bx by k)))
 
--- ---- and one with as many
+-- ---- and one with exactly that many
 -- all ones for r = 0, else a lightest row of RM(r-1,m-1) and zeros
 unfoldable pub lightest : ℕ → ℕ → List ℕ
 lightest zero m = allOnes m
@@ -150,7 +150,7 @@ below-lightest (suc r) (suc m) h =
 pub lightest-word : (r m : ℕ) → r ≤ m → Word m (kinds r m) (lightest r m)
 lightest-word r m h = below-word r m (lightest r m) (below-lightest r m h)
 
--- it and the zero row, which is a word, are just so far apart
+-- it and the zero row, which is a word, are exactly that far apart
 pub distance-attained : (r m : ℕ) → r ≤ m → distance (lightest r m) (replicate (2 ^ m) 0) ≡ 2 ^ (m - r)
 distance-attained r m h =
     let b = below-lightest r m h in

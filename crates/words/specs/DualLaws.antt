@@ -68,7 +68,7 @@ common-crossed (p ∷ a) (q ∷ b) (s ∷ c) (t ∷ d) e f g h k =
       common-crossed a b c d (suc-inj e) (suc-inj f) (suc-inj g) (λ i. h (suc i)) (λ i. k (suc i)),
     )
 
--- the zero row has none with any row
+-- the zero row has no common ones with any row
 none-first : (m : ℕ) (x y : List ℕ) → Below 0 m x → Even (commonOnes x y)
 none-first m x y v = omega (arith, ap (λ (z : List ℕ). commonOnes z y) (below-zero m x v), common-zeros (2 ^ m) y)
 
@@ -105,7 +105,7 @@ below-dual (suc m) (suc d) (suc e) x y h v w =
       below-dual m (suc d) (suc e - 1) x2 (xors y1 y2) (omega arith) (below-second (suc d) m x v) sy,
     )
 
--- r + s < m: of RM(m-r-1,m), and so of all that lie in it
+-- r + s < m: for RM(m-r-1,m), and so for all codes inside it
 pub dual-even : (r s m : ℕ) (x y : List ℕ) → r + s < m → Word m (kinds r m) x → Word m (kinds s m) y → Even (commonOnes x y)
 dual-even r s m x y h v w = below-dual m (suc r) (suc s) x y (omega arith) (word-below r m x v) (word-below s m y w)
 

@@ -1,5 +1,5 @@
 -- The words of RM(r,m) by halves: x is a word of RM(r,m+1) exactly if the sum of its halves is one of RM(r-1,m) and its second half one of RM(r,m).
--- So that r = 0 is no case of its own, a code is named here by d = r + 1; for d = 0 it holds the zero row alone.
+-- So that r = 0 is not a separate case, a code is named here by d = r + 1; for d = 0 it holds only the zero row.
 use mathlib.Core.Path.{_≡_, refl, ap, sym, _∙_, subst}
 use mathlib.Core.Logic.{⊎-elim}
 use mathlib.Core.List.{List, [], _++_}
@@ -66,7 +66,7 @@ below-xors d m x y a b =
 pub below-more : (d e m : ℕ) (x : List ℕ) → d ≤ e → Below d m x → Below e m x
 below-more d e m x h b = record { long = b .long; are-bits = b .are-bits; frozen = λ i k l. b .frozen i k (omega arith) }
 
--- RM(r,m) lies in RM(s,m) for r ≤ s
+-- RM(r,m) is contained in RM(s,m) for r ≤ s
 pub word-nested : (r s m : ℕ) (x : List ℕ) → r ≤ s → Word m (kinds r m) x → Word m (kinds s m) x
 word-nested r s m x h w = below-word s m x (below-more (suc r) (suc s) m x (omega arith) (word-below r m x w))
 

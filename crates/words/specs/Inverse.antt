@@ -14,7 +14,7 @@ pub data TakenBack : Type 0 where
   -- the lowest frozen index where the row u is 1
   frozenOne : ℕ → TakenBack
 
--- the lowest frozen index where the row is 1, or the row's length where there is none
+-- the lowest frozen index where the row is 1, or the row's length if there is none
 unfoldable pub firstFrozenOne : List ℕ → List ℕ → ℕ
 firstFrozenOne [] u = 0
 firstFrozenOne (k ∷ ks) [] = 0

@@ -18,7 +18,7 @@ use Rattle.words.specs.TransformLaws.{length-xors, bits-xors, bits-zeros
 use Rattle.words.specs.TransformLaws.{length-transform, bits-transform, transform-xors, transform-twice, transform-zeros}
 use Rattle.words.specs.FillLaws.{length-fill, bits-fill, frozen-fill, length-pick, bits-pick, pick-fill, fill-pick, fill-xors, fill-zeros}
 
--- ---- the lowest frozen index where a row is 1: no two are
+-- ---- the lowest frozen index where a row is 1: there is only one
 lowest-only : (ks u : List ℕ) (i j : ℕ) → LowestFrozenOne ks u i → LowestFrozenOne ks u j → i ≤ j
 lowest-only ks u i j a b =
     ⊎-elim (λ (h : j < i). absurd (omega (arith, b .one, a .lowest j h (b .frozen)))) (λ h. h) (lt-or-le j i)
@@ -92,7 +92,7 @@ module _ (m : ℕ) (ks x : List ℕ) (e : length ks ≡ 2 ^ m) (h : Bits ks) (f 
       (λ l. absurd (omega (arith, l .one, z n (l .frozen))))
       at-row
 
-  -- refused with i exactly where i is the lowest frozen index at which the row is 1
+  -- refused with i exactly if i is the lowest frozen index at which the row is 1
   pub refused-lowest : (i : ℕ) → LowestFrozenOne ks (transform m x) i → takenBack m ks x ≡ frozenOne i
   unfolding takenBack
   refused-lowest i l =
@@ -114,7 +114,7 @@ module _ (m : ℕ) (ks x : List ℕ) (e : length ks ≡ 2 ^ m) (h : Bits ks) (f 
       (λ k. let same : n ≡ i = cc (refused-lowest n k) in subst (LowestFrozenOne ks u) same k)
       at-row
 
-  -- refused exactly where no information bits give the row
+  -- refused exactly if no information bits give the row
   pub refused-no-word : (i : ℕ) → takenBack m ks x ≡ frozenOne i → Word m ks x → ⊥
   refused-no-word i t w =
       let l = lowest-refused i t in omega (arith, l .one, word-frozen m ks x e w i (l .frozen))

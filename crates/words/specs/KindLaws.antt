@@ -27,7 +27,7 @@ module _ (r m i : ℕ) where
   pub kind-bit : kind r m i < 2
   kind-bit = ⊎-elim (λ h. omega (arith, kind-frozen h)) (λ h. omega (arith, kind-information h)) (lt-or-le (ones m i + r) m)
 
--- an index of the first half: its bit m is 0, so r falls by one with m, and r = 0 leaves none
+-- an index of the first half: its bit m is 0, so r falls by one with m, and for r = 0 none is left
 pub kind-first-zero : (m i : ℕ) → i < 2 ^ m → kind 0 (suc m) i ≡ 0
 kind-first-zero m i h = kind-frozen 0 (suc m) i (omega (arith, ones-first m i h, ones-most m i))
 
@@ -100,7 +100,7 @@ pub dimension-suc : (r m : ℕ) → dimension (suc r) (suc m) ≡ dimension r m 
 unfolding dimension total choose
 dimension-suc r m = omega (arith, total-add (λ i. choose m (suc i)) (λ i. choose m (suc (suc i))) r)
 
--- k as the rules say it twice: the count of information indices is the sum of binomials
+-- k in both forms of the rules: the count of information indices is the sum of binomials
 pub sum-kinds : (r m : ℕ) → sum (kinds r m) ≡ dimension r m
 unfolding sum
 sum-kinds r zero = ap sum (kinds-one r) ∙ sym (dimension-one r)

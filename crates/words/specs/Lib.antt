@@ -11,7 +11,7 @@ pub mod BitLaws
 pub mod KindLaws
 pub mod FillLaws
 pub mod InverseLaws
--- Laws: the published forms are one, and the least distance of RM(r,m)
+-- Laws: the published forms agree, and the least distance of RM(r,m)
 pub mod TableLaws
 pub mod PublishedLaws
 pub mod ParityLaws

@@ -1,4 +1,4 @@
--- Words by their parity checks, and so what refusal 5 is: n bits are a word exactly if, for every frozen index i, they have an even number of ones
+-- Words by their parity checks, and so the meaning of refusal 5: n bits are a word exactly if, for every frozen index i, they have an even number of ones
 -- at the places j that have every one-bit of i; refusal 5 carries the lowest i whose check fails.
 use mathlib.Core.Path.{_≡_, ap, sym, _∙_}
 use mathlib.Core.Logic.{_↔_, ⊎-elim}

@@ -1,4 +1,4 @@
--- A row times a matrix, modulo 2, where the matrix is made of four blocks. Both forms of the code that are written by a matrix go by halves for this reason.
+-- A row times a matrix, modulo 2, where the matrix is made of four blocks. This is why both forms of the code that are written by a matrix go by halves.
 use mathlib.Core.Path.{_≡_, refl, ap, ap₂, sym, _∙_}
 use mathlib.Core.List.{List, _∷_, _++_}
 use Prim.Native.Nat.{ℕ, zero, suc, _+_, _*_, _%_, _<_}

@@ -27,7 +27,7 @@ swap-one a b c d =
     let e : a + b + (c + d) ≡ a + c + (b + d) = omega arith in
     sym (add-mod (a + b) (c + d) 2) ∙ ap (λ (n : ℕ). n % 2) e ∙ add-mod (a + c) (b + d) 2
 
--- the middle two change places
+-- the middle two are exchanged
 pub xors-swap : (a b c d : List ℕ) → length a ≡ length b → length a ≡ length c → length a ≡ length d → xors (xors a b) (xors c d) ≡ xors (xors a c) (xors b d)
 xors-swap [] b c d e f g = refl
 xors-swap (x ∷ a) [] c d e f g = absurd (suc-ne-zero (length a) e)
@@ -76,7 +76,7 @@ bits-append [] y h k i = k i
 bits-append (a ∷ x) y h k zero = h 0
 bits-append (a ∷ x) y h k (suc i) = bits-append x y (λ n. h (suc n)) k i
 
--- one bit more
+-- one more bit
 pub bits-more : (u : List ℕ) (b : ℕ) → Bits u → b < 2 → Bits (u ++ b ∷ [])
 bits-more [] b h k zero = k
 bits-more [] b h k (suc i) = omega arith

@@ -13,7 +13,7 @@ GivenReadings = Union[Readings, Floats, Sequence[int]]
 
 # by type and this machine's byte order: the other order has another key
 _NAMES = {np.dtype(name): name for name in ("uint8", "int16", "float32")}
-# what stands for a whole number that does not fit: the library refuses it, at its place
+# what represents a whole number that does not fit: the library refuses it, at its place
 _NO_ENTRY = {"uint8": 255, "int16": -32768}
 
 
@@ -119,7 +119,7 @@ def fixed(*arrays: npt.NDArray[Any]) -> None:
 
 
 def address(array: npt.NDArray[Any]) -> int:
-    """Where an array lies: never null, also with no entries."""
+    """The address of an array: never null, even if it has no entries."""
     found: int = array.__array_interface__["data"][0]  # as .ctypes.data, which takes longer
     assert found
     return found

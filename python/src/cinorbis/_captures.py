@@ -221,7 +221,7 @@ class Capture:
         return cls(path, writable=True)
 
     def refresh(self) -> None:
-        """Looks at the file again, and makes the index anew."""
+        """Looks at the file again, and makes a new index."""
         if self._memory is not None:
             self.size = self._memory.size
         else:

@@ -364,8 +364,8 @@ def _many(
     if count and refusals[0] in _OF_THE_CALL:
         raise Refused(int(refusals[0]))
     fixed(bits, word, next_best, numbers, refusals)
-    told = (numbers["penalty"], numbers["gap"], numbers["visits"])
-    return FoundMany(bits, word, *told, next_best, refusals, numbers["place"])
+    reported = (numbers["penalty"], numbers["gap"], numbers["visits"])
+    return FoundMany(bits, word, *reported, next_best, refusals, numbers["place"])
 
 
 def _tried(way: _Way, sizes: _Sizes, zeros: npt.NDArray[Any]) -> None:
@@ -388,7 +388,7 @@ def search_many(
 ) -> FoundMany:
     """`search` for each row of a 2-D array, in as many threads as there are processors.
 
-    A row that is refused has its number in ``refusal``; what is wrong with all rows alike (the
+    A row that is refused has its number in ``refusal``; what is wrong with all rows (the
     code, their length, the named indices) is raised.
 
     >>> search_many(1, 2, np.array([[5, -2, 3, 1], [1, 0, 0, 0]], np.int16)).refusal

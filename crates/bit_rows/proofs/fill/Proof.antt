@@ -1,4 +1,4 @@
--- The loop's invariant is `Filled`: what is filled stands in front of what the row held.
+-- The loop's invariant is `Filled`: what is filled comes first, then what the row held.
 use mathlib.Core.Logic.{⊎-elim}
 use Prim.Native.Nat.{_-_, _<_}
 use native.Mathlib.Omega.{arith}

@@ -1,4 +1,4 @@
--- Each arm fills by the kinds that d stands for.
+-- Each arm fills by the kinds of d.
 use borrow.Author.Needs.{needs}
 use mathlib.Core.Path.{ap, sym, _∙_, subst}
 use mathlib.Core.List.{List}

@@ -1,4 +1,4 @@
--- The loop's invariant: the sums stand in front of what is as it was.
+-- The loop's invariant: the sums come first, then what is unchanged.
 use mathlib.Core.Path.{_≡_, refl, ap, _∙_}
 use Prim.Native.Nat.{_+_, _-_, _≤_, zero-le}
 use native.Mathlib.Omega.{arith}

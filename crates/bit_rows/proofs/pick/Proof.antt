@@ -1,4 +1,4 @@
--- The loop's invariant is `Picked`; a pass takes a part of eight kinds, and the fewer than eight that are left are passed one by one.
+-- The loop's invariant is `Picked`; a pass takes a part of eight kinds, and the last few, fewer than eight, are taken one by one.
 use mathlib.Core.Path.{_∙_}
 use Prim.Native.Nat.{_-_}
 use native.Mathlib.Omega.{arith}

@@ -1,4 +1,4 @@
--- In each arm the first eight kinds are those that their number stands for.
+-- In each arm the first eight kinds are those that their number encodes.
 use borrow.Author.Needs.{needs}
 use mathlib.Core.Path.{_≡_, ap, sym, _∙_, subst}
 use mathlib.Core.List.{List}

@@ -1,4 +1,4 @@
--- A word of fewer than eight bits is copied and transformed; eight are put as one number, more as blocks of sixteen, with the layers that are left.
+-- A word of fewer than eight bits is copied and transformed; eight are put as one number, more as blocks of sixteen, followed by the remaining layers.
 use mathlib.Core.Path.{_≡_, ap, sym, subst, _∙_}
 use mathlib.Core.List.{_++_}
 use Prim.Native.Nat.{ℕ, _+_, _-_, _*_, _^_, _%_, _≤_}

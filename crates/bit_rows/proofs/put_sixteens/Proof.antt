@@ -1,4 +1,4 @@
--- The loop's invariant is `Putting`: the words of the blocks before at stand in the row.
+-- The loop's invariant is `Putting`: the words of the blocks before `at` are in the row.
 use Prim.Native.Nat.{_-_}
 use native.Mathlib.Omega.{arith}
 use Rattle.words.specs.Word.{transform}

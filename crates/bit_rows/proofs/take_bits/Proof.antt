@@ -1,4 +1,4 @@
--- The row stands in the front of the scratch array.
+-- The row is at the front of the scratch array.
 use borrow.Author.Needs.{needs}
 use mathlib.Core.Path.{_≡_, ap, sym, _∙_}
 use Prim.Native.Nat.{_-_, _≤_}

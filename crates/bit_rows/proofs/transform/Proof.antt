@@ -1,4 +1,4 @@
--- The layers that are left, after blocks of one bit or of eight, give the word by halves.
+-- The remaining layers, after blocks of one bit or of eight, give the word by halves.
 use borrow.Author.Needs.{needs}
 use mathlib.Core.Path.{_≡_, ap, sym, subst, _∙_}
 use Prim.Native.Nat.{ℕ, _+_, _-_, _^_}

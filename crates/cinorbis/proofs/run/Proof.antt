@@ -3,7 +3,7 @@ use mathlib.Core.Path.{_≡_, refl, _∙_}
 use mathlib.Core.Logic.{inl, inr}
 use native.Mathlib.Omega.{arith}
 use lib.ListN.{length}
-use Rattle.cinorbis.specs.EndLaws.{Along, along-start, along-stands, along-round, along-ran}
+use Rattle.cinorbis.specs.EndLaws.{Along, along-start, along-bounded, along-round, along-ran}
 use Rattle.cinorbis.proofs.run.Statement.{statement}
 use Rattle.cinorbis.proofs.run.Tie as tie
 
@@ -26,8 +26,8 @@ round-requires : tie.Need-round-requires Inv-loop μ-loop
 round-requires c κs =
     let o = c .before .before .before .before .loop in
     let along = o .inv .0 in
-    let stands = along-stands (o .left) (o .s) (o .input) (o .output) along in
-    (stands .ready, along .space, omega (arith, stands .counts, along .count))
+    let bounded = along-bounded (o .left) (o .s) (o .input) (o .output) along in
+    (bounded .ready, along .space, omega (arith, bounded .counts, along .count))
 
 sub-left : tie.Need-sub-left Inv-loop μ-loop
 sub-left c = omega arith

@@ -42,7 +42,7 @@ returns-2 c =
     let s = made .before .before .before .before .args in
     let code = made .before .code .given .0 .0 in
     c .admit-for .ensures
-    ∙ ap (λ (due : ℕ). admittedBy code due (s .readings .now) (s .bits) (s .word)) (c .before .dimension .ensures)
+    ∙ ap (λ (expected : ℕ). admittedBy code expected (s .readings .now) (s .bits) (s .word)) (c .before .dimension .ensures)
     ∙ tested-made dimensionOf (s .r) (s .m) (s .readings .now) (s .bits) (s .word) code (is-made made)
 
 pub admit-spec : {M : Type 1} → statement M

@@ -15,18 +15,18 @@ length-requires c κs = search needs
 returns : tie.Need-returns
 returns c =
     let s = c .before .before .args in
-    refused-input (s .code) (s .due) (s .readings .now) (s .bits) (s .word) (λ e. c .if1 .taken (e ∙ sym (c .before .length .ensures)))
+    refused-input (s .code) (s .expected) (s .readings .now) (s .bits) (s .word) (λ e. c .if1 .taken (e ∙ sym (c .before .length .ensures)))
 
 returns-2 : tie.Need-returns-2
 returns-2 c =
     let s = c .before .before .before .args in
-    refused-bits (s .code) (s .due) (s .readings .now) (s .bits) (s .word) (c .before .if1 .left ∙ c .before .before .length .ensures) (c .if2 .taken)
+    refused-bits (s .code) (s .expected) (s .readings .now) (s .bits) (s .word) (c .before .if1 .left ∙ c .before .before .length .ensures) (c .if2 .taken)
 
 returns-3 : tie.Need-returns-3
 returns-3 c =
     let s = c .before .before .before .before .args in
     let n = c .before .before .before .length .ensures in
-    refused-word (s .code) (s .due) (s .readings .now) (s .bits) (s .word) (c .before .before .if1 .left ∙ n) (c .before .if2 .left)
+    refused-word (s .code) (s .expected) (s .readings .now) (s .bits) (s .word) (c .before .before .if1 .left ∙ n) (c .before .if2 .left)
     (λ e. c .if3 .taken (e ∙ sym n))
 
 first-bad-reading-requires : tie.Need-first-bad-reading-requires
@@ -37,7 +37,7 @@ returns-4 c =
     let s = c .before .before .before .before .before .before .args in
     let n = c .before .before .before .before .before .length .ensures in
     ap (λ (place : ℕ). Refused (Entry place)) (c .before .first-bad-reading .ensures)
-    ∙ refused-entry (s .code) (s .due) (s .readings .now) (s .bits) (s .word) (c .before .before .before .before .if1 .left ∙ n)
+    ∙ refused-entry (s .code) (s .expected) (s .readings .now) (s .bits) (s .word) (c .before .before .before .before .if1 .left ∙ n)
     (c .before .before .before .if2 .left) (c .before .before .if3 .left ∙ n)
     (omega (arith, c .before .first-bad-reading .ensures, c .before .before .before .before .if1 .left))
 
@@ -45,7 +45,7 @@ returns-5 : tie.Need-returns-5
 returns-5 c =
     let s = c .before .before .before .before .before .before .args in
     let n = c .before .before .before .before .before .length .ensures in
-    allowed (s .code) (s .due) (s .readings .now) (s .bits) (s .word) (c .before .before .before .before .if1 .left ∙ n)
+    allowed (s .code) (s .expected) (s .readings .now) (s .bits) (s .word) (c .before .before .before .before .if1 .left ∙ n)
     (c .before .before .before .if2 .left) (c .before .before .if3 .left ∙ n)
     (omega (arith, c .before .first-bad-reading .ensures, c .before .before .before .before .if1 .left))
 

@@ -1,4 +1,4 @@
--- `beyond`: the two signed tests are one on the size.
+-- `beyond`: the two signed tests are one test on the size.
 use mir.Facts.{toZ-ofZ}
 use Rattle.code.specs.EntriesLaws.{low-fits, beyond-below, beyond-above}
 use Rattle.code.proofs.beyond.Statement.{statement}

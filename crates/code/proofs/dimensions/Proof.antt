@@ -11,7 +11,7 @@ use Rattle.code.proofs.dimensions.Tie as tie
 same-row : (k m : ℕ) → k ≡ m → tabulate (λ r. dimension r k) 9 ≡ tabulate (λ r. dimension r m) 9
 same-row k m e = ap (λ (n : ℕ). tabulate (λ r. dimension r n) 9) e
 
--- m is no number up to k
+-- m is none of the numbers up to k
 past : (k m : ℕ) → k ≤ m → (m ≡ k → ⊥) → suc k ≤ m
 past k m h n = omega arith
 

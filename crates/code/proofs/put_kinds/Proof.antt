@@ -1,4 +1,4 @@
--- `put_kinds`: the row is the kinds as far as the loop has come.
+-- `put_kinds`: the row holds the kinds up to where the loop is.
 use Prim.Native.Nat.{_≤_, _-_}
 use mathlib.Core.Path.{_≡_, refl, sym, _∙_}
 use native.Mathlib.Omega.{arith}

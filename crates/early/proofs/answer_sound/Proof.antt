@@ -12,7 +12,7 @@ use Rattle.code.specs.SoundLaws.{length-most, dimension-largest}
 use Rattle.early.proofs.answer_sound.Statement.{statement}
 use Rattle.early.proofs.answer_sound.Tie as tie
 
--- such a front is as long as it is asked for
+-- such a front has the requested length
 own-front : (k : ℕ) → k ≤ 256 → length {A = ℕ} (midOf 0 (k - 0) (replicate 256 0)) ≡ k
 own-front k h = let zeros : List ℕ = replicate 256 0 in ap length (lent-to k zeros) ∙ length-take-le k zeros h
 

@@ -38,7 +38,7 @@ doubt-at-requires c κs =
     let j = c .before .before .before .loop .j in
     (rw (toZ-ofZ (record { sfits = c .before .doubt-at-arg .given })) (g .pre .within j), g .pre .small)
 
--- a position more
+-- one more position
 more : (c : tie.After-doubt-at Inv-loop μ-loop)
     → let g = c .before .before .before .before .before .before .args in
     let o = c .before .before .before .before .loop in

@@ -1,4 +1,4 @@
--- M and one part of the reading, less the other.
+-- M plus one part of the reading, minus the other.
 use borrow.Author.Needs.{needs}
 use mathlib.Core.Path.{_≡_, refl}
 use Prim.Native.Nat.{ℕ, zero, suc, _+_, _-_}

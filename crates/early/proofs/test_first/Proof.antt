@@ -1,4 +1,4 @@
--- The quick reading stands in the two lent rows; by its test it is copied, or the search answers.
+-- The quick reading is in the two lent rows; if it passes the test it is copied, otherwise the search answers.
 use borrow.Author.Needs.{needs}
 use mathlib.Core.Path.{ap, sym, _∙_}
 use native.Mathlib.Omega.{arith}
@@ -36,7 +36,7 @@ same-length-3 c = search needs
 same-length-4 : tie.Need-same-length-4
 same-length-4 c = search needs
 
--- the places that the returns look back to, each behind the next
+-- the places that the returns look back to, each after the next
 abbrev entry : tie.After-take-reading → tie.Start
 entry c = c .before .before .before .before .before .before .before
 

@@ -1,4 +1,4 @@
--- The row eight indices at a time, or by the kinds that stand in the front of the scratch array.
+-- The row is filled eight indices at a time, or by the kinds at the front of the scratch array.
 use borrow.Author.Needs.{needs}
 use mathlib.Core.List.{List}
 use Prim.Native.Nat.{ℕ, _^_, _≤_}

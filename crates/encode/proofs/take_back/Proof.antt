@@ -1,4 +1,4 @@
--- The kinds and the row stand in the fronts of two scratch arrays.
+-- The kinds and the row are at the fronts of two scratch arrays.
 use mathlib.Core.List.{List}
 use Prim.Native.Nat.{ℕ}
 use native.Mathlib.Omega.{arith}

@@ -1,4 +1,4 @@
--- After j passes the first j sums and the first j differences stand in their places.
+-- After j passes the first j sums and the first j differences are in their places.
 use mathlib.Core.Path.{_≡_, refl, ap, ap₂, _∙_}
 use Prim.Native.Nat.{_+_, _-_, _≤_, zero-le}
 use native.Mathlib.Omega.{arith}
@@ -94,7 +94,7 @@ sub-row c =
     let j = c .before .before .before .loop .j in
     let x = getD d j (pos 0) in
     let y = getD d (h + j) (pos 0) in
-    -- the difference of two, whichever is taken from the other
+    -- the difference of two, whichever is subtracted from the other
     let small : natAbs (x -ℤ y) ≤ natAbs x + natAbs y = size-combined 1 x y in
     let turned : natAbs (y -ℤ x) ≤ natAbs y + natAbs x = size-combined 1 y x in
     rw (pair c .0, pair c .1) (fits-size _ (omega (arith, small, turned, pair-small d h (s .pre .0) j (omega arith), s .pre .1)))

@@ -13,7 +13,7 @@ use Rattle.code.specs.declared.Refusal.the-variants.{Tied}
 use Rattle.code.specs.SoundLaws.{length-most}
 use Rattle.search.specs.Outcome.{foundWith, refused}
 use Rattle.decoding.specs.PathLaws.{hard-bit}
-use Rattle.first_order.specs.OutcomeLaws.{sums-small, best-most, tied-told, found-told}
+use Rattle.first_order.specs.OutcomeLaws.{sums-small, best-most, tied-reported, found-reported}
 use borrow.Author.Needs.{needs}
 use Rattle.first_order.proofs.decode.Statement.{statement}
 use Rattle.first_order.proofs.decode.Tie as tie
@@ -65,7 +65,7 @@ returns c =
     let f = at .find in
     let r = f .result in
     ap (λ (t : ℕ). refused (Tied ((t - r .best) / 2) 0) (a .bits .now) (a .word .now)) (sized .total-size .ensures)
-    ∙ tied-told (a .m) (a .readings .now) (a .bits .now) (a .word .now) (s .pre) (r .place) (r .best) (r .second) (f .ensures .largest) (c .if1 .taken)
+    ∙ tied-reported (a .m) (a .readings .now) (a .bits .now) (a .word .now) (s .pre) (r .place) (r .best) (r .second) (f .ensures .largest) (c .if1 .taken)
 
 put-bits-requires : tie.Need-put-bits-requires
 put-bits-requires c κs =
@@ -116,7 +116,7 @@ returns-2 c =
     let b = bitted .put-bits in
     let w = worded .put-word in
     ap (λ (t : ℕ). foundWith ((t - r .best) / 2) ((r .best - r .second) / 2) 0 (b .last .0) (w .last .0)) (sized .total-size .ensures)
-    ∙ found-told (a .m) (a .readings .now) (a .bits .now) (a .word .now) (s .pre) (r .place) (r .best) (r .second) (f .ensures .largest)
+    ∙ found-reported (a .m) (a .readings .now) (a .bits .now) (a .word .now) (s .pre) (r .place) (r .best) (r .second) (f .ensures .largest)
     (tested .if1 .left) (r .sign) (f .ensures .sign-is) (b .last .0) (w .last .0) (b .ensures) (w .ensures)
 
 pub decode-spec : {M : Type 1} → statement M

@@ -1,4 +1,4 @@
--- After j passes the first j bits stand again behind the first h.
+-- After j passes the first j bits are repeated after the first h.
 use mathlib.Core.Path.{_≡_, refl, ap, _∙_}
 use Prim.Native.Nat.{_-_, _≤_}
 use native.Mathlib.Omega.{arith}

@@ -1,4 +1,4 @@
--- The place by the largest key; the next size once that entry is wiped.
+-- The place by the largest key; the next size once that entry is set to 0.
 use mathlib.Core.Path.{ap, _∙_}
 use Prim.Native.Nat.{_%_, _^_, _-_}
 use native.Mathlib.Omega.{arith}

@@ -1,4 +1,4 @@
--- The bits are the digits as far as the loop has come; then comes the last.
+-- The bits are the digits up to where the loop is; then comes the last.
 use mathlib.Core.Path.{_≡_, refl, ap, ap₂, sym, _∙_}
 use mathlib.Core.List.{List}
 use Prim.Native.Nat.{ℕ, suc, _-_, _^_, _%_, _/_, _≤_}

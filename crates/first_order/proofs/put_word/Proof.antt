@@ -42,7 +42,7 @@ double-requires c κs =
     let d = doubles (o .p) (s .args .m) (o .h) (length (o .word)) (c .before .loop-test .taken) (s .pre .1) (o .inv .1) long in
     (d .room, subst Bits (sym (o .inv .2)) (bits-firstOrder (o .p) (s .args .place) (s .args .sign)), omega arith)
 
--- the step of the word as it stands
+-- the step of the current word
 step : (c : tie.After-slice-known2 Inv-loop μ-loop)
     → let o = c .before .before .before .before .before .loop in
     Doubles (o .p) (o .h) (length (o .word))

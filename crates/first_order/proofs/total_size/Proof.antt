@@ -40,7 +40,7 @@ size-requires c κs =
     let size = reading-size z (record { sfits = c .size-arg .given }) in
     rw (reading-read {z = z} (record { sfits = c .size-arg .given })) (omega arith)
 
--- a reading more
+-- one more reading
 more : (c : tie.After-size Inv-loop μ-loop)
     → let o = c .before .before .before .loop in
     o .sum + c .size .result ≡ sizes (take (o .j + 1) (c .before .before .before .before .args .readings .now))

@@ -1,4 +1,4 @@
--- `float_memory::any_value`: one reading is its own value; else the rows are made, from the highest that changes on.
+-- `float_memory::any_value`: one reading is its own value; else the rows are made, starting with the highest that changes.
 use borrow.Author.Needs.{needs}
 use native.Mathlib.Omega.{arith}
 use Rattle.float_numbers.specs.WholesLaws.{length-wholes}

@@ -1,4 +1,4 @@
--- `float_memory::first_row`: from the readings where it is the highest of all, else from the row above it.
+-- `float_memory::first_row`: from the readings if it is the highest of all, else from the row above it.
 use borrow.Author.Needs.{needs}
 use mathlib.Core.Path.{_≡_, ap, sym, _∙_, subst}
 use mathlib.Core.List.{List}

@@ -1,4 +1,4 @@
--- `float_memory::make_rows`: from the row of 2^t sums on the rows stand for i.
+-- `float_memory::make_rows`: from the row of 2^t sums down, the rows are right for i.
 use mathlib.Core.Path.{_≡_, sym, _∙_, subst}
 use Prim.Native.Nat.{ℕ, _-_, _^_, _≤_, _<_, suc}
 use native.Mathlib.Omega.{arith}

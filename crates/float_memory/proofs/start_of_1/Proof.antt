@@ -1,4 +1,4 @@
--- `float_memory::start_of_1`: the upper row alone.
+-- `float_memory::start_of_1`: only the upper row.
 use borrow.Author.Needs.{needs}
 use mathlib.Core.Path.{refl}
 use Prim.Native.Nat.{_-_}

@@ -1,4 +1,4 @@
--- `float_memory::value`: by straight code where i is the next index and starts no block of eight.
+-- `float_memory::value`: by straight code if i is the next index and starts no block of eight.
 use borrow.Author.Needs.{needs}
 use native.Mathlib.Omega.{arith}
 use Rattle.memory.specs.Memory.{Top}

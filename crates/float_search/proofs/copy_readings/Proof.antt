@@ -1,4 +1,4 @@
--- `float_search::copy_readings`: what is copied stands in front of what is as it was.
+-- `float_search::copy_readings`: what is copied comes first, then what is unchanged.
 use mathlib.Core.Path.{_≡_, refl, _∙_}
 use Prim.Native.Nat.{_-_, _≤_, zero-le}
 use native.Mathlib.Omega.{arith}

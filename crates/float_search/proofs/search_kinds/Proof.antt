@@ -27,7 +27,7 @@ use Rattle.float_search.proofs.search_kinds.Tie as tie
 abbrev beside : Outcome → List ℕ → RunnerUpOutcome
 beside o x = record { outcome = o; runnerUp = x }
 
--- the walk was not out
+-- the walk was not out of visits
 on : (c : tie.Else1) → ltb 0 (getD (c .before .walk .last .1 .1 .1 .1 .1 .1 .0) 4 0) ≡ false
 on c = le-ltb 0 (getD (c .before .walk .last .1 .1 .1 .1 .1 .1 .0) 4 0) (omega (arith, c .if1 .left))
 

@@ -1,4 +1,4 @@
--- `float_search::search_sound`: the kinds and the readings stand in the fronts of arrays of 256.
+-- `float_search::search_sound`: the kinds and the readings are at the fronts of arrays of 256.
 use borrow.Author.Needs.{needs}
 use mathlib.Core.Path.{_≡_, ap, ap₂, sym, _∙_}
 use mathlib.Core.List.{List, _++_}

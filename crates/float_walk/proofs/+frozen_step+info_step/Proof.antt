@@ -1,5 +1,5 @@
 -- The float walk's two steps, which call each other in turn, meet their contracts. The measure is twice the number of indices still to choose, and one
--- more in the frozen step. The laws of `walk` speak of the eight numbers; what is held goes over them.
+-- more in the frozen step. The laws of `walk` are about the eight numbers; what is held is translated into them.
 use borrow.Author.Needs.{needs}
 use mathlib.Core.Path.{_≡_, refl, ap, ap₂, sym, _∙_, subst}
 use mathlib.Core.List.{List}
@@ -62,7 +62,7 @@ abbrev info-step-below : ℕ → In 8 info-step-kinds.ps
 info-step-below t =
     and 8 info-step-kinds.ps (falls 8 info-step-kinds.ps _<_ μ-info-step t) info-step.Pre
 
--- the walk from the index that the loop has come to is the walk from its first one
+-- the walk from the index that the loop has reached is the walk from its first one
 abbrev frozen-step-Inv-loop : frozen-step-lts.InvT-loop
 frozen-step-Inv-loop readings kinds rows₀ path₀ word₀ best₀ second₀ state₀ held from penalty i₀ sum₀ rows path word best second state i sum =
     FloatReached (wholes readings) kinds path₀ best₀ second₀ state₀ held from penalty (wholes rows) path best second state i sum
@@ -114,7 +114,7 @@ frozen-step-full-requires : (t : ℕ)
     → frozen-step-lts.Need-full-requires (frozen-step-calls t) (frozen-step-at t) frozen-step.Post frozen-step-Inv-loop frozen-step-μ-loop
 frozen-step-full-requires t c κs = c .before .loop .inv .reached .asked .ready .room
 
--- a pass of the loop, where the path is not full; the value made in it; what comes of a 0, and that it is kept
+-- a pass of the loop, where the path is not full; the value made in it; what a 0 leads to, and that it is kept
 abbrev Pass : ℕ → Type 0
 Pass t = frozen-step-lts.Then1 (frozen-step-calls t) (frozen-step-at t) frozen-step.Post frozen-step-Inv-loop frozen-step-μ-loop
 
@@ -196,7 +196,7 @@ frozen-step-value-at-requires t c κs =
     asked-over h (v .shows .long)
     (value-asked (pass .before .before .before .loop .inv .reached .asked) (inside t pass) (visit-over h (may-visit (allowed .if3 .left) v)))
 
--- the value at the index that the loop has come to
+-- the value at the index that the loop has reached
 abbrev frozen-at : (t : ℕ) → Pass t → ℤ
 frozen-at t c =
     let o = c .before .before .before .loop in
@@ -249,7 +249,7 @@ frozen-step-enum-told : (t : ℕ)
     → frozen-step-lts.Need-enum-told (frozen-step-calls t) (frozen-step-at t) frozen-step.Post frozen-step-Inv-loop frozen-step-μ-loop
 frozen-step-enum-told t c = search needs
 
--- what comes of the 0, and of one that is kept
+-- what the 0 leads to, and one that is kept
 frozen-extends : (t : ℕ) (c : Extended-by-0 t) → let pass = pass-of t (c .before) in
     Extends (pass .before .before .before .before .args .held) (count (pass .before .before .before .loop .sum) + loss (frozen-at t pass) 0) (c .extend .result)
 frozen-extends t c =
@@ -454,7 +454,7 @@ start-of t c =
     let chosen = c .before .before .before .before .before .before .before .before .before in
     chosen .before .before .before .before .before .before .before .before .before
 
--- the eight numbers then
+-- the eight numbers at that point
 abbrev under-of : (t : ℕ) → Below t → List ℕ
 under-of t c = eightOf (c .frozen-step .result) (c .frozen-step .last .1 .1 .1 .1 .1 .1 .1 .0)
 
@@ -551,7 +551,7 @@ info-step-enum-known-after t c = search needs
 info-step-enum-told : (t : ℕ) → info-step-lts.Need-enum-told (info-step-calls t) (info-step-at t) info-step.Post
 info-step-enum-told t c = search needs
 
--- what the walk holds then
+-- what the walk holds at that point
 abbrev held-again : (t : ℕ) → Again t → Penalties
 held-again t c = c .before .before .before .frozen-step .result
 

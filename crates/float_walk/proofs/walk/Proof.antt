@@ -1,4 +1,4 @@
--- `float_walk::walk`: the first step is asked and gives what the whole walk does; no row stands yet.
+-- `float_walk::walk`: the first step requires and gives what the whole walk does; no row has been made yet.
 use borrow.Author.Needs.{needs}
 use native.Mathlib.Omega.{arith}
 use Prim.Native.Nat.{ℕ, _*_, _%_, _^_}

@@ -1,4 +1,4 @@
--- The loop's invariant: the first i images stand h further on, with the column added.
+-- The loop's invariant: the first i images are repeated h further on, with the column added.
 use mathlib.Core.Path.{_≡_, refl, subst, _∙_}
 use Prim.Native.Nat.{_-_, _≤_}
 use native.Mathlib.Omega.{arith}

@@ -1,4 +1,4 @@
--- The loop's invariant: each position passed stands at its own image's place.
+-- The loop's invariant: each position passed is at its own image's place.
 use mathlib.Core.Path.{_≡_, sym, _∙_}
 use Prim.Native.Nat.{ℕ, _-_, _≤_, _<_}
 use native.Mathlib.Omega.{arith}

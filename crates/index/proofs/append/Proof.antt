@@ -1,4 +1,4 @@
--- `index::append` meets its contract: with no room for its entry a record is refused; else it is written, and its entry.
+-- `index::append` meets its contract: with no room for its entry a record is refused; else the record and its entry are written.
 use mathlib.Core.Path.{ap, sym, _∙_}
 use native.Mathlib.Omega.{arith}
 use Rattle.record.specs.declared.Written.{Written}

@@ -1,4 +1,4 @@
--- `index::pass` meets its contract: what is left of the way leads to the same place.
+-- `index::pass` meets its contract: the remaining steps lead to the same place.
 use mathlib.Core.Path.{_≡_, refl, sym, _∙_}
 use native.Mathlib.Omega.{arith}
 use Rattle.index.specs.Steps.{passed}

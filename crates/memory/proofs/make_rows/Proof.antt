@@ -1,4 +1,4 @@
--- `make_rows`: from the row of 2^t sums on the rows stand for i.
+-- `make_rows`: from the row of 2^t sums on the rows are made for i.
 use Rattle.memory.specs.CodeLaws.{short, row-fits, row-small, row-made, pass-ready, made-above, same-arrays}
 use Rattle.memory.specs.Memory.{Arrays, Made}
 use lib.ListN.{length, take}

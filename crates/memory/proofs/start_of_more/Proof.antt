@@ -1,4 +1,4 @@
--- `start_of_more`: from the row of 2^u sums on the rows stand for i; the last three by their lengths as constants.
+-- `start_of_more`: from the row of 2^u sums on the rows are made for i; the last three by their lengths as constants.
 use Rattle.memory.specs.CodeLaws.{made-above, same-arrays, start-asked, start-made}
 use Rattle.memory.specs.Memory.{Arrays, Made}
 use Rattle.decoding.specs.Quick.{lowerRow}
@@ -63,7 +63,7 @@ loop-again c =
 abbrev begin : tie.After-lower-row-arg2 Inv-loop μ-loop → tie.Start Inv-loop μ-loop
 begin c = c .before .before .before .before .before .before .before .before .before .before .before
 
--- in the array the rows of 2^u sums and more stand for i
+-- in the array the rows of 2^u sums and more are made for i
 abbrev From : tie.Start Inv-loop μ-loop → ℕ → List ℤ → Type 0
 From g u s =
     let v = g .args in

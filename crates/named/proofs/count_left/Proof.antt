@@ -1,4 +1,4 @@
--- So many are left before i.
+-- The count is of the indices left before i.
 use mathlib.Core.Path.{_≡_, ap, sym, _∙_}
 use Prim.Native.Nat.{_-_, _+_}
 use native.Mathlib.Omega.{arith}
@@ -34,7 +34,7 @@ kind-left-requires c κs = tt
 wide-requires : tie.Need-wide-requires Inv-loop μ-loop
 wide-requires c κs = tt
 
--- one index more
+-- one more index
 more : (c : tie.After-wide Inv-loop μ-loop)
     → let l = c .before .before .before .before .before .loop in
     let s = c .before .before .before .before .before .before .before .args in

@@ -1,4 +1,4 @@
--- Each return is the test as far as it was made.
+-- Each return is the test as far as it has been made.
 use mathlib.Core.Path.{ap, sym, _∙_}
 use native.Mathlib.Omega.{arith}
 use lib.Dec.{ltb}

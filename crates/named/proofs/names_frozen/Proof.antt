@@ -28,7 +28,7 @@ kind-requires c κs = let s = c .before .before .before .before in (s .pre .0, o
 named-frozen-requires : tie.Need-named-frozen-requires Inv-loop μ-loop
 named-frozen-requires c κs = tt
 
--- what is asked at index i
+-- what is tested at index i
 asked : (c : tie.After-named-frozen Inv-loop μ-loop)
     → let l = c .before .before .before .before .loop in
     let s = c .before .before .before .before .before .before .args in

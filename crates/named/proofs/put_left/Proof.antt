@@ -1,4 +1,4 @@
--- The row is the kinds left as far as the loop has come.
+-- The row holds the kinds left up to where the loop is.
 use mathlib.Core.Path.{_≡_, refl, ap, sym, _∙_}
 use Prim.Native.Nat.{_-_, _≤_}
 use native.Mathlib.Omega.{arith}

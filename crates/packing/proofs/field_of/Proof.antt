@@ -1,4 +1,4 @@
--- `packing::field_of` meets its contract: nothing wraps, and the rest of the division is the field.
+-- `packing::field_of` meets its contract: nothing wraps, and the remainder of the division is the field.
 use mathlib.Core.Path.{_≡_, ap, _∙_}
 use native.Mathlib.Omega.{arith}
 use lib.IntN.{ℤ, pos, _+ℤ_}

@@ -1,4 +1,4 @@
--- `packing::reading_of` meets its contract: the bottom rail; below 2,048 the field itself; else 4,096 less.
+-- `packing::reading_of` meets its contract: the bottom rail; below 2,048 the field itself; else the field minus 4,096.
 use mathlib.Core.Path.{_≡_, _∙_}
 use Prim.Native.Nat.{_-_}
 use native.Mathlib.Omega.{arith}

@@ -1,4 +1,4 @@
--- `packing::readings_in` meets its contract: no code that was passed has such a part.
+-- `packing::readings_in` meets its contract: none of the codes passed has such a part.
 use mathlib.Core.Path.{_≡_, refl, ap, _∙_, sym}
 use Prim.Native.Nat.{ℕ, suc, _≤_}
 use native.Mathlib.Omega.{arith}

@@ -1,4 +1,4 @@
--- `program::one` meets its contract: the header tells, or the search.
+-- `program::one` meets its contract: by the header's refusal, or by the search.
 use mathlib.Core.Path.{_≡_, sym, _∙_, subst}
 use Rattle.record.specs.declared.Header.{Header}
 use Rattle.record.specs.Reader.{headerOf}

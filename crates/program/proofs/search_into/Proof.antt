@@ -35,7 +35,7 @@ module _ (r : tie.After-search-framed) where
       searched-result (g .args .s .now) (g .args .code) bits (r .search-framed .last .1 .1 .1 .1 .0) (g .args .bits .now) (g .args .word .now)
       (g .pre .0 .0) (g .pre .0 .1) (g .pre .0 .2) (r .search-framed .result .result) (ap (λ (o : RunnerUpOutcome). o .outcome) (r .search-framed .ensures))
 
--- and where it is an answer
+-- and if it is an answer
 module _ (c : tie.After-known-told) where
   abbrev at-search : tie.After-search-framed
   at-search = c .before .before .before .before .before .before .before
@@ -46,8 +46,8 @@ module _ (c : tie.After-known-told) where
   found : answered (bits at-search) (values .0) (values .1) (values .2) ≡ resultOf (g at-search .args .s .now)
   found = ap (λ (a : Searched). resultIn a (bits at-search)) (sym (c .before .result .given .1)) ∙ says at-search
 
-tell-requires : tie.Need-tell-requires
-tell-requires c κs =
+report-requires : tie.Need-report-requires
+report-requires c κs =
     let k = c .before .before in
     let g = k .before .before .before .before .before .before .before .before .before .before .before .before .before .before in
     let r = k .before .before .before .before .before .before .before .search-framed in
@@ -72,7 +72,7 @@ returns : tie.Need-returns
 returns c =
     let k = c .before .before .before .before .before in
     let g = k .before .before .before .before .before .before .before .before .before .before .before .before .before .before .args in
-    let t = c .before .before .tell in
+    let t = c .before .before .report in
     subst (λ (x : Result). Stepped (g .w) (g .s .now) x (g .out .now) (g .at) (t .result) (t .last .1 .1 .1 .1 .1 .1 .0)) (found k) (t .ensures)
 
 same-length-4 : tie.Need-same-length-4
@@ -99,7 +99,7 @@ search-into-spec =
     (tie.spec
     search-framed-requires
     enum-known-result
-    tell-requires
+    report-requires
     enum-known-result-2
     refuse-requires
     same-length

@@ -1,4 +1,4 @@
--- `cinorbis_encode` tells the outcome of `encode`.
+-- `cinorbis_encode` reports the outcome of `encode`.
 use Rattle.answers.specs.ReportedLaws.{reported-encoded}
 use borrow.Author.Needs.{needs}
 use Rattle.pumpbox.proofs.cinorbis_encode.Statement.{statement}

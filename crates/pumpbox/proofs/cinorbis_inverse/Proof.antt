@@ -1,4 +1,4 @@
--- `cinorbis_inverse` tells the outcome of `inverse`.
+-- `cinorbis_inverse` reports the outcome of `inverse`.
 use Rattle.answers.specs.ReportedLaws.{reported-encoded}
 use borrow.Author.Needs.{needs}
 use Rattle.pumpbox.proofs.cinorbis_inverse.Statement.{statement}

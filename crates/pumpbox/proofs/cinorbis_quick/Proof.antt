@@ -1,4 +1,4 @@
--- `cinorbis_quick` tells the outcome of `quick`.
+-- `cinorbis_quick` reports the outcome of `quick`.
 use Rattle.answers.specs.ReportedLaws.{reported-read}
 use borrow.Author.Needs.{needs}
 use Rattle.pumpbox.proofs.cinorbis_quick.Statement.{statement}

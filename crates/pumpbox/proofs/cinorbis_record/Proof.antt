@@ -1,4 +1,4 @@
--- `cinorbis_record` tells the header and the length of the packed part.
+-- `cinorbis_record` reports the header and the length of the packed part.
 use Rattle.record.specs.Reader.{headerOf, partBy}
 use Rattle.answers.specs.ReportedLaws.{reported-part}
 use borrow.Author.Needs.{needs}

@@ -1,4 +1,4 @@
--- `cinorbis_search` tells the outcome of `search`.
+-- `cinorbis_search` reports the outcome of `search`.
 use borrow.Author.Needs.{needs}
 use Rattle.answers.specs.ReportedLaws.{reported-runner-up}
 use Rattle.pumpbox.proofs.cinorbis_search.Statement.{statement}

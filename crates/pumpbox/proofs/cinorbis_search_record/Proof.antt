@@ -1,4 +1,4 @@
--- `cinorbis_search_record` tells the outcome of `search_record`.
+-- `cinorbis_search_record` reports the outcome of `search_record`.
 use borrow.Author.Needs.{needs}
 use Rattle.answers.specs.ReportedLaws.{reported-runner-up}
 use Rattle.pumpbox.proofs.cinorbis_search_record.Statement.{statement}

@@ -1,4 +1,4 @@
--- `cinorbis_search_within` tells the outcome of `search_within`.
+-- `cinorbis_search_within` reports the outcome of `search_within`.
 use borrow.Author.Needs.{needs}
 use Rattle.answers.specs.ReportedLaws.{reported-runner-up}
 use Rattle.pumpbox.proofs.cinorbis_search_within.Statement.{statement}

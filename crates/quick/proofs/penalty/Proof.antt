@@ -44,7 +44,7 @@ loss-requires c κs =
     let size = reading-size (getD (g .readings .now) j (pos 0)) (record { sfits = c .before .loss-arg .given }) in
     rw (reading-read {z = getD (g .readings .now) j (pos 0)} (record { sfits = c .before .loss-arg .given })) (omega arith)
 
--- a position more
+-- one more position
 more : (c : tie.After-loss Inv-loop μ-loop)
     → let g = c .before .before .before .before .before .before .args in
     let o = c .before .before .before .before .loop in

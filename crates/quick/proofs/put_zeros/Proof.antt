@@ -1,4 +1,4 @@
--- `put_zeros`: the word is zeros as far as the loop has come.
+-- `put_zeros`: the word is zeros up to where the loop is.
 use mathlib.Core.Path.{_≡_, refl, _∙_}
 use Prim.Native.Nat.{_-_, _≤_}
 use native.Mathlib.Omega.{arith}

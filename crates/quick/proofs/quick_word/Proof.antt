@@ -1,4 +1,4 @@
--- The top of the recursion: the first cut reads the readings, and all rows below stand in the scratch array of 256 sums.
+-- The top of the recursion: the first cut reads the readings, and all rows below are in the scratch array of 256 sums.
 use borrow.Author.Needs.{needs}
 use mathlib.Core.Path.{_≡_, ap, _∙_}
 use mathlib.Core.List.{List}
@@ -60,7 +60,7 @@ lower-top-requires c κs =
 slice-aggregate-first-half : tie.Need-slice-aggregate-first-half
 slice-aggregate-first-half c = search needs
 
--- the places that the later ones look back to, each behind the next
+-- the places that the later ones look back to, each after the next
 abbrev entry : tie.After-lower-top → tie.Start
 entry c = c .before .before .before .before .before
 

@@ -1,4 +1,4 @@
--- The kinds stand in the front of the scratch array; word, bits and penalty are those of the written steps.
+-- The kinds are at the front of the scratch array; word, bits and penalty are those of the written steps.
 use borrow.Author.Needs.{needs}
 use mathlib.Core.Path.{sym, _∙_}
 use Prim.Native.Nat.{_-_, _≤_}
@@ -34,7 +34,7 @@ sub-quick-word c = search needs
 part-quick-word-start : tie.Need-part-quick-word-start
 part-quick-word-start c = search needs
 
--- the places that the later ones look back to, each behind the next
+-- the places that the later ones look back to, each after the next
 abbrev counted : tie.After-put-kinds → tie.After-length
 counted c = c .before .before .before
 

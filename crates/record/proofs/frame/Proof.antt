@@ -1,4 +1,4 @@
--- `record::frame` meets its contract: with no byte at all it is 8, else the first byte tells.
+-- `record::frame` meets its contract: with no byte at all it is 8, else the first byte decides.
 use mathlib.Core.Path.{_≡_, sym, _∙_}
 use Prim.Native.Nat.{_/_, _%_}
 use native.Mathlib.Omega.{arith}

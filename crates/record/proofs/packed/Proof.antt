@@ -14,7 +14,7 @@ frame-requires c κs = search needs
 enum-known-code : tie.Need-enum-known-code
 enum-known-code c = search needs
 
--- what the header shows of the bytes
+-- what the header shows about the bytes
 framed : (c : tie.After-known-told) → Framed (c .before .before .before .before .before .args .s .now) (c .before .code .given .0 .0)
 framed c =
     let s = c .before .before .before .before .before .args .s .now in

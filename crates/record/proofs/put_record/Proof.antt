@@ -1,4 +1,4 @@
--- `record::put_record` meets its contract: the first byte, and behind it the packed part.
+-- `record::put_record` meets its contract: the first byte, and after it the packed part.
 use mathlib.Core.Path.{_≡_, ap, _∙_, sym}
 use mathlib.Core.List.{List, _∷_}
 use Prim.Native.Nat.{ℕ, _+_, _-_, _*_}

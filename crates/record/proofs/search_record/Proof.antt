@@ -1,4 +1,4 @@
--- `record::search_record` meets its contract: the frame tells, then the search.
+-- `record::search_record` meets its contract: the frame decides, then the search.
 use mathlib.Core.Path.{_∙_, ap, sym}
 use mathlib.Core.List.{[]}
 use Rattle.search.specs.declared.WithRunnerUp.{WithRunnerUp}

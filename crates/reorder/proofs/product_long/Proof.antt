@@ -23,7 +23,7 @@ returns c =
     let c10 = c .before .before .before .before .before .before .before .before .before .before in
     let s = c10 .args in
     let first = isMap (s .m) (s .table1 .now) (s .row1 .now) in
-    map-refused _ _ _ _ (second-not first _ _ (c .before .before .is-map .ensures .tells) (not-true _ (c .if1 .taken))) (not-true _ (c .if1 .taken))
+    map-refused _ _ _ _ (second-not first _ _ (c .before .before .is-map .ensures .decides) (not-true _ (c .if1 .taken))) (not-true _ (c .if1 .taken))
 
 slice-aggregate-is-map-2 : tie.Need-slice-aggregate-is-map-2
 slice-aggregate-is-map-2 c = search needs
@@ -36,13 +36,13 @@ returns-2 c =
     let c14 = c .before .before .before .before .before .before .before .before .before .before .before .before .before .before in
     let s = c14 .args in
     let second = isMap (s .m) (s .table2 .now) (s .row2 .now) in
-    map-refused _ _ _ _ (first-not _ second _ (c .before .before .is-map2 .ensures .tells) (not-true _ (c .if2 .taken))) (not-true _ (c .if2 .taken))
+    map-refused _ _ _ _ (first-not _ second _ (c .before .before .is-map2 .ensures .decides) (not-true _ (c .if2 .taken))) (not-true _ (c .if2 .taken))
 
 column-requires : tie.Need-column-requires
 column-requires c κs =
     let g = c .before .before .before .before .before .before .before .before .before .before .before .before .before .before in
     let s = g .args in
-    let sound = bits-map (s .m) (s .table1 .now) (s .row1 .now) (sym (c .before .before .is-map2 .ensures .tells) ∙ not-false _ (c .if2 .left)) in
+    let sound = bits-map (s .m) (s .table1 .now) (s .row1 .now) (sym (c .before .before .is-map2 .ensures .decides) ∙ not-false _ (c .if2 .left)) in
     (g .pre .0 .small, omega arith, omega (arith, g .pre .0 .row-long), sound .row-bits)
 
 slice-aggregate-put-product : tie.Need-slice-aggregate-put-product
@@ -55,7 +55,7 @@ put-product-requires c κs =
     let c10 = c8 .before .before in
     let g = c10 .before .before .before .before .before .before .before .before in
     let s = g .args in
-    let sound = bits-map (s .m) (s .table2 .now) (s .row2 .now) (sym (c10 .is-map .ensures .tells) ∙ not-false _ (c8 .if1 .left)) in
+    let sound = bits-map (s .m) (s .table2 .now) (s .row2 .now) (sym (c10 .is-map .ensures .decides) ∙ not-false _ (c8 .if1 .left)) in
     (g .pre .2, g .pre .1, sound .table-bits, sound .row-bits, c6 .is-map2 .kept .1 .1 .1 .0 ∙ c10 .is-map .kept .1 .1 .1 .0)
 
 same-length : tie.Need-same-length
@@ -79,8 +79,8 @@ returns-3 c =
     let map′ = c15 .is-map in
     let left = not-false _ (c9 .if2 .left) in
     let left′ = not-false _ (c13 .if1 .left) in
-    let sound = bits-map m (s .table1 .now) (s .row1 .now) (sym (map .ensures .tells) ∙ left) in
-    let sound′ = bits-map m (s .table2 .now) (s .row2 .now) (sym (map′ .ensures .tells) ∙ left′) in
+    let sound = bits-map m (s .table1 .now) (s .row1 .now) (sym (map .ensures .decides) ∙ left) in
+    let sound′ = bits-map m (s .table2 .now) (s .row2 .now) (sym (map′ .ensures .decides) ∙ left′) in
     let column = c8 .column in
     let put = c4 .put-product in
     let both =
@@ -88,7 +88,7 @@ returns-3 c =
     (map .last .1 .1 .1 .0) (map .ensures .images-are left) (column .result) (column .ensures ∙ row-number m (s .row1 .now))
     (put .last .1 .1 .1 .1 .1 .0) (put .last .1 .1 .1 .1 .1 .1 .0) (put .ensures) in
     ap₂ (λ (C c : List ℕ). done (C, c)) (both .0) (both .1)
-    ∙ map-allowed _ _ _ _ (both-maps _ _ _ _ (map .ensures .tells) (map′ .ensures .tells) left′) left
+    ∙ map-allowed _ _ _ _ (both-maps _ _ _ _ (map .ensures .decides) (map′ .ensures .decides) left′) left
 
 pub product-long-spec : {M : Type 1} → statement M
 product-long-spec =

@@ -23,7 +23,7 @@ take-map-requires c κs =
     (c6 .pre .0, refl, refl, λ i h. getD-replicate 256 i 0 0 h)
 
 returns : tie.Need-returns
-returns c = map-refused _ _ _ _ (c .before .before .before .take-map .ensures .tells) (not-true _ (c .if1 .taken))
+returns c = map-refused _ _ _ _ (c .before .before .before .take-map .ensures .decides) (not-true _ (c .if1 .taken))
 
 slice-aggregate-put-undo : tie.Need-slice-aggregate-put-undo
 slice-aggregate-put-undo c = search needs
@@ -35,7 +35,7 @@ put-undo-requires c κs =
     let g = c6 .before .before .before .before .before .before .before in
     let s = g .args in
     let map = c6 .take-map in
-    let sound = bits-map (s .m) (s .table .now) (s .row .now) (sym (map .ensures .tells) ∙ not-false _ (c3 .if1 .left)) in
+    let sound = bits-map (s .m) (s .table .now) (s .row .now) (sym (map .ensures .decides) ∙ not-false _ (c3 .if1 .left)) in
     (g .pre .1, g .pre .0 .row-long, sound .row-bits, map .kept .1 .1 .1 .1 .0)
 
 same-length : tie.Need-same-length
@@ -53,12 +53,12 @@ returns-2 c =
     let s = g .args in
     let map = c11 .take-map in
     let left = not-false _ (c8 .if1 .left) in
-    let sound = bits-map (s .m) (s .table .now) (s .row .now) (sym (map .ensures .tells) ∙ left) in
+    let sound = bits-map (s .m) (s .table .now) (s .row .now) (sym (map .ensures .decides) ∙ left) in
     let put = c4 .put-undo in
     let both =
     undone-map (s .m) (s .table .now) (s .row .now) (g .pre .0 .small) (map .last .1 .1 .1 .1 .0) (map .ensures .places-are left) (sound .can) (sound .row-bits)
     (put .last .1 .1 .1 .0) (put .last .1 .1 .1 .1 .0) (put .ensures) in
-    ap₂ (λ (C c : List ℕ). done (C, c)) (both .0) (both .1) ∙ map-allowed _ _ _ _ (map .ensures .tells) left
+    ap₂ (λ (C c : List ℕ). done (C, c)) (both .0) (both .1) ∙ map-allowed _ _ _ _ (map .ensures .decides) left
 
 pub undo-long-spec : {M : Type 1} → statement M
 undo-long-spec =

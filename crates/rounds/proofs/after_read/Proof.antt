@@ -1,4 +1,4 @@
--- `rounds::after_read` meets its contract: the tests on the number tell its three cases apart.
+-- `rounds::after_read` meets its contract: the tests on the number distinguish its three cases.
 use mathlib.Core.Path.{ap, sym, _∙_}
 use mir.Val.{toZ, ofZ}
 use mir.Facts.{toZ-ofZ}

@@ -1,4 +1,4 @@
--- `rounds::move_to_front` meets its contract: pass by pass the next byte is moved, and those behind it are as they were.
+-- `rounds::move_to_front` meets its contract: pass by pass the next byte is moved, and those after it are unchanged.
 use mathlib.Core.Path.{_≡_, refl, ap, sym, _∙_}
 use mathlib.Core.List.{List}
 use Prim.Native.Nat.{ℕ, _+_, _-_, _≤_, zero-le}

@@ -1,4 +1,4 @@
--- The kinds and the row stand in the fronts of arrays.
+-- The kinds and the row are at the fronts of arrays.
 use mathlib.Core.Path.{_≡_, ap, ap₂, subst, sym, _∙_}
 use mathlib.Core.List.{List}
 use Prim.Native.Nat.{ℕ, _-_}

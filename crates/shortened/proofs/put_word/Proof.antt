@@ -1,4 +1,4 @@
--- The bits go by the kinds that are left into the word, and are transformed there.
+-- The bits are put into the word by the kinds that are left, and are transformed there.
 use mathlib.Core.Path.{ap, _∙_}
 use mathlib.Core.List.{List}
 use Prim.Native.Nat.{ℕ}

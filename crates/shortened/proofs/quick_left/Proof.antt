@@ -56,7 +56,7 @@ take-reading-requires c κs =
     let ks = leftOf (s .named .now) (s .code) in
     let k = length (s .bits .now) in
     let n = length (s .word .now) in
-    let is = sym (told .1) ∙ c6 .admit-for .ensures ∙ ap (λ (due : ℕ). admittedBy (s .code) due (s .readings .now) k n) counted in
+    let is = sym (told .1) ∙ c6 .admit-for .ensures ∙ ap (λ (expected : ℕ). admittedBy (s .code) expected (s .readings .now) k n) counted in
     record {
       long-named = long-named start;
       long-kinds = zeros-lent (s .code) _ (start .pre .0) (c .before .before .before .length .ensures);
@@ -72,7 +72,7 @@ returns c =
     let ks = leftOf (s .named .now) (s .code) in
     over-refused ks (s .code) (s .readings .now) (s .bits .now) (s .word .now) (why .0 .0)
     (sym (why .1) ∙ c .before .before .before .admit-for .ensures
-    ∙ ap (λ (due : ℕ). admittedBy (s .code) due (s .readings .now) (length (s .bits .now)) (length (s .word .now))) (c4 .count-left .ensures))
+    ∙ ap (λ (expected : ℕ). admittedBy (s .code) expected (s .readings .now) (length (s .bits .now)) (length (s .word .now))) (c4 .count-left .ensures))
 
 same-length : tie.Need-same-length
 same-length c = search needs
@@ -92,7 +92,7 @@ returns-2 c =
     let ks = leftOf (s .named .now) (s .code) in
     let k = length (s .bits .now) in
     let n = length (s .word .now) in
-    let is = sym (told .1) ∙ c12 .admit-for .ensures ∙ ap (λ (due : ℕ). admittedBy (s .code) due (s .readings .now) k n) (c13 .count-left .ensures) in
+    let is = sym (told .1) ∙ c12 .admit-for .ensures ∙ ap (λ (expected : ℕ). admittedBy (s .code) expected (s .readings .now) k n) (c13 .count-left .ensures) in
     let same = allowed-over (s .code) (sum ks) (s .readings .now) k n (start .pre .0) (told .0 .0) is .0 in
     c5 .take-reading .ensures ∙ ap (λ (d : Code). readingOver (d .m) ks (s .readings .now)) (sym same)
     ∙ over-done ks (s .code) (s .readings .now) (s .bits .now) (s .word .now) (told .0 .0) is

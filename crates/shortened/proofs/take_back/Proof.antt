@@ -1,4 +1,4 @@
--- The kinds that are left and the row of the word stand in two rows of scratch.
+-- The kinds that are left and the row of the word are in two rows of scratch.
 use Rattle.shortened.specs.WorkLaws.{take-asked, taken-word}
 use borrow.Author.Needs.{needs}
 use Rattle.shortened.proofs.take_back.Statement.{statement}

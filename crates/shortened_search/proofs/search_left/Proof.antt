@@ -42,7 +42,7 @@ search-sound-requires c κs =
     let ks = leftOf (s .named .now) (s .code) in
     let k = length (s .bits .now) in
     let n = length (s .word .now) in
-    let is = sym (told .1) ∙ c4 .admit-for .ensures ∙ ap (λ (due : ℕ). admittedBy (s .code) due (s .readings .now) k n) (c5 .count-left .ensures) in
+    let is = sym (told .1) ∙ c4 .admit-for .ensures ∙ ap (λ (expected : ℕ). admittedBy (s .code) expected (s .readings .now) k n) (c5 .count-left .ensures) in
     (start .pre .1, allowed-over (s .code) (sum ks) (s .readings .now) k n (start .pre .0) (told .0 .0) is .1)
 
 returns : tie.Need-returns
@@ -56,7 +56,7 @@ returns c =
     ap (λ (a : WithRunnerUp). runnerUpOutcomeOf a (s .bits .now) (s .word .now)) (c .refused .ensures)
     ∙ over-refused ks (s .code) (s .allowed) (s .readings .now) (s .bits .now) (s .word .now) (why .0 .0)
     (sym (why .1) ∙ c4 .admit-for .ensures
-    ∙ ap (λ (due : ℕ). admittedBy (s .code) due (s .readings .now) (length (s .bits .now)) (length (s .word .now))) (c5 .count-left .ensures))
+    ∙ ap (λ (expected : ℕ). admittedBy (s .code) expected (s .readings .now) (length (s .bits .now)) (length (s .word .now))) (c5 .count-left .ensures))
 
 same-length : tie.Need-same-length
 same-length c = search needs
@@ -76,7 +76,7 @@ returns-2 c =
     let ks = leftOf (s .named .now) (s .code) in
     let k = length (s .bits .now) in
     let n = length (s .word .now) in
-    let is = sym (told .1) ∙ c9 .admit-for .ensures ∙ ap (λ (due : ℕ). admittedBy (s .code) due (s .readings .now) k n) (c10 .count-left .ensures) in
+    let is = sym (told .1) ∙ c9 .admit-for .ensures ∙ ap (λ (expected : ℕ). admittedBy (s .code) expected (s .readings .now) k n) (c10 .count-left .ensures) in
     let same = allowed-over (s .code) (sum ks) (s .readings .now) k n (start .pre .0) (told .0 .0) is .0 in
     c4 .search-sound .ensures ∙ ap (λ (d : Code). runnerUpOutcomeBy (d .m) ks (s .readings .now) (s .allowed) (s .bits .now) (s .word .now)) (sym same)
     ∙ over-answered ks (s .code) (s .allowed) (s .readings .now) (s .bits .now) (s .word .now) (told .0 .0) is

@@ -1,4 +1,4 @@
--- The kinds that are left and the readings stand in the fronts of arrays of 256.
+-- The kinds that are left and the readings are at the fronts of arrays of 256.
 use mathlib.Core.Path.{ap₂, _∙_}
 use mathlib.Core.List.{List}
 use Prim.Native.Nat.{ℕ, _^_}

@@ -1,4 +1,4 @@
--- `put_number`: the bits are the digits as far as the loop has come.
+-- `put_number`: the bits are the digits up to where the loop is.
 use Prim.Native.Nat.{suc, _-_, _^_, _%_, _/_, _≤_}
 use mathlib.Core.Path.{_≡_, refl, sym, _∙_}
 use native.Mathlib.Omega.{arith}

@@ -1,5 +1,5 @@
 -- `hard_here`: not tried, or as the largest block is.
-use Rattle.walk.specs.InformationTestLaws.{block-short, no-four, not-dropped, may-take, not-tried, as-tried}
+use Rattle.walk.specs.InformationTestLaws.{at-most-16, no-four, not-dropped, may-take, not-tried, as-tried}
 use native.Mathlib.Omega.{arith}
 use borrow.Author.Needs.{needs}
 use Rattle.walk.proofs.hard_here.Statement.{statement}
@@ -24,7 +24,7 @@ taken-requires c κs =
 cast-result : tie.Need-cast-result
 cast-result c =
     let g = c .before .before .before .before .before .before .before in
-    record { fits = omega (arith, block-short (c .taken .ensures .1 (g .pre .1))) }
+    record { fits = omega (arith, at-most-16 (c .taken .ensures .1 (g .pre .1))) }
 
 returns-3 : tie.Need-returns-3
 returns-3 c =

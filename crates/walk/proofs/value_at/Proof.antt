@@ -5,7 +5,7 @@ use Prim.Native.Nat.{ℕ, _^_}
 use lib.ListN.{getD, take}
 use mir.Facts.{toZ-ofZ}
 use Rattle.decoding.specs.Walk.{value}
-use Rattle.memory.specs.Memory.{Stands, ValueReady}
+use Rattle.memory.specs.Memory.{RowsFor, ValueReady}
 use borrow.Author.Needs.{needs}
 use Rattle.walk.proofs.value_at.Statement.{statement}
 use Rattle.walk.proofs.value_at.Tie as tie
@@ -13,8 +13,8 @@ use Rattle.walk.proofs.value_at.Tie as tie
 element-copy-out-m : tie.Need-element-copy-out-m
 element-copy-out-m c = search needs
 
-stands-requires : tie.Need-stands-requires
-stands-requires c κs = let g = c .before .before in (g .pre .long, omega (arith, g .pre .ready .inside, g .pre .ready .room))
+made-for-requires : tie.Need-made-for-requires
+made-for-requires c κs = let g = c .before .before in (g .pre .long, omega (arith, g .pre .ready .inside, g .pre .ready .room))
 
 wide-requires : tie.Need-wide-requires
 wide-requires c κs = search needs
@@ -23,7 +23,7 @@ value-requires : tie.Need-value-requires
 value-requires c κs =
     let g = c .before .before .before .before .before .before in
     let ready : ℕ → ℕ → Type 0 = λ m j. ValueReady m (take (2 ^ m) (g .args .readings .now)) (g .args .path .now) j (g .args .i) (g .args .rows .now) in
-    subst (ready (c .wide .result)) (sym (c .before .before .before .stands .ensures .0))
+    subst (ready (c .wide .result)) (sym (c .before .before .before .made-for .ensures .0))
     (subst (λ (m : ℕ). ready m (getD (g .args .state .now) 5 0)) (sym (c .wide .ensures)) (g .pre .ready))
 
 returns : tie.Need-returns
@@ -35,10 +35,10 @@ returns c =
     let v = c .value in
     record {
       is = toZ-ofZ (record { sfits = v .ok }) ∙ v .ensures .0 ∙ ap (λ (m : ℕ). value m (take (2 ^ m) l) (take i y)) (c .before .wide .ensures);
-      rows = subst (λ (m : ℕ). Stands m (take (2 ^ m) l) y i i (v .last .1 .0)) (c .before .wide .ensures) (v .ensures .1);
-      shows = c .before .before .before .before .stands .ensures .1;
+      rows = subst (λ (m : ℕ). RowsFor m (take (2 ^ m) l) y i i (v .last .1 .0)) (c .before .wide .ensures) (v .ensures .1);
+      shows = c .before .before .before .before .made-for .ensures .1;
     }
 
 pub value-at-spec : {M : Type 1} → statement M
 value-at-spec =
-    tie.close (tie.spec element-copy-out-m stands-requires wide-requires value-requires returns)
+    tie.close (tie.spec element-copy-out-m made-for-requires wide-requires value-requires returns)

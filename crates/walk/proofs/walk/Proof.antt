@@ -1,4 +1,4 @@
--- `walk`: the first step is asked and gives what the whole walk does; no row stands yet.
+-- `walk`: the first step is asked and gives what the whole walk does; no row is made yet.
 use Prim.Native.Nat.{ℕ, _*_, _%_, _^_}
 use native.Mathlib.Omega.{arith}
 use lib.IntN.{pos}

@@ -1,4 +1,4 @@
--- `cinorbis_early` tells the outcome of `early`.
+-- `cinorbis_early` reports the outcome of `early`.
 use borrow.Author.Needs.{needs}
 use Rattle.answers.specs.EarlyLaws.{reported-answered}
 use Rattle.pumpbox.proofs.early_answers.cinorbis_early.Statement.{statement}

@@ -1,4 +1,4 @@
--- `cinorbis_early_within` tells the outcome of `early_within`.
+-- `cinorbis_early_within` reports the outcome of `early_within`.
 use borrow.Author.Needs.{needs}
 use Rattle.answers.specs.EarlyLaws.{reported-answered}
 use Rattle.pumpbox.proofs.early_answers.cinorbis_early_within.Statement.{statement}

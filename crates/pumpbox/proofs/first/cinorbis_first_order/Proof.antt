@@ -1,4 +1,4 @@
--- `cinorbis_first_order` tells the outcome of `first_order`.
+-- `cinorbis_first_order` reports the outcome of `first_order`.
 use borrow.Author.Needs.{needs}
 use Rattle.answers.specs.ReportedLaws.{reported-searched}
 use Rattle.pumpbox.proofs.first.cinorbis_first_order.Statement.{statement}

@@ -1,4 +1,4 @@
--- `cinorbis_search_float` tells the outcome of `search_float`.
+-- `cinorbis_search_float` reports the outcome of `search_float`.
 use borrow.Author.Needs.{needs}
 use Rattle.answers.specs.ReportedLaws.{reported-runner-up}
 use Rattle.pumpbox.proofs.floats.cinorbis_search_float.Statement.{statement}

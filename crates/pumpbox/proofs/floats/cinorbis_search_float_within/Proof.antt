@@ -1,4 +1,4 @@
--- `cinorbis_search_float_within` tells the outcome of `search_float_within`.
+-- `cinorbis_search_float_within` reports the outcome of `search_float_within`.
 use borrow.Author.Needs.{needs}
 use Rattle.answers.specs.ReportedLaws.{reported-runner-up}
 use Rattle.pumpbox.proofs.floats.cinorbis_search_float_within.Statement.{statement}

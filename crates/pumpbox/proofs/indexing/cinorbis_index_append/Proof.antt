@@ -1,4 +1,4 @@
--- `cinorbis_index_append` tells the outcome of `append` on the index that was handed in.
+-- `cinorbis_index_append` reports the outcome of `append` on the index that was passed.
 use mathlib.Core.Path.{ap, _∙_}
 use Rattle.index.specs.declared.Index.{Index}
 use Rattle.index.specs.Appending.{appending}

@@ -1,4 +1,4 @@
--- `cinorbis_index_front` tells the outcome of `front`.
+-- `cinorbis_index_front` reports the outcome of `front`.
 use Rattle.answers.specs.IndexedLaws.{reported-front}
 use borrow.Author.Needs.{needs}
 use Rattle.pumpbox.proofs.indexing.cinorbis_index_front.Statement.{statement}

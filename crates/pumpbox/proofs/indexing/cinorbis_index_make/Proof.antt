@@ -1,4 +1,4 @@
--- `cinorbis_index_make` tells the outcome of `make`.
+-- `cinorbis_index_make` reports the outcome of `make`.
 use Rattle.answers.specs.IndexedLaws.{reported-made}
 use borrow.Author.Needs.{needs}
 use Rattle.pumpbox.proofs.indexing.cinorbis_index_make.Statement.{statement}

@@ -1,4 +1,4 @@
--- `cinorbis_product_map` tells the outcome of `product_map`.
+-- `cinorbis_product_map` reports the outcome of `product_map`.
 use Rattle.answers.specs.Reordered.{reported-reordered}
 use borrow.Author.Needs.{needs}
 use Rattle.pumpbox.proofs.reordering.cinorbis_product_map.Statement.{statement}

@@ -1,4 +1,4 @@
--- `cinorbis_reorder` tells the outcome of `reorder`.
+-- `cinorbis_reorder` reports the outcome of `reorder`.
 use Rattle.answers.specs.Reordered.{reported-reordered}
 use borrow.Author.Needs.{needs}
 use Rattle.pumpbox.proofs.reordering.cinorbis_reorder.Statement.{statement}

@@ -1,4 +1,4 @@
--- `cinorbis_reorder_word` tells the outcome of `reorder_word`.
+-- `cinorbis_reorder_word` reports the outcome of `reorder_word`.
 use Rattle.answers.specs.Reordered.{reported-reordered}
 use borrow.Author.Needs.{needs}
 use Rattle.pumpbox.proofs.reordering.cinorbis_reorder_word.Statement.{statement}

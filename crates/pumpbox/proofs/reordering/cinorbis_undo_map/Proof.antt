@@ -1,4 +1,4 @@
--- `cinorbis_undo_map` tells the outcome of `undo_map`.
+-- `cinorbis_undo_map` reports the outcome of `undo_map`.
 use Rattle.answers.specs.Reordered.{reported-reordered}
 use borrow.Author.Needs.{needs}
 use Rattle.pumpbox.proofs.reordering.cinorbis_undo_map.Statement.{statement}

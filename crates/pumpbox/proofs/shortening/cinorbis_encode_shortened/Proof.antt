@@ -1,4 +1,4 @@
--- `cinorbis_encode_shortened` tells the outcome of `encode_shortened`.
+-- `cinorbis_encode_shortened` reports the outcome of `encode_shortened`.
 use borrow.Author.Needs.{needs}
 use Rattle.answers.specs.ReportedLaws.{reported-encoded}
 use Rattle.pumpbox.proofs.shortening.cinorbis_encode_shortened.Statement.{statement}

@@ -1,4 +1,4 @@
--- `cinorbis_inverse_shortened` tells the outcome of `inverse_shortened`.
+-- `cinorbis_inverse_shortened` reports the outcome of `inverse_shortened`.
 use borrow.Author.Needs.{needs}
 use Rattle.answers.specs.ReportedLaws.{reported-encoded}
 use Rattle.pumpbox.proofs.shortening.cinorbis_inverse_shortened.Statement.{statement}

@@ -1,4 +1,4 @@
--- `cinorbis_quick_shortened` tells the outcome of `quick_shortened`.
+-- `cinorbis_quick_shortened` reports the outcome of `quick_shortened`.
 use Rattle.answers.specs.ReportedLaws.{reported-read}
 use borrow.Author.Needs.{needs}
 use Rattle.pumpbox.proofs.shortening.cinorbis_quick_shortened.Statement.{statement}

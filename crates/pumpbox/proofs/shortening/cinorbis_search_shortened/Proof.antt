@@ -1,4 +1,4 @@
--- `cinorbis_search_shortened` tells the outcome of `search_shortened`.
+-- `cinorbis_search_shortened` reports the outcome of `search_shortened`.
 use borrow.Author.Needs.{needs}
 use Rattle.answers.specs.ReportedLaws.{reported-runner-up}
 use Rattle.pumpbox.proofs.shortening.cinorbis_search_shortened.Statement.{statement}

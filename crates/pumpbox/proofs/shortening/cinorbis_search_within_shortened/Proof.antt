@@ -1,4 +1,4 @@
--- `cinorbis_search_within_shortened` tells the outcome of `search_within_shortened`.
+-- `cinorbis_search_within_shortened` reports the outcome of `search_within_shortened`.
 use borrow.Author.Needs.{needs}
 use Rattle.answers.specs.ReportedLaws.{reported-runner-up}
 use Rattle.pumpbox.proofs.shortening.cinorbis_search_within_shortened.Statement.{statement}

@@ -1,4 +1,4 @@
--- `cinorbis_telegram_of_bits` tells the outcome of `of_bits`.
+-- `cinorbis_telegram_of_bits` reports the outcome of `of_bits`.
 use mathlib.Core.Path.{ap, _∙_}
 use borrow.Author.Needs.{needs}
 use Rattle.answers.specs.Telegrams.{shownRead}

@@ -1,4 +1,4 @@
--- `cinorbis_telegram_read` tells the outcome of `read`.
+-- `cinorbis_telegram_read` reports the outcome of `read`.
 use mathlib.Core.Path.{ap, _∙_}
 use borrow.Author.Needs.{needs}
 use Rattle.answers.specs.Telegrams.{shownRead}

@@ -1,4 +1,4 @@
--- `cinorbis_telegram_read_within` tells the outcome of `read_within`.
+-- `cinorbis_telegram_read_within` reports the outcome of `read_within`.
 use mathlib.Core.Path.{ap, _∙_}
 use borrow.Author.Needs.{needs}
 use Rattle.answers.specs.Telegrams.{shownRead}

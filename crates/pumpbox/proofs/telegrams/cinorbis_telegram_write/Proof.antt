@@ -1,4 +1,4 @@
--- `cinorbis_telegram_write` tells the outcome of `write`.
+-- `cinorbis_telegram_write` reports the outcome of `write`.
 use Rattle.answers.specs.TelegramsLaws.{reported-written}
 use borrow.Author.Needs.{needs}
 use Rattle.pumpbox.proofs.telegrams.cinorbis_telegram_write.Statement.{statement}

@@ -1,4 +1,4 @@
--- `cinorbis_unpack` tells the outcome of `unpack`.
+-- `cinorbis_unpack` reports the outcome of `unpack`.
 use mathlib.Core.Path.{ap, ap₂, _∙_}
 use mathlib.Core.List.{List}
 use Prim.Native.Nat.{ℕ}

@@ -1,4 +1,4 @@
--- `cinorbis_write_record` tells the outcome of `write`.
+-- `cinorbis_write_record` reports the outcome of `write`.
 use Rattle.answers.specs.WrittenLaws.{reported-wrote}
 use borrow.Author.Needs.{needs}
 use Rattle.pumpbox.proofs.writing.cinorbis_write_record.Statement.{statement}
