@@ -12,7 +12,7 @@
 
 #ifndef ROUNDS /* less where bench/run is only tried */
 #define SETS 24
-#define ROUNDS 11
+#define ROUNDS 41
 #endif
 
 extern __typeof__(cinorbis_search_within) old_cinorbis_search_within;

@@ -12,7 +12,7 @@
 
 #ifndef ROUNDS /* less where bench/run is only tried */
 #define SETS 64
-#define ROUNDS 9
+#define ROUNDS 25
 #endif
 
 static int16_t readings[SETS][256];
