@@ -270,7 +270,8 @@ def test_an_interrupt_ends_it(threads):
         print("done")
     """
     pipes = {"stdout": subprocess.PIPE, "stderr": subprocess.PIPE, "text": True}
-    run = subprocess.Popen([sys.executable, "-c", code], **pipes)
+    # a shell without job control starts what runs in the background with ctrl-C ignored, and so are its children
+    run = subprocess.Popen([sys.executable, "-c", code], preexec_fn=lambda: signal.signal(signal.SIGINT, signal.SIG_DFL), **pipes)
     assert run.stdout.readline() == "begun\n"
     time.sleep(0.3)
     run.send_signal(signal.SIGINT)
