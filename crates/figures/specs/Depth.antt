@@ -1,6 +1,6 @@
 -- How deep the walk goes. Information steps that are open at the same time are at rising information indices, each inside the one before: `frozen_step` calls
--- `info_step` at its own index or a later one, and `info_step` calls `frozen_step` at the index after its own. The number of information indices still to
--- choose falls with each such step, so at most k are open at the same time. The bounds on the stack (tools/stack) rest on this.
+-- `info_step` at its own index or a later one, and `info_step` calls `frozen_step` at the index after its own or, behind a block, at a later one. The number
+-- of information indices still to choose falls with each such step, so at most k are open at the same time. The bounds on the stack (tools/stack) rest on this.
 use mathlib.Core.List.{List, [], _∷_}
 use Prim.Native.Nat.{ℕ, zero, suc, _≤_, _<_}
 use native.Mathlib.Omega.{arith}

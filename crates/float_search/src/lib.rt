@@ -7,13 +7,13 @@ use search::Searched;
 use search::WithRunnerUp;
 ghost use mathlib.Core.Path.{_≡_};
 ghost use Prim.Native.Nat.{_^_};
-ghost use lib.ListN.{length, take};
+ghost use lib.ListN.{length, take, replicate};
 ghost use Rattle.words.specs.Kinds.{kinds};
 ghost use Rattle.code.specs.Sound.{defaultAllowance};
 ghost use Rattle.code.specs.SoundInput.{SoundReadings};
 ghost use Rattle.search.specs.RunnerUp.{runnerUpOutcomeOf, runnerUpOutcomeBy};
 ghost use Rattle.search.specs.RunnerUp.{searchingWithRunnerUp};
-ghost use Rattle.search.specs.Work.{Searchable};
+ghost use Rattle.search.specs.Work.{withBits, Searchable};
 ghost use Rattle.float_numbers.specs.Whole.{wholes};
 ghost use Rattle.float_walk.specs.Held.{count, Penalty};
 
@@ -70,7 +70,9 @@ fn search_sound(
     let n = code.length();
     code::put_kinds(code, &mut kinds[0..n]);
     copy_readings(readings, &mut own[0..n]);
-    search_kinds(&own, &kinds, code.m, allowed, bits, word)
+    let mut runner_up = [0u8; 256];
+    let result = search_kinds(&own, &kinds, code.m, allowed, bits, word, &mut runner_up);
+    WithRunnerUp { result, runner_up }
 }
 
 fn copy_readings(from: &[f32], to: &mut [f32])
@@ -85,7 +87,8 @@ fn copy_readings(from: &[f32], to: &mut [f32])
 }
 
 // The search over the words of any row of 2^m kinds. The walk holds its rows in arrays of its own,
-// so that the buffers keep their contents if nothing is found.
+// so that the buffers keep their contents if nothing is found; the runner-up's bits are put into an
+// array of zeros that is lent.
 fn search_kinds(
     readings: &[f32; 256],
     kinds: &[u8; 256],
@@ -93,10 +96,14 @@ fn search_kinds(
     allowed: u32,
     bits: &mut [u8],
     word: &mut [u8],
-) -> WithRunnerUp
-    requires { ⌜ Searchable m (take (2 ^ m) (wholes (now readings))) (take (2 ^ m) (now kinds))
+    runner_up: &mut [u8; 256],
+) -> Searched
+    requires { ⌜ (now «runner_up» ≡ replicate 256 0)
+        × Searchable m (take (2 ^ m) (wholes (now readings))) (take (2 ^ m) (now kinds))
         (now bits) (now word) ⌝ }
-    ensures { λ r. ⌜ runnerUpOutcomeOf r (now (bits .exit)) (now (word .exit))
+    ensures { λ r. ⌜
+        runnerUpOutcomeOf (withBits r (now («runner_up» .exit))) (now (bits .exit))
+        (now (word .exit))
         ≡ runnerUpOutcomeBy m (take (2 ^ m) (now (kinds .entry)))
         (take (2 ^ m) (wholes (now (readings .entry))))
         allowed (now (bits .entry)) (now (word .entry)) ⌝ }
@@ -115,22 +122,21 @@ fn search_kinds(
     );
     let out = state[walk::OUT_OF_VISITS];
     if out != 0 {
-        return WithRunnerUp::refused(Refusal::OutOfVisits(allowed));
+        return Searched::Refused(Refusal::OutOfVisits(allowed));
     }
     let visits = state[walk::VISITS];
     let penalty = whole(end.best);
     let gap = whole(end.second - end.best);
     if gap == 0 {
-        return WithRunnerUp::refused(Refusal::Tied { penalty, visits });
+        return Searched::Refused(Refusal::Tied { penalty, visits });
     }
     search::put_best(kinds, &best, m as usize, bits, word);
-    let runner_up = search::second_bits(kinds, &second, word.len(), bits.len());
-    let result = Searched::Found {
+    search::put_second(kinds, &second, word.len(), bits.len(), runner_up);
+    Searched::Found {
         penalty,
         gap,
         visits,
-    };
-    WithRunnerUp { result, runner_up }
+    }
 }
 
 // The count that a penalty is.

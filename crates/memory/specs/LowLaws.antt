@@ -48,24 +48,31 @@ set-4 (x ∷ y ∷ []) a b c d h = absurd (omega arith)
 set-4 (x ∷ y ∷ z ∷ []) a b c d h = absurd (omega arith)
 set-4 (x ∷ y ∷ z ∷ v ∷ w) a b c d h = refl
 
-module _ (y w : List ℕ) (e : ℕ) (room : e ≤ length y) where
+-- a word of two bits is all of itself, and put in front it is there
+module _ {p : List ℕ} (y : List ℕ) (long : 2 ≤ length y) (e : p ≡ transform 1 (take 2 y)) where
+  pub whole-pair : take 2 p ≡ transform 1 (take 2 y)
+  whole-pair = ap (take 2) (e ∙ word-2 y long) ∙ sym (word-2 y long)
+
+  pub put-pair : (w : List ℕ) → 2 ≤ length w → take 2 (set (set w 0 (getD p 0 0)) 1 (getD p 1 0)) ≡ transform 1 (take 2 y)
+  put-pair w h =
+      set-2 w (getD p 0 0) (getD p 1 0) h ∙ ap (λ (x : List ℕ). getD x 0 0 ∷ getD x 1 0 ∷ []) (e ∙ word-2 y long) ∙ sym (word-2 y long)
+
+module _ (y : List ℕ) (e : ℕ) (room : e ≤ length y) where
   -- bit k of the last n before e
   last : (n k j : ℕ) → n ≤ e → j ≡ e - n + k → getD (drop (e - n) y) k 0 ≡ getD y j 0
   last n k j h is = getD-drop (e - n) y k 0 ∙ ap (λ (i : ℕ). getD y i 0) (sym is)
 
-  pub made-word-2 : 2 ≤ e → 2 ≤ length w
-      → take 2 (set (set w 0 ((getD y (e - 2) 0 + getD y (e - 1) 0) % 2)) 1 (getD y (e - 1) 0)) ≡ transform 1 (take 2 (drop (e - 2) y))
-  made-word-2 h k =
+  pub pair-is : 2 ≤ e → (getD y (e - 2) 0 + getD y (e - 1) 0) % 2 ∷ getD y (e - 1) 0 ∷ [] ≡ transform 1 (take 2 (drop (e - 2) y))
+  pair-is h =
       let a = last 2 0 (e - 2) h (omega arith) in
       let b = last 2 1 (e - 1) h (omega arith) in
-      set-2 w ((getD y (e - 2) 0 + getD y (e - 1) 0) % 2) (getD y (e - 1) 0) k
-      ∙ sym (word-2 (drop (e - 2) y) (simp length-drop (omega arith)) ∙ rw (a, b))
+      sym (word-2 (drop (e - 2) y) (simp length-drop (omega arith)) ∙ rw (a, b))
 
-  pub made-word-4 : 4 ≤ e → 4 ≤ length w → {p q r : ℕ}
+  pub made-word-4 : (w : List ℕ) → 4 ≤ e → 4 ≤ length w → {p q r : ℕ}
       → p ≡ ((getD y (e - 4) 0 + getD y (e - 3) 0) % 2 + (getD y (e - 2) 0 + getD y (e - 1) 0) % 2) % 2
       → q ≡ (getD y (e - 3) 0 + getD y (e - 1) 0) % 2 → r ≡ (getD y (e - 2) 0 + getD y (e - 1) 0) % 2
       → take 4 (set (set (set (set w 0 p) 1 q) 2 r) 3 (getD y (e - 1) 0)) ≡ transform 2 (take 4 (drop (e - 4) y))
-  made-word-4 h k {p} {q} {r} ep eq er =
+  made-word-4 w h k {p} {q} {r} ep eq er =
       let a = last 4 0 (e - 4) h (omega arith) in
       let b = last 4 1 (e - 3) h (omega arith) in
       let c = last 4 2 (e - 2) h (omega arith) in

@@ -61,17 +61,26 @@ pub fn left_word(path: &[u8], word: &mut [u8], e: usize, h: usize, t: usize)
     bit_rows::put_row(&path[e - h..e], &mut word[0..h], t);
 }
 
-// The same of two bits, by straight code.
+// The same of two bits, by straight code, and by value: the compiler keeps it in registers.
+fn pair(path: &[u8], e: usize) -> [u8; 2]
+    requires { ⌜ (2 ≤ e) × (e ≤ length (now path)) × Bits (now path) ⌝ }
+    ensures { λ r. ⌜ r ≡ transform 1 (take 2 (drop (e - 2) (now (path .entry)))) ⌝ }
+{
+    let b = path[e - 1];
+    let a = (path[e - 2] + b) % 2;
+    [a, b]
+}
+
+// Put into the scratch array, as the float board takes it.
 pub fn word_of_2(path: &[u8], word: &mut [u8], e: usize)
     requires { ⌜ (2 ≤ e) × (e ≤ length (now path)) × (2 ≤ length (now word))
         × Bits (now path) ⌝ }
     ensures { λ _. ⌜ take 2 (now (word .exit))
         ≡ transform 1 (take 2 (drop (e - 2) (now (path .entry)))) ⌝ }
 {
-    let b = path[e - 1];
-    let a = (path[e - 2] + b) % 2;
-    word[0] = a;
-    word[1] = b;
+    let both = pair(path, e);
+    word[0] = both[0];
+    word[1] = both[1];
 }
 
 // And of four.
@@ -151,7 +160,7 @@ fn first_row(
     row(rows, path, word, t, i);
 }
 
-// The row of 2^high sums and those below it down to 2^low sums, by loops.
+// The row of 2^high sums and those below it down to eight sums, by loops.
 fn make_rows(
     readings: &[i16],
     rows: &mut [i32],
@@ -159,18 +168,17 @@ fn make_rows(
     word: &mut [u8],
     m: usize,
     high: usize,
-    low: usize,
     i: usize,
 )
     requires { ⌜ (length (now readings) ≡ 256)
         × Arrays (now rows) (now path) × (length (now word) ≡ 256)
         × RowsReady m (take (2 ^ m) (now readings)) (now path) i high (now rows) ⌝ }
-    ensures { λ _. ⌜ Made m (take (2 ^ m) (now (readings .entry))) (now (path .entry)) i low
+    ensures { λ _. ⌜ Made m (take (2 ^ m) (now (readings .entry))) (now (path .entry)) i 3
         (now (rows .exit)) ⌝ }
 {
     first_row(readings, rows, path, word, m, high, i);
     let mut t = high;
-    while low < t {
+    while 3 < t {
         t -= 1;
         row(rows, path, word, t, i);
     }
@@ -192,14 +200,14 @@ fn row_of_4(rows: &mut [i32], path: &[u8], word: &mut [u8], i: usize)
 }
 
 // The row of two sums, from the row of four.
-fn row_of_2(rows: &mut [i32], path: &[u8], word: &mut [u8], i: usize)
-    requires { ⌜ LowReady 2 i (now path) (now rows) × (length (now word) ≡ 256) ⌝ }
+fn row_of_2(rows: &mut [i32], path: &[u8], i: usize)
+    requires { ⌜ LowReady 2 i (now path) (now rows) ⌝ }
     ensures { λ _. ⌜ now (rows .exit) ≡ newRow 1 i (now (path .entry)) (now (rows .entry)) ⌝ }
 {
     let b = i / 2;
     if b % 2 == 1 {
-        word_of_2(path, word, b * 2);
-        rows::upper_row(rows, 2, word);
+        let word = pair(path, b * 2);
+        rows::upper_row(rows, 2, &word);
         return;
     }
     rows::lower_row(rows, 2);
@@ -224,12 +232,12 @@ fn low_rows(rows: &mut [i32], path: &[u8], word: &mut [u8], k: usize, i: usize)
 {
     if k == 3 {
         row_of_4(rows, path, word, i);
-        row_of_2(rows, path, word, i);
+        row_of_2(rows, path, i);
         row_of_1(rows, path, i);
         return;
     }
     if k == 2 {
-        row_of_2(rows, path, word, i);
+        row_of_2(rows, path, i);
         row_of_1(rows, path, i);
         return;
     }
@@ -245,13 +253,12 @@ fn start_of_1(rows: &mut [i32], path: &[u8], i: usize)
 }
 
 // Of two and none of four: two rows.
-fn start_of_2(rows: &mut [i32], path: &[u8], word: &mut [u8], i: usize)
-    requires { ⌜ (i % 4 ≡ 2) × LowReady 2 i (now path) (now rows)
-        × (length (now word) ≡ 256) ⌝ }
+fn start_of_2(rows: &mut [i32], path: &[u8], i: usize)
+    requires { ⌜ (i % 4 ≡ 2) × LowReady 2 i (now path) (now rows) ⌝ }
     ensures { λ _. ⌜ now (rows .exit) ≡ remade 2 i (now (path .entry)) (now (rows .entry)) ⌝ }
 {
-    word_of_2(path, word, i);
-    rows::upper_row(rows, 2, word);
+    let word = pair(path, i);
+    rows::upper_row(rows, 2, &word);
     rows::lower_row(rows, 1);
 }
 
@@ -295,9 +302,36 @@ fn start_of_more(
     rows::lower_row(rows, 1);
 }
 
+// The row of 2^high sums and all below it, where m is below 4: straight code makes them, save the
+// highest of all, which is made from the readings.
+fn few_rows(
+    readings: &[i16],
+    rows: &mut [i32],
+    path: &[u8],
+    word: &mut [u8],
+    m: usize,
+    high: usize,
+    i: usize,
+)
+    requires { ⌜ (m < 4) × (length (now readings) ≡ 256)
+        × Arrays (now rows) (now path) × (length (now word) ≡ 256)
+        × RowsReady m (take (2 ^ m) (now readings)) (now path) i high (now rows) ⌝ }
+    ensures { λ _. ⌜ Made m (take (2 ^ m) (now (readings .entry))) (now (path .entry)) i 0
+        (now (rows .exit)) ⌝ }
+{
+    let k = high + 1;
+    if k < m {
+        low_rows(rows, path, word, k, i);
+        return;
+    }
+    first_row(readings, rows, path, word, m, high, i);
+    if 0 < high {
+        low_rows(rows, path, word, high, i);
+    }
+}
+
 // The value at index i of the path, whichever index the rows are for. Rows of up to four sums are
-// made by straight code, save where m is below 4: there the highest of all, made from the readings,
-// is one of them.
+// made by straight code.
 fn any_value(
     readings: &[i16; 256],
     rows: &mut [i32; 256],
@@ -318,14 +352,14 @@ fn any_value(
     }
     let high = top(m, was, i);
     if m < 4 {
-        make_rows(readings, rows, path, word, m, high, 0, i);
+        few_rows(readings, rows, path, word, m, high, i);
         return rows[1];
     }
     if high < 3 {
         low_rows(rows, path, word, high + 1, i);
         return rows[1];
     }
-    make_rows(readings, rows, path, word, m, high, 3, i);
+    make_rows(readings, rows, path, word, m, high, i);
     low_rows(rows, path, word, 3, i);
     rows[1]
 }
@@ -369,7 +403,7 @@ pub fn value(
             return rows[1];
         }
         if i % 4 == 2 {
-            start_of_2(rows, path, word, i);
+            start_of_2(rows, path, i);
             return rows[1];
         }
         if i % 8 == 4 {

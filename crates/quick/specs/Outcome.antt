@@ -35,9 +35,12 @@ abbrev pub outcomeOf : Read → List ℕ → List ℕ → Outcome
 outcomeOf (Done penalty) = done penalty
 outcomeOf (Refused why) = refused why
 
--- the written steps, if no test refuses
+-- the written steps over a row of kinds, and over a code's, if no test refuses
+abbrev pub readingOver : ℕ → List ℕ → List ℤ → Outcome
+readingOver m ks l = done (quickPenalty m ks l) (quickBits m ks l) (quickWord m ks l)
+
 abbrev pub readingBy : Code → List ℤ → Outcome
-readingBy c l = let ks = kinds (c .r) (c .m) in done (quickPenalty (c .m) ks l) (quickBits (c .m) ks l) (quickWord (c .m) ks l)
+readingBy c l = readingOver (c .m) (kinds (c .r) (c .m)) l
 
 -- from r, m, the readings, and the buffers for the information bits and the word
 unfoldable pub quickReading : ℕ → ℕ → List ℤ → List ℕ → List ℕ → Outcome

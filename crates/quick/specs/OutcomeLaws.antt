@@ -1,12 +1,14 @@
 -- The outcome at each place where `quick` returns, and what the work in between requires.
 use mathlib.Core.Path.{_≡_, ap, sym, _∙_}
 use mathlib.Core.List.{List}
-use Prim.Native.Nat.{ℕ, _-_, _^_, _<_}
+use Prim.Native.Nat.{ℕ, _-_, _^_, _≤_, _<_}
 use native.Mathlib.Omega.{arith}
 use lib.IntN.{ℤ}
 use lib.ListN.{length}
 use borrow.Rule.Slice.PartMut.{midOf, putMid}
 use Rattle.numbers.specs.Lent.{lent-again}
+use Rattle.numbers.specs.Sums.{sum}
+use Rattle.words.specs.Bits.{Bits}
 use Rattle.words.specs.Word.{transform}
 use Rattle.words.specs.Kinds.{kinds, pick}
 use Rattle.words.specs.KindLaws.{length-kinds, sum-kinds, bits-kinds}
@@ -16,12 +18,14 @@ use Rattle.decoding.specs.QuickLaws.{length-quick, bits-quick}
 use Rattle.code.specs.declared.Code.{Code}
 use Rattle.code.specs.declared.Refusal.{Refusal}
 use Rattle.code.specs.declared.Admitted.the-variants.{Allowed, Refused}
+use Rattle.code.specs.Sound.{largestM}
 use Rattle.code.specs.SoundLaws.{length-most}
 use Rattle.code.specs.Admitted.{admitted}
 use Rattle.code.specs.SoundInput.{GoodReadings, SoundFor, SoundReadings}
 use Rattle.bit_rows.specs.Takeable.{Takeable}
+use Rattle.quick.specs.Engine.{Sized}
 use Rattle.quick.specs.RunningSums.{sums-most}
-use Rattle.quick.specs.Outcome.{Outcome, done, refused, readingBy, quickReading}
+use Rattle.quick.specs.Outcome.{Outcome, done, refused, readingOver, readingBy, quickReading}
 
 -- ---- the tests
 module _ (r m : ℕ) (l : List ℤ) (bits word : List ℕ) where
@@ -38,27 +42,38 @@ pub sums-small : {c : Code} {l : List ℤ} {expected k n : ℕ} → SoundFor c e
 sums-small {l = l} a =
     omega (arith, sums-most l (omega (arith, a .entries .long, length-most (a .sound))) (a .entries .within))
 
--- ---- the work: a scratch array z whose front, of n bytes, came back as the kinds k
+-- ---- the work over a row of kinds: w is its quick word
+module _ (m : ℕ) (ks : List ℕ) (l : List ℤ) (w : List ℕ) (is : w ≡ quickWord m ks l) where
+  pub take-asked : (word bits : List ℕ) → Sized m ks word l → length bits ≡ sum ks → Bits ks → Takeable m ks w bits
+  take-asked word bits s long are =
+      rw is
+      (record {
+        long-kinds = s .long-kinds;
+        long-word = length-quick m ks l;
+        long-bits = long;
+        bits-kinds = are;
+        bits-word = bits-quick m ks l;
+      })
+
+  pub all-read : (b : List ℕ) (p : ℕ) → b ≡ pick ks (transform m w) → p ≡ penalty l w → done p b w ≡ readingOver m ks l
+  unfolding quickBits quickPenalty
+  all-read b p f h = rw (h, f, is)
+
+-- ---- the work over a code's: a scratch array z whose front, of n bytes, came back as the kinds k
 module _ (c : Code) (l : List ℤ) (n : ℕ) (e : n ≡ 2 ^ c .m) (z k : List ℕ) (is : k ≡ kinds (c .r) (c .m)) where
   kinds-read : midOf 0 (n - 0) (putMid 0 (n - 0) z k) ≡ kinds (c .r) (c .m)
   kinds-read = lent-again n z k (ap length is ∙ length-kinds (c .r) (c .m) ∙ sym e) ∙ is
 
-  module _ (w : List ℕ) (quick : w ≡ quickWord (c .m) (midOf 0 (n - 0) (putMid 0 (n - 0) z k)) l) where
-    word-is : w ≡ quickWord (c .m) (kinds (c .r) (c .m)) l
-    word-is = quick ∙ ap (λ (ks : List ℕ). quickWord (c .m) ks l) kinds-read
+  pub read-asked : (bits word : List ℕ) → SoundReadings c l (length bits) (length word)
+      → (c .m ≤ largestM) × Sized (c .m) (midOf 0 (n - 0) (putMid 0 (n - 0) z k)) word l
+      × (length bits ≡ sum (midOf 0 (n - 0) (putMid 0 (n - 0) z k))) × Bits (midOf 0 (n - 0) (putMid 0 (n - 0) z k))
+  read-asked bits word g =
+      rw kinds-read (
+        g .sound .m-small,
+        record { long-kinds = length-kinds (c .r) (c .m); long-word = g .long-word; long-row = g .entries .long; small = sums-small g },
+        g .long-bits ∙ sym (sum-kinds (c .r) (c .m)),
+        bits-kinds (c .r) (c .m),
+      )
 
-    pub take-asked : (bits word : List ℕ) → SoundReadings c l (length bits) (length word) → Takeable (c .m) (midOf 0 (n - 0) (putMid 0 (n - 0) z k)) w bits
-    take-asked bits word g =
-        let ks = kinds (c .r) (c .m) in
-        rw (kinds-read, word-is)
-        (record {
-          long-kinds = length-kinds (c .r) (c .m);
-          long-word = length-quick (c .m) ks l;
-          long-bits = g .long-bits ∙ sym (sum-kinds (c .r) (c .m));
-          bits-kinds = bits-kinds (c .r) (c .m);
-          bits-word = bits-quick (c .m) ks l;
-        })
-
-    pub all-read : (b : List ℕ) (p : ℕ) → b ≡ pick (midOf 0 (n - 0) (putMid 0 (n - 0) z k)) (transform (c .m) w) → p ≡ penalty l w → done p b w ≡ readingBy c l
-    unfolding quickBits quickPenalty
-    all-read b p f h = rw (h, f, kinds-read, word-is)
+  pub code-read : (o : Outcome) → o ≡ readingOver (c .m) (midOf 0 (n - 0) (putMid 0 (n - 0) z k)) l → o ≡ readingBy c l
+  code-read o e = e ∙ ap (λ (ks : List ℕ). readingOver (c .m) ks l) kinds-read

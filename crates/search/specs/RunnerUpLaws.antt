@@ -20,15 +20,21 @@ use Rattle.code.specs.RefusalLaws.{number-above}
 use Rattle.code.specs.Admitted.{admitted}
 use Rattle.code.specs.SoundInput.{dimensionOf}
 use Rattle.code.specs.AdmittedLaws.{allowed-sound-for}
+use Rattle.search.specs.declared.Searched.{Searched}
 use Rattle.search.specs.declared.Searched.the-variants.{Refused}
 use Rattle.search.specs.Outcome.{foundWith, refused, byAnswer}
 use Rattle.search.specs.OutcomeLaws.{searching-refused, searching-answered}
 use Rattle.search.specs.RunnerUp.{roomy, runnerUp, shownWith, runnerUpOutcomeOf, withNone, runnerUpOutcomeBy, searchingWithRunnerUp}
-use Rattle.search.specs.Work.{Pickable}
+use Rattle.search.specs.Work.{withBits, Pickable}
 
 -- a refusal shows no runner-up
 pub none-shown : (x : List ℕ) (why : Refusal) (bits word : List ℕ) → shownWith x (refused why bits word) ≡ runnerUpOutcomeOf (withNone (Refused why)) bits word
 none-shown x why bits word = rw (ne-eqb (numberOf why) 0 (λ e. omega (arith, number-above why)))
+
+-- an array of zeros that is left as it was shows none
+pub none-put : {x : List ℕ} → x ≡ replicate 256 0 → (a : Searched) (bits word : List ℕ)
+    → runnerUpOutcomeOf (withBits a x) bits word ≡ runnerUpOutcomeOf (withNone a) bits word
+none-put zeros a bits word = ap (λ (x : List ℕ). runnerUpOutcomeOf (withBits a x) bits word) zeros
 
 -- if tests 1 to 4 refuse nothing: by the answer, over the words of any row of kinds
 module _ (m : ℕ) (ks : List ℕ) (l : List ℤ) (allowed : ℕ) (bits word : List ℕ) where

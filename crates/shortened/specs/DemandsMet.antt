@@ -33,7 +33,7 @@ use Rattle.encode.specs.DemandsMet.{decides-tested, decides-frozen}
 use Rattle.quick.specs.Outcome as reader
 use Rattle.quick.specs.Demands as readers
 use Rattle.quick.specs.QuickOutcome.{done-by}
-use Rattle.shortened.specs.Outcome.{leftOf, readingOver, quickOver, encodingShortened, invertingShortened, quickShortened}
+use Rattle.shortened.specs.Outcome.{leftOf, quickOver, encodingShortened, invertingShortened, quickShortened}
 use Rattle.shortened.specs.WorkLaws.{long-left, are-left}
 use Rattle.shortened.specs.OutcomeLaws.{encoding-refused, inverting-refused, quick-refused, over-refused}
 use Rattle.shortened.specs.OutcomeLaws.{encoding-left, inverting-left, quick-left, over-done}
@@ -112,7 +112,8 @@ module _ (r m : ℕ) (named : List ℕ) where
         rw (carries-none why (λ k. omega arith) (λ k. omega arith)) in
         ap readers.view (sym (over-refused ks (rm r m) l bits word why (e ∙ sym same))) ∙ plain
 
-    sound-read : SoundFor (rm r m) (sum ks) (length bits) (length word) (GoodReadings (rm r m) l) → readingOver m ks l ≡ quickOver ks (rm r m) l bits word
+    sound-read : SoundFor (rm r m) (sum ks) (length bits) (length word) (GoodReadings (rm r m) l)
+        → reader.readingOver m ks l ≡ quickOver ks (rm r m) l bits word
     sound-read a =
         let same = tested-made (λ c. sum ks) r m l (length bits) (length word) (rm r m) (made-good r m (a .sound .m-small) (a .sound .r-small)) in
         over-done ks (rm r m) l bits word (rm r m) (sound-allowed-for (λ c. sum ks) r m l (length bits) (length word) a ∙ sym same)

@@ -20,7 +20,7 @@ use Rattle.encode.specs.Outcome as encoder
 use Rattle.encode.specs.OutcomeLaws.{tested-parameters}
 use Rattle.quick.specs.Outcome as reader
 use Rattle.quick.specs.OutcomeLaws.{reading-refused, reading-done}
-use Rattle.shortened.specs.Outcome.{encodingOver, invertingOver, readingOver, quickOver, encodingShortened, invertingShortened, quickShortened}
+use Rattle.shortened.specs.Outcome.{encodingOver, invertingOver, quickOver, encodingShortened, invertingShortened, quickShortened}
 use Rattle.shortened.specs.OutcomeLaws.{encoding-refused, inverting-refused, quick-refused, over-refused}
 use Rattle.shortened.specs.OutcomeLaws.{encoding-left, inverting-left, quick-left, over-done}
 
@@ -43,7 +43,7 @@ module _ (r m : ℕ) where
       ∙ tested-made dimensionOf r m l (length bits) (length word) (rm r m) good in
       elim (decided r m l (length bits) (length word)) [
         | allows c e is a ↦ sym (over-done (kinds r m) (rm r m) l bits word c (e ∙ sym same))
-            ∙ ap (λ (d : Code). readingOver (d .m) (kinds r m) l) is
+            ∙ ap (λ (d : Code). reader.readingOver (d .m) (kinds r m) l) is
             ∙ ap (λ (d : Code). reader.readingBy d l) (sym is)
             ∙ reading-done r m l bits word c (reader.readingBy c l) e refl
         | refuses why e h ↦ sym (over-refused (kinds r m) (rm r m) l bits word why (e ∙ sym same)) ∙ reading-refused r m l bits word why e

@@ -7,7 +7,6 @@ use lib.ListN.{length}
 use Rattle.numbers.specs.Sums.{sum}
 use Rattle.words.specs.Kinds.{kinds, encoded}
 use Rattle.words.specs.Inverse.{takenBack}
-use Rattle.decoding.specs.Quick.{quickWord, quickBits, quickPenalty}
 use Rattle.code.specs.declared.Code.{Code}
 use Rattle.code.specs.Admitted.{admittedBy, afterTest}
 use Rattle.named.specs.Named.{left, rowAdmitted}
@@ -25,13 +24,9 @@ encodingOver ks c bits word = encoder.tested (c .r) (c .m) bits (sum ks) word (2
 abbrev pub invertingOver : List ℕ → Code → List ℕ → List ℕ → encoder.Outcome
 invertingOver ks c word bits = encoder.tested (c .r) (c .m) word (2 ^ c .m) bits (sum ks) (encoder.takingBack (takenBack (c .m) ks word) bits)
 
--- the written steps of the quick reading
-abbrev pub readingOver : ℕ → List ℕ → List ℤ → reader.Outcome
-readingOver m ks l = reader.done (quickPenalty m ks l) (quickBits m ks l) (quickWord m ks l)
-
 abbrev pub quickOver : List ℕ → Code → List ℤ → List ℕ → List ℕ → reader.Outcome
 quickOver ks c l bits word =
-    afterTest (admittedBy c (sum ks) l (length bits) (length word)) (λ why. reader.refused why bits word) (λ d. readingOver (d .m) ks l)
+    afterTest (admittedBy c (sum ks) l (length bits) (length word)) (λ why. reader.refused why bits word) (λ d. reader.readingOver (d .m) ks l)
 
 -- ---- the calls: from r, m, the row, the input, and the lent buffers
 unfoldable pub encodingShortened : ℕ → ℕ → List ℕ → List ℕ → List ℕ → encoder.Outcome

@@ -19,7 +19,7 @@ use Rattle.named.specs.Named.{GoodRow, rowAdmitted}
 use Rattle.named.specs.NamedLaws.{good-row, row-allowed}
 use Rattle.encode.specs.Outcome as encoder
 use Rattle.quick.specs.Outcome as reader
-use Rattle.shortened.specs.Outcome.{leftOf, encodingOver, invertingOver, readingOver, quickOver, encodingShortened, invertingShortened, quickShortened}
+use Rattle.shortened.specs.Outcome.{leftOf, encodingOver, invertingOver, quickOver, encodingShortened, invertingShortened, quickShortened}
 
 module _ (r m : ℕ) (named : List ℕ) where
   module _ (why : Refusal) (e : Refused why ≡ rowAdmitted r m named) where
@@ -65,5 +65,5 @@ module _ (ks : List ℕ) (c : Code) (l : List ℤ) (bits word : List ℕ) where
       → reader.refused why bits word ≡ quickOver ks c l bits word
   over-refused why e = rw (← e)
 
-  pub over-done : (d : Code) → Allowed d ≡ admittedBy c (sum ks) l (length bits) (length word) → readingOver (d .m) ks l ≡ quickOver ks c l bits word
+  pub over-done : (d : Code) → Allowed d ≡ admittedBy c (sum ks) l (length bits) (length word) → reader.readingOver (d .m) ks l ≡ quickOver ks c l bits word
   over-done d e = rw (← e)

@@ -10,27 +10,22 @@ use lib.Seq.{length-take-le}
 use Rattle.numbers.specs.Sums.{sum}
 use Rattle.words.specs.Bits.{Bits}
 use Rattle.words.specs.Word.{transform}
-use Rattle.words.specs.Kinds.{fill, pick}
+use Rattle.words.specs.Kinds.{fill}
 use Rattle.words.specs.Inverse.{takenBack}
 use Rattle.words.specs.TransformLaws.{length-transform}
 use Rattle.words.specs.KindLaws.{length-kinds, bits-kinds}
 use Rattle.words.specs.FillLaws.{length-fill, bits-fill}
-use Rattle.decoding.specs.Readings.{penalty}
-use Rattle.decoding.specs.Quick.{quickWord, quickBits, quickPenalty}
-use Rattle.decoding.specs.QuickLaws.{length-quick, bits-quick}
 use Rattle.code.specs.declared.Code.{Code}
-use Rattle.code.specs.Sound.{Sound}
+use Rattle.code.specs.Sound.{Sound, largestM}
 use Rattle.code.specs.SoundLaws.{length-most}
 use Rattle.code.specs.SoundInput.{GoodReadings}
-use Rattle.bit_rows.specs.Takeable.{Takeable}
 use Rattle.named.specs.NamedLaws.{length-left, bits-left}
 use Rattle.encode.specs.Outcome as encoder
 use Rattle.encode.specs.Work.{takingRow}
 use Rattle.encode.specs.OutcomeLaws.{taking-word}
-use Rattle.quick.specs.Outcome as reader
 use Rattle.quick.specs.Engine.{Sized}
 use Rattle.quick.specs.OutcomeLaws.{sums-small}
-use Rattle.shortened.specs.Outcome.{leftOf, readingOver}
+use Rattle.shortened.specs.Outcome.{leftOf}
 use Rattle.shortened.specs.Work.{Workable}
 
 -- the kinds left are a row of n kinds
@@ -66,30 +61,11 @@ module _ (c : Code) (named k : List ℕ) (is : k ≡ leftOf named c) where
 
   -- ---- the quick reading
   module _ (l : List ℤ) (kinds bits word : List ℕ) (w : Workable c named kinds (length bits) (length word) (GoodReadings c l)) where
-    pub quick-asked : Sized (c .m) k word l
-    quick-asked =
-        record {
-          long-kinds = ap length is ∙ long-left named c;
-          long-word = w .input .long-word;
-          long-row = w .input .entries .long;
-          small = sums-small (w .input);
-        }
-
-    module _ (v : List ℕ) (quick : v ≡ quickWord (c .m) k l) where
-      word-is : v ≡ quickWord (c .m) (leftOf named c) l
-      word-is = quick ∙ ap (λ (ks : List ℕ). quickWord (c .m) ks l) is
-
-      pub bits-asked : Takeable (c .m) k v bits
-      bits-asked =
-          rw (is, word-is)
-          (record {
-            long-kinds = long-left named c;
-            long-word = length-quick (c .m) (leftOf named c) l;
-            long-bits = w .input .long-bits;
-            bits-kinds = are-left named c;
-            bits-word = bits-quick (c .m) (leftOf named c) l;
-          })
-
-      pub all-read : (b : List ℕ) (p : ℕ) → b ≡ pick k (transform (c .m) v) → p ≡ penalty l v → reader.done p b v ≡ readingOver (c .m) (leftOf named c) l
-      unfolding quickBits quickPenalty
-      all-read b p f h = rw (h, f, is, word-is)
+    pub read-asked : (c .m ≤ largestM) × Sized (c .m) k word l × (length bits ≡ sum k) × Bits k
+    read-asked =
+        rw is (
+          w .input .sound .m-small,
+          record { long-kinds = long-left named c; long-word = w .input .long-word; long-row = w .input .entries .long; small = sums-small (w .input) },
+          w .input .long-bits,
+          are-left named c,
+        )

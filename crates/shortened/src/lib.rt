@@ -16,7 +16,7 @@ ghost use Rattle.code.specs.SoundInput.{GoodReadings};
 ghost use Rattle.named.specs.Named.{GoodRow};
 ghost use Rattle.encode.specs.Outcome as encoder;
 ghost use Rattle.quick.specs.Outcome as reader;
-ghost use Rattle.shortened.specs.Outcome.{leftOf, encodingOver, invertingOver, readingOver};
+ghost use Rattle.shortened.specs.Outcome.{leftOf, encodingOver, invertingOver};
 ghost use Rattle.shortened.specs.Outcome.{quickOver, encodingShortened};
 ghost use Rattle.shortened.specs.Outcome.{invertingShortened, quickShortened};
 ghost use Rattle.shortened.specs.Work.{Workable};
@@ -169,11 +169,10 @@ fn take_reading(
     requires { ⌜ Workable code (now named) (now kinds) (length (now bits)) (length (now word))
         (GoodReadings code (now readings)) ⌝ }
     ensures { λ penalty. ⌜ reader.done penalty (now (bits .exit)) (now (word .exit))
-        ≡ readingOver (code .m) (leftOf (now (named .entry)) code) (now (readings .entry)) ⌝ }
+        ≡ reader.readingOver (code .m) (leftOf (now (named .entry)) code)
+        (now (readings .entry)) ⌝ }
 {
     let m = code.m as usize;
     named::put_left(code, named, kinds);
-    quick::quick_word(readings, kinds, word, m);
-    bit_rows::take_bits(kinds, word, bits, m);
-    quick::penalty(readings, word)
+    quick::read_kinds(kinds, readings, bits, word, m)
 }

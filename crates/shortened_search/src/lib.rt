@@ -91,5 +91,7 @@ fn search_sound(
     let n = code.length();
     named::put_left(code, named, &mut kinds[0..n]);
     search::copy_readings(readings, &mut own[0..n]);
-    search::search_kinds(&own, &kinds, code.m, allowed, bits, word)
+    let mut runner_up = [0u8; 256];
+    let result = search::search_kinds(&own, &kinds, code.m, allowed, bits, word, &mut runner_up);
+    WithRunnerUp { result, runner_up }
 }

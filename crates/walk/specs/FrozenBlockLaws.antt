@@ -1,6 +1,6 @@
 -- Laws of frozen indices taken at once: what the call that takes them gives, what it is asked, and where the frozen step is after it.
 use mathlib.Core.Path.{_≡_, refl, ap, sym, _∙_, subst}
-use mathlib.Core.Bool.{true, false}
+use mathlib.Core.Bool.{Bool, true, false, _&&_}
 use mathlib.Core.List.{List, _++_, append-assoc}
 use mathlib.Core.Logic.{_⊎_, ⊎-elim}
 use Prim.Native.Nat.{ℕ, _+_, _-_, _*_, _^_, _/_, _%_, _≤_, _<_}
@@ -8,11 +8,11 @@ use native.Mathlib.Omega.{arith}
 use native.Mathlib.Nat.{mul-le-mul-right}
 use lib.IntN.{ℤ}
 use lib.ListN.{length, getD, take, drop, length-append, length-take, length-drop, length-replicate, replicate-append-replicate}
-use lib.Dec.{leb}
+use lib.Dec.{eqb, ltb}
 use lib.Seq.{paste, length-paste, length-take-le, take-all, take-at, take-take, getD-take, getD-drop}
 use lib.Pow.{pow-add}
-use borrow.Author.Tests.{lt-ltb, le-ltb, lt-leb, le-leb, ne-eqb, leb-true}
-use Rattle.numbers.specs.Choice.{cond-by, lt-or-le}
+use borrow.Author.Tests.{eq-eqb, ne-eqb, eqb-true, ltb-true, leb-true}
+use Rattle.numbers.specs.Choice.{cond-by}
 use Rattle.words.specs.Bits.{Bits}
 use Rattle.words.specs.TransformLaws.{bits-append, bits-take, bits-drop, bits-zeros}
 use Rattle.decoding.specs.Readings.{sizes}
@@ -24,20 +24,27 @@ use Rattle.memory.specs.Memory.{RowsFor}
 use Rattle.memory.specs.RowLaws.{start-le, row-block, row-sizes}
 use Rattle.memory.specs.RowsForLaws.{rows-for-path}
 use Rattle.blocks.specs.Frozen.{frozenRun, runAdds}
+use Rattle.blocks.specs.InformationLaws.{and-both}
 use Rattle.blocks.specs.FrozenLaws.{run-sizes, run-frozen, run-added, adds-size}
 use Rattle.walk.specs.Progress.{Progress, seen, front, more, madeFor, visiting, drops, Visited, Kept, Ready, Onward, StepGiven, Reached, ValueGiven}
 use Rattle.walk.specs.Progress.{allowsMore, countedMore}
 use Rattle.walk.specs.ProgressLaws.{shows-visits}
 use Rattle.walk.specs.StepLaws.{true-false, was-more, sum-small}
 use Rattle.walk.specs.RunLaws.{ran, ready-run, onward-run}
-use Rattle.walk.specs.FrozenBlocks.{runAt, runPenalty, takes, takenAt, BlockRoom, ZerosAsked, ZerosGiven}
+use Rattle.walk.specs.FrozenBlocks.{startsBlock, runAt, runPenalty, takes, takenAt, BlockRoom, ZerosAsked, ZerosGiven}
 
--- ---- how many
-run-short : (k₀ σ : List ℕ) (i : ℕ) → getD σ 6 0 < 5 → runAt k₀ σ i ≡ 0
-run-short k₀ σ i h = rw (lt-ltb (getD σ 6 0) 5 h) refl
+-- ---- where one starts
+starts-at : (σ : List ℕ) (i : ℕ) → startsBlock σ i ≡ true → (i % 16 ≡ 0) × (5 ≤ getD σ 6 0)
+starts-at σ i e =
+    let both = and-both (eqb (i % 16) 0) (ltb 4 (getD σ 6 0)) e in
+    (eqb-true (i % 16) 0 (both .0), ltb-true 4 (getD σ 6 0) (both .1))
 
-run-long : (k₀ σ : List ℕ) (i : ℕ) → 5 ≤ getD σ 6 0 → runAt k₀ σ i ≡ frozenRun (drop i k₀)
-run-long k₀ σ i h = rw (le-ltb (getD σ 6 0) 5 h) refl
+-- as its code goes
+pub starts-not : (σ : List ℕ) (i : ℕ) → (i % 16 ≡ 0 → ⊥) → false ≡ startsBlock σ i
+starts-not σ i h = sym (ap (λ (b : Bool). b && ltb 4 (getD σ 6 0)) (ne-eqb (i % 16) 0 h))
+
+pub starts-by : (σ : List ℕ) (i : ℕ) {r : Bool} → i % 16 ≡ 0 → r ≡ ltb 4 (getD σ 6 0) → r ≡ startsBlock σ i
+starts-by σ i h e = e ∙ sym (ap (λ (b : Bool). b && ltb 4 (getD σ 6 0)) (eq-eqb (i % 16) 0 h))
 
 -- ---- whether
 module _ (n q : ℕ) (σ : List ℕ) where
@@ -66,22 +73,19 @@ module _ (k₀ : List ℕ) (s : List ℤ) (y σ : List ℕ) (i p : ℕ) where
   left-alone : takenAt k₀ s σ i p ≡ false → ZerosGiven k₀ s y σ i p 0 y σ
   left-alone e = record { answers = rw e refl; path = rw e refl; counts = rw e refl }
 
-  pub given-short : getD σ 6 0 < 5 → ZerosGiven k₀ s y σ i p 0 y σ
-  given-short h = left-alone (takes-none (runAt k₀ σ i) (runPenalty s (runAt k₀ σ i) p) σ (run-short k₀ σ i h))
-
-  module _ (more-than-16 : 5 ≤ getD σ 6 0) {n : ℕ} (run : n ≡ frozenRun (drop i k₀)) where
-    same-run : runAt k₀ σ i ≡ n
-    same-run = run-long k₀ σ i more-than-16 ∙ sym run
+  module _ {n : ℕ} (run : n ≡ frozenRun (drop i k₀)) where
+    same-run : runAt k₀ i ≡ n
+    same-run = sym run
 
     pub given-none : n ≡ 0 → ZerosGiven k₀ s y σ i p 0 y σ
-    given-none e = left-alone (takes-none (runAt k₀ σ i) (runPenalty s (runAt k₀ σ i) p) σ (same-run ∙ e))
+    given-none e = left-alone (takes-none (runAt k₀ i) (runPenalty s (runAt k₀ i) p) σ (same-run ∙ e))
 
     module _ (some : n ≡ 0 → ⊥) {a : ℕ} (adds : a ≡ runAdds n (rowOf 16 s)) where
-      same-penalty : runPenalty s (runAt k₀ σ i) p ≡ p + a
+      same-penalty : runPenalty s (runAt k₀ i) p ≡ p + a
       same-penalty = ap (λ (k : ℕ). runPenalty s k p) same-run ∙ ap (λ (k : ℕ). p + k) (sym adds)
 
       same-taken : takenAt k₀ s σ i p ≡ takes n (p + a) σ
-      same-taken = ap (λ (k : ℕ). takes k (runPenalty s (runAt k₀ σ i) p) σ) same-run ∙ ap (λ (q : ℕ). takes n q σ) same-penalty
+      same-taken = ap (λ (k : ℕ). takes k (runPenalty s (runAt k₀ i) p) σ) same-run ∙ ap (λ (q : ℕ). takes n q σ) same-penalty
 
       pub given-dropped : drops (seen σ) (p + a) ≡ true → ZerosGiven k₀ s y σ i p 0 y σ
       given-dropped d = left-alone (same-taken ∙ takes-dropped n (p + a) σ some d)
@@ -174,8 +178,8 @@ module _ {l₀ : List ℤ} {k₀ y₀ best₀ second₀ σ₀ : List ℕ} {from 
 
 -- ---- the frozen step at the start of a block: a visit is counted, and the value made
 module _ {l₀ : List ℤ} {k₀ : List ℕ} {s : List ℤ} {y best second σ y₀ best₀ second₀ σ₀ : List ℕ} {i p from p₀ : ℕ}
-    (r : Reached l₀ k₀ y₀ best₀ second₀ σ₀ from p₀ s y best second σ i p) (inside : i < 2 ^ getD σ 6 0) (at : i % 16 ≡ 0)
-    {σ₁ : List ℕ} (v : Visited σ true σ₁) {x : ℤ} {s₂ : List ℤ} {σ₂ : List ℕ} (given : ValueGiven l₀ y σ₁ i x s₂ σ₂) where
+    (r : Reached l₀ k₀ y₀ best₀ second₀ σ₀ from p₀ s y best second σ i p) (inside : i < 2 ^ getD σ 6 0) {σ₁ : List ℕ}
+    (v : Visited σ true σ₁) {x : ℤ} {s₂ : List ℤ} {σ₂ : List ℕ} (given : ValueGiven l₀ y σ₁ i x s₂ σ₂) (begins-here : startsBlock σ₂ i ≡ true) where
   abbrev ready : Ready (front σ l₀) (front σ k₀) s y best second i p (seen σ)
   ready = r .asked .ready
 
@@ -187,6 +191,12 @@ module _ {l₀ : List ℤ} {k₀ : List ℕ} {s : List ℤ} {y best second σ y�
 
   same-m : getD σ₂ 6 0 ≡ getD σ 6 0
   same-m = ap (λ (k : Progress). k .m) shows
+
+  at : i % 16 ≡ 0
+  at = starts-at σ₂ i begins-here .0
+
+  more-than-16 : 5 ≤ getD σ 6 0
+  more-than-16 = omega (arith, same-m, starts-at σ₂ i begins-here .1)
 
   one-more : getD σ₂ 3 0 ≡ getD σ 3 0 + 1
   one-more = ap (λ (k : Progress). k .visits) shows
@@ -200,31 +210,30 @@ module _ {l₀ : List ℤ} {k₀ : List ℕ} {s : List ℤ} {y best second σ y�
   in-path : i ≤ length y
   in-path = omega (arith, ready .room, ready .kept .long-path)
 
-  module _ (more-than-16 : 5 ≤ getD σ 6 0) where
-    ends : i + 16 ≤ 2 ^ getD σ 6 0
-    ends = block-ends (getD σ 6 0) (front σ l₀) y i s₂ more-than-16 at inside (ready .long) in-path rows
+  ends : i + 16 ≤ 2 ^ getD σ 6 0
+  ends = block-ends (getD σ 6 0) (front σ l₀) y i s₂ more-than-16 at inside (ready .long) in-path rows
 
-    room : BlockRoom k₀ s₂ y i
-    room =
-        record {
-          room = omega (arith, ends, ready .room);
-          kinds = omega (arith, ends, ready .long-kinds, length-take (2 ^ getD σ 6 0) k₀);
-          path = omega (arith, ends, ready .room, ready .kept .long-path);
-          rows = block-long (getD σ 6 0) (front σ l₀) y i s₂ more-than-16 at inside (ready .long) in-path rows;
-          small = omega (arith, block-small (getD σ 6 0) (front σ l₀) y i s₂ more-than-16 at inside (ready .long) in-path rows, ready .small);
-        }
+  room : BlockRoom k₀ s₂ y i
+  room =
+      record {
+        room = omega (arith, ends, ready .room);
+        kinds = omega (arith, ends, ready .long-kinds, length-take (2 ^ getD σ 6 0) k₀);
+        path = omega (arith, ends, ready .room, ready .kept .long-path);
+        rows = block-long (getD σ 6 0) (front σ l₀) y i s₂ more-than-16 at inside (ready .long) in-path rows;
+        small = omega (arith, block-small (getD σ 6 0) (front σ l₀) y i s₂ more-than-16 at inside (ready .long) in-path rows, ready .small);
+      }
 
   pub zeros-asked : ZerosAsked k₀ s₂ y σ₂ i p
   zeros-asked =
       record {
         long = given .shows .long;
         low = omega (arith, sum-small ready 0 inside (omega arith));
-        block = λ h. room (omega (arith, same-m, h));
+        block = room;
       }
 
   module _ {t : ℕ} {y′ σ′ : List ℕ} (z : ZerosGiven k₀ s₂ y σ₂ i p t y′ σ′) where
     abbrev n : ℕ
-    n = runAt k₀ σ₂ i
+    n = runAt k₀ i
 
     abbrev q : ℕ
     q = runPenalty s₂ n p
@@ -242,16 +251,8 @@ module _ {l₀ : List ℤ} {k₀ : List ℕ} {s : List ℤ} {y best second σ y�
       took =
           cond-by (λ (u : Unit {0}). takes n q σ₂ ≡ true) (takes n q σ₂) tt tt (λ b. b) (λ b. absurd (some (z .answers ∙ rw b refl)))
 
-      more-than-16 : 5 ≤ getD σ 6 0
-      more-than-16 =
-          ⊎-elim (λ (h : getD σ 6 0 < 5). absurd (took-some n q σ₂ took (run-short k₀ σ₂ i (omega (arith, same-m, h))))) (λ (h : 5 ≤ getD σ 6 0). h)
-          (lt-or-le (getD σ 6 0) 5)
-
-      run : n ≡ frozenRun (drop i k₀)
-      run = run-long k₀ σ₂ i (omega (arith, same-m, more-than-16))
-
       size : (n ≡ 15) ⊎ (n ≡ 16)
-      size = rw run (run-sizes (drop i k₀) (λ e. took-some n q σ₂ took (run ∙ e)))
+      size = run-sizes (drop i k₀) (took-some n q σ₂ took)
 
       few : n ≤ 16
       few = ⊎-elim (λ (e : n ≡ 15). omega arith) (λ (e : n ≡ 16). omega arith) size
@@ -279,7 +280,7 @@ module _ {l₀ : List ℤ} {k₀ : List ℕ} {s : List ℤ} {y best second σ y�
       put = z .path ∙ rw took refl
 
       in-room : i + 16 ≤ length y
-      in-room = room more-than-16 .path
+      in-room = room .path
 
       path : take (i + n) y′ ≡ take i y ++ zeros n
       path = ap (take (i + n)) put ∙ zeros-path y i n 16 few in-room
@@ -300,7 +301,7 @@ module _ {l₀ : List ℤ} {k₀ : List ℕ} {s : List ℤ} {y best second σ y�
           }
 
       ends-n : i + n ≤ 2 ^ getD σ 6 0
-      ends-n = omega (arith, ends more-than-16, few)
+      ends-n = omega (arith, ends, few)
 
       there : Onward (front σ l₀) (front σ k₀) from p₀ (seen σ₀) y₀ best₀ second₀ i p (seen σ) y best second
       there =
@@ -310,7 +311,7 @@ module _ {l₀ : List ℤ} {k₀ : List ℕ} {s : List ℤ} {y best second σ y�
       frozen : (j : ℕ) → j < n → getD (front σ k₀) (i + j) 0 ≡ 0
       frozen j h =
           getD-take (2 ^ getD σ 6 0) k₀ (i + j) 0 (omega (arith, ends-n, h)) ∙ sym (getD-drop i k₀ j 0)
-          ∙ run-frozen (drop i k₀) j (omega (arith, run, h))
+          ∙ run-frozen (drop i k₀) j h
 
       reached : Reached l₀ k₀ y₀ best₀ second₀ σ₀ from p₀ s₂ y′ best second σ′ (i + n) q
       reached =
@@ -344,4 +345,4 @@ module _ {l₀ : List ℤ} {k₀ : List ℕ} {s : List ℤ} {y best second σ y�
 
       pub zeros-low : t / 256 < 2 ^ 32
       zeros-low =
-          omega (arith, sum, adds-size n (rowOf 16 s₂), room more-than-16 .small, zeros-asked .low)
+          omega (arith, sum, adds-size n (rowOf 16 s₂), room .small, zeros-asked .low)

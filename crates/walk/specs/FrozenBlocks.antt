@@ -1,8 +1,8 @@
 -- Frozen indices that the frozen step takes at once at i, where a block of 16 starts: whether and how many, and what that leaves in the walk's arrays.
 use mathlib.Core.Path.{_≡_}
-use mathlib.Core.Bool.{Bool, false, cond}
+use mathlib.Core.Bool.{Bool, false, _&&_, cond}
 use mathlib.Core.List.{List}
-use Prim.Native.Nat.{ℕ, _+_, _-_, _*_, _≤_, _<_}
+use Prim.Native.Nat.{ℕ, _+_, _-_, _*_, _%_, _≤_, _<_}
 use lib.IntN.{ℤ}
 use lib.ListN.{length, getD, drop}
 use lib.Seq.{paste}
@@ -13,9 +13,13 @@ use Rattle.rows.specs.Rows.{rowOf}
 use Rattle.blocks.specs.Frozen.{frozenRun, runAdds}
 use Rattle.walk.specs.Progress.{seen, drops, allowsMore, countedMore}
 
--- how many: none in a code of 16 or fewer positions, of which the scratch has no row of 16 sums
-abbrev pub runAt : List ℕ → List ℕ → ℕ → ℕ
-runAt k₀ σ i = cond (ltb (getD σ 6 0) 5) 0 (frozenRun (drop i k₀))
+-- such a block starts at i: not in a code of 16 or fewer positions, of which the scratch has no row of 16 sums
+abbrev pub startsBlock : List ℕ → ℕ → Bool
+startsBlock σ i = eqb (i % 16) 0 && ltb 4 (getD σ 6 0)
+
+-- how many
+abbrev pub runAt : List ℕ → ℕ → ℕ
+runAt k₀ i = frozenRun (drop i k₀)
 
 -- the penalty after n zeros
 abbrev pub runPenalty : List ℤ → ℕ → ℕ → ℕ
@@ -36,14 +40,14 @@ pub record BlockRoom (k₀ : List ℕ) (s : List ℤ) (y : List ℕ) (i : ℕ) :
 pub record ZerosAsked (k₀ : List ℕ) (s : List ℤ) (y σ : List ℕ) (i p : ℕ) : Type 0 where
   pub long : length σ ≡ 8
   pub low : p < sumLimit
-  pub block : 5 ≤ getD σ 6 0 → BlockRoom k₀ s y i
+  pub block : BlockRoom k₀ s y i
 
 -- whether zeros are taken at i
 abbrev pub takenAt : List ℕ → List ℤ → List ℕ → ℕ → ℕ → Bool
-takenAt k₀ s σ i p = takes (runAt k₀ σ i) (runPenalty s (runAt k₀ σ i) p) σ
+takenAt k₀ s σ i p = takes (runAt k₀ i) (runPenalty s (runAt k₀ i) p) σ
 
 -- the answer: the penalty after them times 256, and how many; 0 where none is taken, and then nothing changes
 pub record ZerosGiven (k₀ : List ℕ) (s : List ℤ) (y σ : List ℕ) (i p r : ℕ) (y′ σ′ : List ℕ) : Type 0 where
-  pub answers : r ≡ cond (takenAt k₀ s σ i p) (runPenalty s (runAt k₀ σ i) p * 256 + runAt k₀ σ i) 0
+  pub answers : r ≡ cond (takenAt k₀ s σ i p) (runPenalty s (runAt k₀ i) p * 256 + runAt k₀ i) 0
   pub path : y′ ≡ cond (takenAt k₀ s σ i p) (paste y i (zeros 16) 16) y
-  pub counts : σ′ ≡ cond (takenAt k₀ s σ i p) (countedMore (runAt k₀ σ i - 1) σ) σ
+  pub counts : σ′ ≡ cond (takenAt k₀ s σ i p) (countedMore (runAt k₀ i - 1) σ) σ

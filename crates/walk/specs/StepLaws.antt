@@ -64,7 +64,7 @@ module _ (allowed m : ℕ) (l : List ℤ) (kinds : List ℕ) (i : ℕ) (u : List
       let z : getD kinds i 0 ≡ suc (getD kinds i 0 - 1) = omega arith in
       rw (add-one i, drop-cons kinds i 0 h, z)
 
-bits-set : (x : List ℕ) (i b : ℕ) → b < 2 → Bits x → Bits (set x i b)
+pub bits-set : (x : List ℕ) (i b : ℕ) → b < 2 → Bits x → Bits (set x i b)
 bits-set [] i b k h j = h j
 bits-set (a ∷ x) zero b k h zero = k
 bits-set (a ∷ x) zero b k h (suc j) = h (suc j)
@@ -170,7 +170,7 @@ module _ {l : List ℤ} {kinds : List ℕ} {s : List ℤ} {y best second : List 
         rw (r .penalty, ← (path-more (w .m) l u b))
         (lt-of-le-of-lt (path-sizes (w .m) l (r .long) (u ++ b ∷ []) long (bits-more u b bits-here bit)) (r .small))
 
-    put-path : (y′ : List ℕ) → length y′ ≡ 256 → take i y′ ≡ take i y → take (i + 1) (set y′ i b) ≡ take i y ++ b ∷ []
+    pub put-path : (y′ : List ℕ) → length y′ ≡ 256 → take i y′ ≡ take i y → take (i + 1) (set y′ i b) ≡ take i y ++ b ∷ []
     put-path y′ long e =
         ap (λ (k : ℕ). take k (set y′ i b)) (add-one i) ∙ take-suc-set y′ i b (omega (arith, r .room))
         ∙ ap (λ (u : List ℕ). u ++ b ∷ []) e

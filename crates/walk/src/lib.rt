@@ -4,6 +4,10 @@
 // extensions and hands each on to the frozen step at the next index. So the number of indices
 // still to choose never grows, and falls from one information step to the next.
 //
+// Where nothing can branch, either step takes a whole block of indices at once, with the visits
+// that the indices would have had one by one: what a block is made of is in the crate blocks, which
+// one is taken is here.
+//
 // What the walk holds and counts is in state, by place, and is changed there. Nothing is handed
 // back, so that the last call of a step takes no stack of its own.
 ghost use mathlib.Core.Path.{_≡_};
@@ -16,8 +20,8 @@ ghost use Rattle.walk.specs.Progress.{allowsMore, countedBy, countedMore
 ghost use Rattle.walk.specs.Progress.{madeFor};
 ghost use Rattle.walk.specs.Progress.{Finished, Shows, StepAsked, StepGiven, Visited};
 ghost use Rattle.walk.specs.Progress.{ValueAsked, ValueGiven, Walkable, Walked};
-ghost use Rattle.walk.specs.FrozenBlocks.{ZerosAsked, ZerosGiven};
-ghost use Rattle.walk.specs.InformationBlocks.{mayTake, HardAsked, HardGiven, BlockGiven};
+ghost use Rattle.walk.specs.FrozenBlocks.{startsBlock, ZerosAsked, ZerosGiven};
+ghost use Rattle.walk.specs.InformationBlocks.{HardAsked, HardGiven, BlockGiven};
 
 // The places in state: how many full paths are held, the penalty of best and that of second, the
 // visits, whether a visit was wanted that is not allowed, the index that the rows are made for, m,
@@ -204,22 +208,34 @@ fn count(state: &mut [u32; 8], n: u32)
 }
 
 // So many visits more; or where not all are allowed, as many as are, and out.
-fn visits(state: &mut [u32; 8], n: u32)
+fn visits(state: &mut [u32; 8], n: u32) -> bool
     requires { ⌜ length (now state) ≡ 8 ⌝ }
-    ensures { λ _. ⌜ Shows (now (state .exit)) (countedBy n (seen (now (state .entry)))) ⌝ }
+    ensures { λ r. ⌜ (r ≡ allowsMore n (now (state .entry)))
+        × Shows (now (state .exit)) (countedBy n (seen (now (state .entry)))) ⌝ }
 {
     if allows(state, n) {
         count(state, n);
-        return;
+        return true;
     }
     let allowed = state[ALLOWANCE];
     state[VISITS] = allowed;
     state[OUT_OF_VISITS] = 1;
+    false
 }
 
-// A block of 16 indices starts at i, for which the rows are made and a visit is counted. Where all
-// are frozen, or all but the last, and no zero is dropped, and the visits are allowed, the frozen
-// ones are taken at once: the penalty after them times 256, and how many. Otherwise 0, and nothing
+// A block of 16 indices starts at i and is not all there are, so that the rows have one of 16 sums.
+fn starts_block(state: &[u32; 8], i: usize) -> bool
+    ensures { λ r. ⌜ r ≡ startsBlock (now (state .entry)) i ⌝ }
+{
+    if i % 16 != 0 {
+        return false;
+    }
+    4 < state[EXPONENT]
+}
+
+// Such a block starts at i, for which the rows are made and a visit is counted. Where all are
+// frozen, or all but the last, and no zero is dropped, and the visits are allowed, the frozen ones
+// are taken at once: the penalty after them times 256, and how many. Otherwise 0, and nothing
 // changes.
 fn zeros(
     kinds: &[u8; 256],
@@ -233,9 +249,6 @@ fn zeros(
     ensures { λ r. ⌜ ZerosGiven (now (kinds .entry)) (now (rows .entry)) (now (path .entry))
         (now (state .entry)) i penalty r (now (path .exit)) (now (state .exit)) ⌝ }
 {
-    if state[EXPONENT] < 5 {
-        return 0;
-    }
     let n = blocks::frozen::run(kinds, i);
     if n == 0 {
         return 0;
@@ -262,21 +275,20 @@ fn has_row(state: &[u32; 8], n: usize) -> bool
     n < 1usize << m
 }
 
-// A block of n = 2^s indices starts at i, for which the rows are made and a visit is counted. Where
-// all its indices carry information and the other visits are allowed, those are counted, and each
-// index has the bit that its value speaks for.
+// Where a block of n = 2^s indices starts at i, for which the rows are made, and all of them carry
+// information, each has the bit that its value speaks for.
 fn hard_block(
     kinds: &[u8; 256],
     rows: &[i32; 256],
     path: &mut [u8; 256],
-    state: &mut [u32; 8],
+    state: &[u32; 8],
     i: usize,
     n: u32,
     s: usize,
 ) -> bool
     requires { ⌜ HardAsked (now state) i × (n ≡ 2 ^ s) ⌝ }
     ensures { λ r. ⌜ HardGiven (now (kinds .entry)) (now (rows .entry)) (now (state .entry))
-        (now (path .entry)) i n s r (now (state .exit)) (now (path .exit)) ⌝ }
+        (now (path .entry)) i n s r (now (path .exit)) ⌝ }
 {
     let length = wide(n);
     if i % length != 0 {
@@ -288,25 +300,21 @@ fn hard_block(
     if !blocks::information::all_chosen(kinds, i, length) {
         return false;
     }
-    if !allows(state, n - 1) {
-        return false;
-    }
-    count(state, n - 1);
     blocks::information::put_hard(rows, path, i, length, s);
     true
 }
 
-// The largest such block of 16, 8 or 4 indices: how many it has, or 0.
+// The largest such block of 16, 8, 4 or 2 indices: how many it has; or 1, and nothing changes.
 fn hard_blocks(
     kinds: &[u8; 256],
     rows: &[i32; 256],
     path: &mut [u8; 256],
-    state: &mut [u32; 8],
+    state: &[u32; 8],
     i: usize,
 ) -> u32
     requires { ⌜ HardAsked (now state) i ⌝ }
-    ensures { λ n. ⌜ BlockGiven true (now (kinds .entry)) (now (rows .entry))
-        (now (state .entry)) (now (path .entry)) i n (now (state .exit)) (now (path .exit)) ⌝ }
+    ensures { λ n. ⌜ BlockGiven (now (kinds .entry)) (now (rows .entry)) (now (state .entry))
+        (now (path .entry)) i n (now (path .exit)) ⌝ }
 {
     if hard_block(kinds, rows, path, state, i, 16, 4) {
         return 16;
@@ -317,12 +325,15 @@ fn hard_blocks(
     if hard_block(kinds, rows, path, state, i, 4, 2) {
         return 4;
     }
-    0
+    if hard_block(kinds, rows, path, state, i, 2, 1) {
+        return 2;
+    }
+    1
 }
 
 // What is taken at once at i, for which the rows are made and a visit is counted: of frozen indices
-// as zeros gives it, of information indices how many. Both steps call this, so that the compiler
-// keeps it out of them, and their frames stay as small as they are without it.
+// as zeros gives it, of information indices how many, and nothing is counted. Both steps call this,
+// so that the compiler keeps it out of them, and their frames stay as small as they are without it.
 fn taken(
     kinds: &[u8; 256],
     rows: &[i32; 256],
@@ -339,8 +350,9 @@ fn taken(
         → ZerosGiven (now (kinds .entry)) (now (rows .entry)) (now (path .entry))
         (now (state .entry)) i penalty r (now (path .exit)) (now (state .exit)))
         × ((getD (now (kinds .entry)) i 0 ≡ 0 → ⊥)
-        → BlockGiven true (now (kinds .entry)) (now (rows .entry))
-        (now (state .entry)) (now (path .entry)) i r (now (state .exit)) (now (path .exit))) ⌝ }
+        → (now (state .exit) ≡ now (state .entry))
+        × BlockGiven (now (kinds .entry)) (now (rows .entry)) (now (state .entry))
+        (now (path .entry)) i r (now (path .exit))) ⌝ }
 {
     if kinds[i] == 0 {
         return zeros(kinds, rows, path, state, i, penalty);
@@ -348,29 +360,24 @@ fn taken(
     hard_blocks(kinds, rows, path, state, i) as u64
 }
 
-// A block of information indices at i, of which the value is made, is taken where the penalty with
-// the other bit at i is dropped: then the other bit is dropped at each index of the block, since no
-// sum of its row has a smaller size than the value at i. How many indices, or 0.
+// How many information indices from i on have the bits that their values speak for, where that at i
+// is put: those of the largest block that starts there, or i alone.
 fn hard_here(
     kinds: &[u8; 256],
     rows: &[i32; 256],
     path: &mut [u8; 256],
     state: &mut [u32; 8],
     i: usize,
-    after: u32,
 ) -> u32
     requires { ⌜ HardAsked (now state) i × (getD (now kinds) i 0 ≡ 0 → ⊥) ⌝ }
-    ensures { λ n. ⌜ BlockGiven (mayTake (now (state .entry)) i after) (now (kinds .entry))
-        (now (rows .entry)) (now (state .entry)) (now (path .entry)) i n
-        (now (state .exit)) (now (path .exit)) ⌝ }
+    ensures { λ n. ⌜ (now (state .exit) ≡ now (state .entry))
+        × BlockGiven (now (kinds .entry)) (now (rows .entry)) (now (state .entry))
+        (now (path .entry)) i n (now (path .exit)) ⌝ }
 {
-    if i % 4 != 0 {
-        return 0;
+    if i % 2 != 0 {
+        return 1;
     }
-    if !dropped(state, after) {
-        return 0;
-    }
-    taken(kinds, rows, path, state, i, after) as u32
+    taken(kinds, rows, path, state, i, 0) as u32
 }
 
 // The path of the first `from` bits, of this penalty, goes on with a 0 at each frozen index: up to
@@ -416,7 +423,7 @@ fn frozen_step(
             return;
         }
         let value = value_at(readings, rows, path, word, state, i);
-        if i % 16 == 0 {
+        if starts_block(state, i) {
             let block = taken(kinds, rows, path, state, i, sum);
             if block != 0 {
                 i += (block % 256) as usize;
@@ -438,9 +445,9 @@ fn frozen_step(
 // Both extensions at an information index i: first the bit that the value speaks for, which adds
 // nothing, so that it is not dropped; when everything under it is done, the other. Where the walk
 // under the first wanted a visit that is not allowed, none is left for the other.
-// Where the other is dropped before, and a block of information indices starts at i, all its first
-// bits are taken at once: as many visits go before what lies behind the block as go after it, one
-// for the other bit of each index, which is dropped.
+// Where the other is dropped at once, it is dropped then, too: its visit is counted before, and
+// nothing is left to do after the first. The same holds of each index of a block that starts at i,
+// since no sum of the block's row has a smaller size than the value at i.
 fn info_step(
     readings: &[i16; 256],
     kinds: &[u8; 256],
@@ -468,8 +475,13 @@ fn info_step(
     let first = first_bit(value);
     let other = 1 - first;
     let after = penalty + rows::loss(value, other);
-    let n = hard_here(kinds, rows, path, state, i, after);
-    if n != 0 {
+    put(path, i, first);
+    let gone = dropped(state, after);
+    if gone {
+        let n = hard_here(kinds, rows, path, state, i);
+        if !visits(state, n + n - 1) {
+            return;
+        }
         frozen_step(
             readings,
             kinds,
@@ -482,10 +494,8 @@ fn info_step(
             i + wide(n),
             penalty,
         );
-        visits(state, n);
         return;
     }
-    put(path, i, first);
     frozen_step(
         readings,
         kinds,

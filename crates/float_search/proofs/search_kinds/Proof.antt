@@ -11,12 +11,11 @@ use lib.Ieee.{sub, binary32}
 use borrow.Author.Tests.{lt-ltb, le-ltb}
 use Rattle.words.specs.Kinds.{pick}
 use Rattle.decoding.specs.Readings.{sumLimit}
-use Rattle.code.specs.declared.Refusal.the-variants.{Tied}
+use Rattle.code.specs.declared.Refusal.the-variants.{OutOfVisits, Tied}
 use Rattle.search.specs.declared.Searched.the-variants.{Refused}
-use Rattle.search.specs.declared.WithRunnerUp.{WithRunnerUp}
 use Rattle.search.specs.Outcome.{Outcome, foundWith}
 use Rattle.search.specs.RunnerUp.{RunnerUpOutcome, roomy, runnerUp, runnerUpOutcomeOf, withNone}
-use Rattle.search.specs.RunnerUpLaws.{runner-up-out, runner-up-tied, runner-up-found}
+use Rattle.search.specs.RunnerUpLaws.{none-put, runner-up-out, runner-up-tied, runner-up-found}
 use Rattle.search.specs.WorkLaws.{out-answer, ordered, many, runner-up-is, tied-answer, found-answer, walkable, pickable}
 use Rattle.float_numbers.specs.Whole.{float, wholes}
 use Rattle.float_walk.specs.Held.{count, secondOf}
@@ -35,7 +34,7 @@ on c = le-ltb 0 (getD (c .before .walk .last .1 .1 .1 .1 .1 .1 .0) 4 0) (omega (
 second-is : (c : tie.Else1) → let end = c .before .walk .result in secondOf end ≡ count (end .second)
 second-is c =
     let walked = c .before in
-    rw (le-ltb (walked .walk .result .held) 2 (many (walked .before .before .before .before .before .before .pre) (walked .walk .ensures .0) (on c)))
+    rw (le-ltb (walked .walk .result .held) 2 (many (walked .before .before .before .before .before .before .pre .1) (walked .walk .ensures .0) (on c)))
 
 -- the float difference of the two penalties is their gap
 apart : (c : tie.Else1) → let end = c .before .walk .result in
@@ -44,30 +43,26 @@ apart c =
     let walked = c .before in
     let start = walked .before .before .before .before .before .before in
     let end = walked .walk .ensures in
-    penalty-sub (end .1 .second) (end .1 .best) (omega (arith, ordered (start .pre) (end .0) (on c), second-is c))
+    penalty-sub (end .1 .second) (end .1 .best) (omega (arith, ordered (start .pre .1) (end .0) (on c), second-is c))
 
 small : (c : tie.Else1) → let end = c .before .walk .result in count (end .second) - count (end .best) < sumLimit
 small c = omega (arith, c .before .walk .ensures .1 .second .small)
 
 walk-requires : tie.Need-walk-requires
-walk-requires c κs = (refl, walkable (c .before .before .before .before .before .pre))
+walk-requires c κs = (refl, walkable (c .before .before .before .before .before .pre .1))
 
 array-read-out : tie.Need-array-read-out
 array-read-out c = search needs
 
-refused-requires : tie.Need-refused-requires
-refused-requires c κs = search needs
-
 returns : tie.Need-returns
 returns c =
-    let left = c .before in
-    let walked = left .before in
+    let walked = c .before in
     let start = walked .before .before .before .before .before .before in
     let s = start .args in
     let numbers = walked .walk .last .1 .1 .1 .1 .1 .1 .0 in
-    ap (λ (a : WithRunnerUp). runnerUpOutcomeOf a (s .bits .now) (s .word .now)) (c .refused .ensures)
+    none-put (start .pre .0) (Refused (OutOfVisits (s .allowed))) (s .bits .now) (s .word .now)
     ∙ runner-up-out (s .m) _ _ (s .allowed) (s .bits .now) (s .word .now)
-    (out-answer (start .pre) (walked .walk .ensures .0) (lt-ltb 0 (getD numbers 4 0) (omega (arith, left .if1 .taken))))
+    (out-answer (start .pre .1) (walked .walk .ensures .0) (lt-ltb 0 (getD numbers 4 0) (omega (arith, c .if1 .taken))))
 
 array-read-visits : tie.Need-array-read-visits
 array-read-visits c = search needs
@@ -84,31 +79,28 @@ gap-is c =
     let end = else1 .before .walk .result in
     c .whole2 .ensures ∙ count-of _ (apart else1) (small else1) ∙ ap (λ (n : ℕ). n - count (end .best)) (sym (second-is else1))
 
-refused-requires-2 : tie.Need-refused-requires-2
-refused-requires-2 c κs = search needs
-
 returns-2 : tie.Need-returns-2
 returns-2 c =
-    let left = c .before in
-    let whole2 = left .before in
+    let whole2 = c .before in
     let else1 = whole2 .before .before .before in
     let walked = else1 .before in
     let start = walked .before .before .before .before .before .before in
     let s = start .args in
     let numbers = walked .walk .last .1 .1 .1 .1 .1 .1 .0 in
-    ap (λ (a : WithRunnerUp). runnerUpOutcomeOf a (s .bits .now) (s .word .now)) (c .refused2 .ensures)
-    ∙ ap (λ (p : ℕ). runnerUpOutcomeOf (withNone (Refused (Tied p (getD numbers 3 0)))) (s .bits .now) (s .word .now)) (whole2 .before .before .whole .ensures)
+    let penalty = whole2 .before .before .whole in
+    none-put (start .pre .0) (Refused (Tied (penalty .result) (getD numbers 3 0))) (s .bits .now) (s .word .now)
+    ∙ ap (λ (p : ℕ). runnerUpOutcomeOf (withNone (Refused (Tied p (getD numbers 3 0)))) (s .bits .now) (s .word .now)) (penalty .ensures)
     ∙ runner-up-tied (s .m) _ _ (s .allowed) (s .bits .now) (s .word .now)
-    (tied-answer (start .pre) (walked .walk .ensures .0) (on else1) (sym (gap-is whole2) ∙ left .if2 .taken))
+    (tied-answer (start .pre .1) (walked .walk .ensures .0) (on else1) (sym (gap-is whole2) ∙ c .if2 .taken))
 
 put-best-requires : tie.Need-put-best-requires
 put-best-requires c κs = search needs
 
-second-bits-requires : tie.Need-second-bits-requires
-second-bits-requires c κs =
-    let put = c .before .before .before .before .before in
+put-second-requires : tie.Need-put-second-requires
+put-second-requires c κs =
+    let put = c .before .before .before .before .before .before in
     let start = put .before .before .before .before .before .before .before .before .before .before .before .before .before .before .before in
-    pickable (start .args .kinds .now) (start .pre) (search needs) (search needs)
+    (start .pre .0, pickable (start .args .kinds .now) (start .pre .1) (search needs) (search needs))
 
 same-length : tie.Need-same-length
 same-length c = search needs
@@ -118,7 +110,7 @@ same-length-2 c = search needs
 
 returns-3 : tie.Need-returns-3
 returns-3 c =
-    let put = c .before .before .before .before .before .before in
+    let put = c .before .before .before .before .before .before .before in
     let if2 = put .before .before .before .before in
     let whole2 = if2 .before in
     let else1 = whole2 .before .before .before in
@@ -130,18 +122,18 @@ returns-3 c =
     let written = put .put-best .ensures in
     let kinds = s .kinds .now in
     let second = walked .walk .last .1 .1 .1 .1 .1 .0 in
-    let shown : List ℕ = c .second-bits .result in
+    let shown : List ℕ = c .put-second .last .1 .1 .1 .1 .0 in
     let same : length (put .put-best .last .1 .1 .1 .1 .0) ≡ length (s .word .now) = put .put-best .kept .1 .1 .1 .1 .0 in
     let is : shown ≡ runnerUp (s .m) (take (2 ^ s .m) kinds) (take (2 ^ s .m) (wholes (s .readings .now))) =
-    c .second-bits .ensures
-    ∙ ap (λ (n : ℕ). roomy (pick (take n kinds) (take n second))) (same ∙ start .pre .long-word)
-    ∙ sym (runner-up-is (start .pre) (walked .walk .ensures .0) (on else1)) in
+    c .put-second .ensures
+    ∙ ap (λ (n : ℕ). roomy (pick (take n kinds) (take n second))) (same ∙ start .pre .1 .long-word)
+    ∙ sym (runner-up-is (start .pre .1) (walked .walk .ensures .0) (on else1)) in
     ap₂ (λ (p g : ℕ). beside (foundWith p g (getD numbers 3 0) (put .put-best .last .1 .1 .1 .0) (put .put-best .last .1 .1 .1 .1 .0)) shown)
     (whole2 .before .before .whole .ensures) (gap-is whole2)
     ∙ ap₂ (λ (b x : List ℕ). beside (foundWith (count (end .best)) (secondOf end - count (end .best)) (getD numbers 3 0) b x) shown)
     (written .bits-are) (written .word-is)
     ∙ runner-up-found (s .m) _ _ (s .allowed) (s .bits .now) (s .word .now)
-    (found-answer (start .pre) (walked .walk .ensures .0) (on else1) (λ e. if2 .if2 .left (gap-is whole2 ∙ e))) is
+    (found-answer (start .pre .1) (walked .walk .ensures .0) (on else1) (λ e. if2 .if2 .left (gap-is whole2 ∙ e))) is
 
 pub search-kinds-spec : {M : Type 1} → statement M
 search-kinds-spec =
@@ -149,15 +141,13 @@ search-kinds-spec =
     (tie.spec
     walk-requires
     array-read-out
-    refused-requires
     returns
     array-read-visits
     whole-requires
     whole-requires-2
-    refused-requires-2
     returns-2
     put-best-requires
-    second-bits-requires
+    put-second-requires
     same-length
     same-length-2
     returns-3)

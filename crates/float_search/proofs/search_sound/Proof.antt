@@ -1,6 +1,6 @@
 -- `float_search::search_sound`: the kinds and the readings are at the fronts of arrays of 256.
 use borrow.Author.Needs.{needs}
-use mathlib.Core.Path.{_≡_, ap, ap₂, sym, _∙_}
+use mathlib.Core.Path.{_≡_, refl, ap, ap₂, sym, _∙_}
 use mathlib.Core.List.{List, _++_}
 use Prim.Native.Nat.{ℕ, _-_, _^_, _≤_}
 use native.Mathlib.Omega.{arith}
@@ -64,15 +64,17 @@ copy-readings-requires c κs =
 
 search-kinds-requires : tie.Need-search-kinds-requires
 search-kinds-requires c κs =
-    let copied = c .before .before .before .before .before in
+    let copied = c .before .before .before .before .before .before in
     let filled = copied .before .before .before in
     let start = filled .before .before .before .before .before .before in
     let s = start .args in
-    let n = 2 ^ s .code .m in
-    same-readings (own-is (copied .copy-readings .last .1 .0) _ (s .readings .now) n (copied .copy-readings .ensures) (start .pre .entries .long))
-    (searchable _
-    (front-is (filled .put-kinds .last .1 .0) _ (kinds (s .code .r) (s .code .m)) n (filled .put-kinds .ensures) (length-kinds (s .code .r) (s .code .m)))
-    (start .pre))
+    let n = 2 ^ s .code .m in (
+      refl,
+      same-readings (own-is (copied .copy-readings .last .1 .0) _ (s .readings .now) n (copied .copy-readings .ensures) (start .pre .entries .long))
+          (searchable _
+          (front-is (filled .put-kinds .last .1 .0) _ (kinds (s .code .r) (s .code .m)) n (filled .put-kinds .ensures) (length-kinds (s .code .r) (s .code .m)))
+          (start .pre)),
+    )
 
 same-length : tie.Need-same-length
 same-length c = search needs
@@ -83,7 +85,7 @@ same-length-2 c = search needs
 returns : tie.Need-returns
 returns c =
     let done = c .before .before .before .before in
-    let copied = done .before .before .before .before .before .before in
+    let copied = done .before .before .before .before .before .before .before in
     let filled = copied .before .before .before in
     let start = filled .before .before .before .before .before .before in
     let s = start .args in

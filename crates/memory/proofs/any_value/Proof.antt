@@ -24,11 +24,11 @@ returns c = single (c .before .before .args .readings .now) (c .before .if1 .tak
 top-requires : tie.Need-top-requires
 top-requires c κs = search needs
 
-make-rows-requires : tie.Need-make-rows-requires
-make-rows-requires c κs =
+few-rows-requires : tie.Need-few-rows-requires
+few-rows-requires c κs =
     let t = c .before .before .before .before .before .top in
     let start = c .before .before .before .before .before .before .before in
-    (omega arith, value-arrays (start .pre) (omega arith) (omega arith), omega arith, first-ready (start .pre) (t .ensures))
+    (c .before .before .before .before .if2 .taken, omega arith, value-arrays (start .pre) (omega arith) (omega arith), omega arith, first-ready (start .pre) (t .ensures))
 
 element-copy-out-result-2 : tie.Need-element-copy-out-result-2
 element-copy-out-result-2 c = search needs
@@ -36,7 +36,7 @@ element-copy-out-result-2 c = search needs
 returns-2 : tie.Need-returns-2
 returns-2 c =
     let start = c .before .before .before .before .before .before .before .before .before in
-    value-given (start .pre) (omega arith) (omega arith) (c .before .make-rows .ensures)
+    value-given (start .pre) (omega arith) (omega arith) (c .before .few-rows .ensures)
 
 add-low-rows : tie.Need-add-low-rows
 add-low-rows c = search needs
@@ -60,8 +60,8 @@ returns-3 c =
     (low-made (first-ready (start .pre) (t .ensures)) (value-arrays (start .pre) (omega arith) (omega arith)) (omega arith)
     (c .before .low-rows .ensures ∙ ap (λ (k : ℕ). remade k (s .i) (s .path .now) (s .rows .now)) (add-one (t .result))))
 
-make-rows-requires-2 : tie.Need-make-rows-requires-2
-make-rows-requires-2 c κs =
+make-rows-requires : tie.Need-make-rows-requires
+make-rows-requires c κs =
     let t = c .before .before .before .before .before .before .top in
     let start = c .before .before .before .before .before .before .before .before in
     (omega arith, value-arrays (start .pre) (omega arith) (omega arith), omega arith, first-ready (start .pre) (t .ensures))
@@ -71,9 +71,9 @@ low-rows-requires-2 c κs =
     let made = c .before .before .before in
     let t = made .before .before .before .before .before .before .before .top in
     let start = made .before .before .before .before .before .before .before .before .before in
-    let ready = pass-ready (first-ready (start .pre) (t .ensures)) (omega arith) (omega arith) (made .make-rows2 .ensures) in
+    let ready = pass-ready (first-ready (start .pre) (t .ensures)) (omega arith) (omega arith) (made .make-rows .ensures) in
     let arrays = value-arrays (start .pre) (omega arith) (omega arith) in
-    (omega arith, low-asked ready (same-arrays arrays (made .make-rows2 .kept .1 .0)) (omega arith) (omega arith), omega arith)
+    (omega arith, low-asked ready (same-arrays arrays (made .make-rows .kept .1 .0)) (omega arith) (omega arith), omega arith)
 
 element-copy-out-result-4 : tie.Need-element-copy-out-result-4
 element-copy-out-result-4 c = search needs
@@ -83,10 +83,10 @@ returns-4 c =
     let made = c .before .before .before .before .before in
     let t = made .before .before .before .before .before .before .before .top in
     let start = made .before .before .before .before .before .before .before .before .before in
-    let ready = pass-ready (first-ready (start .pre) (t .ensures)) (omega arith) (omega arith) (made .make-rows2 .ensures) in
+    let ready = pass-ready (first-ready (start .pre) (t .ensures)) (omega arith) (omega arith) (made .make-rows .ensures) in
     let arrays = value-arrays (start .pre) (omega arith) (omega arith) in
     value-given (start .pre) (omega arith) (omega arith)
-    (low-made ready (same-arrays arrays (made .make-rows2 .kept .1 .0)) (omega arith) (c .before .low-rows2 .ensures))
+    (low-made ready (same-arrays arrays (made .make-rows .kept .1 .0)) (omega arith) (c .before .low-rows2 .ensures))
 
 pub any-value-spec : {M : Type 1} → statement M
 any-value-spec =
@@ -96,14 +96,14 @@ any-value-spec =
     cast-result
     returns
     top-requires
-    make-rows-requires
+    few-rows-requires
     element-copy-out-result-2
     returns-2
     add-low-rows
     low-rows-requires
     element-copy-out-result-3
     returns-3
-    make-rows-requires-2
+    make-rows-requires
     low-rows-requires-2
     element-copy-out-result-4
     returns-4)

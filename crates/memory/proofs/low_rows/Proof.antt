@@ -29,14 +29,14 @@ row-of-4-requires c κs =
 
 row-of-2-requires : tie.Need-row-of-2-requires
 row-of-2-requires c κs =
-    let made = c .before .before .before .before .before in
+    let made = c .before .before .before .before in
     let start = made .before .before .before .before .before .before in
-    (low-next (asked start 3 (made .before .before .before .if1 .taken)) (made .row-of-4 .ensures), omega (arith, start .pre .2, made .row-of-4 .kept))
+    low-next (asked start 3 (made .before .before .before .if1 .taken)) (made .row-of-4 .ensures)
 
 row-of-1-requires : tie.Need-row-of-1-requires
 row-of-1-requires c κs =
-    let two = c .before .before .before .before in
-    let four = two .before .before .before .before .before .before in
+    let two = c .before .before in
+    let four = two .before .before .before .before .before in
     let start = four .before .before .before .before .before .before in
     low-next (low-next (asked start 3 (four .before .before .before .if1 .taken)) (four .row-of-4 .ensures)) (two .row-of-2 .ensures)
 
@@ -48,8 +48,8 @@ same-length-2 c = search needs
 
 returns : tie.Need-returns
 returns c =
-    let two = c .before .before .before .before .before .before in
-    let four = two .before .before .before .before .before .before in
+    let two = c .before .before .before .before in
+    let four = two .before .before .before .before .before in
     let start = four .before .before .before .before .before .before in
     let s = start .args in
     given start 3 (four .before .before .before .if1 .taken) (remade-more 2 (s .i) (s .path .now) (s .rows .now) (four .row-of-4 .ensures)
@@ -57,27 +57,22 @@ returns c =
     (remade-one (s .i) (s .path .now) (two .row-of-2 .last .0) (c .before .row-of-1 .ensures))))
 
 row-of-2-requires-2 : tie.Need-row-of-2-requires-2
-row-of-2-requires-2 c κs =
-    let start = c .before .before .before .before .before .before in
-    (asked start 2 (c .before .before .if2 .taken), start .pre .2)
+row-of-2-requires-2 c κs = asked (c .before .before .before .before .before) 2 (c .before .if2 .taken)
 
 row-of-1-requires-2 : tie.Need-row-of-1-requires-2
 row-of-1-requires-2 c κs =
-    let two = c .before .before .before .before in
-    low-next (asked (two .before .before .before .before .before .before .before) 2 (two .before .before .before .if2 .taken)) (two .row-of-22 .ensures)
+    let two = c .before .before in
+    low-next (asked (two .before .before .before .before .before .before) 2 (two .before .before .if2 .taken)) (two .row-of-22 .ensures)
 
 same-length-3 : tie.Need-same-length-3
 same-length-3 c = search needs
 
-same-length-4 : tie.Need-same-length-4
-same-length-4 c = search needs
-
 returns-2 : tie.Need-returns-2
 returns-2 c =
-    let two = c .before .before .before .before .before .before in
-    let start = two .before .before .before .before .before .before .before in
+    let two = c .before .before .before .before in
+    let start = two .before .before .before .before .before .before in
     let s = start .args in
-    given start 2 (two .before .before .before .if2 .taken) (remade-more 1 (s .i) (s .path .now) (s .rows .now) (two .row-of-22 .ensures)
+    given start 2 (two .before .before .if2 .taken) (remade-more 1 (s .i) (s .path .now) (s .rows .now) (two .row-of-22 .ensures)
     (remade-one (s .i) (s .path .now) (two .row-of-22 .last .0) (c .before .row-of-12 .ensures)))
 
 row-of-1-requires-3 : tie.Need-row-of-1-requires-3
@@ -85,8 +80,8 @@ row-of-1-requires-3 c κs =
     let start = c .before .before .before .before .before in
     asked start 1 (one-row start (c .before .before .if1 .left) (c .before .if2 .left))
 
-same-length-5 : tie.Need-same-length-5
-same-length-5 c = search needs
+same-length-4 : tie.Need-same-length-4
+same-length-4 c = search needs
 
 returns-3 : tie.Need-returns-3
 returns-3 c =
@@ -108,8 +103,7 @@ low-rows-spec =
     row-of-2-requires-2
     row-of-1-requires-2
     same-length-3
-    same-length-4
     returns-2
     row-of-1-requires-3
-    same-length-5
+    same-length-4
     returns-3)

@@ -9,11 +9,11 @@ use Rattle.memory.proofs.make_rows.Statement.{statement}
 use Rattle.memory.proofs.make_rows.Tie as tie
 
 abbrev Inv-loop : tie.InvT-loop
-Inv-loop readings rows₀ path word₀ m high low i t₀ rows word t =
+Inv-loop readings rows₀ path word₀ m high i t₀ rows word t =
     (t ≤ high) × Arrays rows path × (length word ≡ 256) × Made m (take (2 ^ m) readings) path i t rows
 
 abbrev μ-loop : tie.MeasureT-loop
-μ-loop readings rows₀ path word₀ m high low i t₀ rows word t = t
+μ-loop readings rows₀ path word₀ m high i t₀ rows word t = t
 
 first-row-requires : tie.Need-first-row-requires Inv-loop μ-loop
 first-row-requires c κs = c .before .before .before .before .pre

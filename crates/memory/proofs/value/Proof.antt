@@ -39,19 +39,19 @@ returns-2 c =
 
 start-of-2-requires : tie.Need-start-of-2-requires
 start-of-2-requires c κs =
-    let o = c .before .before .before .if4 .taken in
-    let next = c .before .before .before .before .before in
+    let o = c .before .before .if4 .taken in
+    let next = c .before .before .before .before in
     let start = next .before .before .before in
     let ready = first-ready (start .pre) (top-follows 1 (omega arith) (sym (next .before .follows .ensures) ∙ next .if2 .taken) o) in
-    (o, low-asked ready (value-arrays (start .pre) (omega arith) (omega arith)) (omega arith) (omega arith), omega arith)
+    (o, low-asked ready (value-arrays (start .pre) (omega arith) (omega arith)) (omega arith) (omega arith))
 
 element-copy-out-result-2 : tie.Need-element-copy-out-result-2
 element-copy-out-result-2 c = search needs
 
 returns-3 : tie.Need-returns-3
 returns-3 c =
-    let o = c .before .before .before .before .before .if4 .taken in
-    let next = c .before .before .before .before .before .before .before in
+    let o = c .before .before .before .before .if4 .taken in
+    let next = c .before .before .before .before .before .before in
     let start = next .before .before .before in
     let ready = first-ready (start .pre) (top-follows 1 (omega arith) (sym (next .before .follows .ensures) ∙ next .if2 .taken) o) in
     value-given (start .pre) (omega arith) (omega arith)

@@ -79,7 +79,7 @@ same-length c = search needs
 returns : tie.Need-returns
 returns c =
     let g = c .before .before .before .before in
-    made-word-4 (g .args .path .now) (g .args .word .now) (g .args .e) (g .pre .1) (g .pre .0) (g .pre .2) refl refl refl
+    made-word-4 (g .args .path .now) (g .args .e) (g .pre .1) (g .args .word .now) (g .pre .0) (g .pre .2) refl refl refl
 
 pub word-of-4-spec : {M : Type 1} → statement M
 word-of-4-spec =

@@ -8,7 +8,8 @@ use Rattle.words.specs.KindLaws.{length-kinds}
 use Rattle.code.specs.declared.Code.{Code}
 use Rattle.code.specs.SoundLaws.{length-most}
 use Rattle.code.specs.Admitted.{admittedBy}
-use Rattle.shortened.specs.Outcome.{leftOf, readingOver}
+use Rattle.quick.specs.Outcome.{readingOver}
+use Rattle.shortened.specs.Outcome.{leftOf}
 use Rattle.shortened.specs.OutcomeLaws.{allowed-over, over-refused, over-done}
 use Rattle.shortened.specs.WorkLaws.{zeros-lent}
 use borrow.Author.Needs.{needs}

@@ -1,7 +1,9 @@
 -- Word, bits and penalty are those of the written steps, over the kinds that are left.
-use mathlib.Core.Path.{sym, _∙_}
-use Rattle.quick.specs.OutcomeLaws.{sums-small}
-use Rattle.shortened.specs.WorkLaws.{quick-asked, bits-asked, all-read}
+use mathlib.Core.Path.{ap, _∙_}
+use mathlib.Core.List.{List}
+use Prim.Native.Nat.{ℕ}
+use Rattle.quick.specs.Outcome.{readingOver}
+use Rattle.shortened.specs.WorkLaws.{read-asked}
 use borrow.Author.Needs.{needs}
 use Rattle.shortened.proofs.take_reading.Statement.{statement}
 use Rattle.shortened.proofs.take_reading.Tie as tie
@@ -12,34 +14,16 @@ cast-m c = search needs
 put-left-requires : tie.Need-put-left-requires
 put-left-requires c κs = search needs
 
-quick-word-requires : tie.Need-quick-word-requires
-quick-word-requires c κs =
-    let c4 = c .before .before .before .before in
-    let start = c4 .before .before .before .before .before .before .before in
-    let s = start .args in
-    let put = c4 .put-left in (
-      start .pre .input .sound .m-small,
-      quick-asked (s .code) (s .named .now) (put .last .1 .1 .0) (put .ensures) (s .readings .now) (s .kinds .now) (s .bits .now) (s .word .now) (start .pre),
-    )
+-- the entry, looked back to from where the kinds are put
+abbrev entry : tie.After-put-left → tie.Start
+entry c = c .before .before .before .before .before .before .before
 
-take-bits-requires : tie.Need-take-bits-requires
-take-bits-requires c κs =
-    let c5 = c .before .before .before .before .before in
-    let c10 = c5 .before .before .before .before .before in
-    let start = c10 .before .before .before .before .before .before .before in
-    let s = start .args in
-    let put = c10 .put-left in
-    let read = c5 .quick-word in (
-      start .pre .input .sound .m-small,
-      bits-asked (s .code) (s .named .now) (put .last .1 .1 .0) (put .ensures) (s .readings .now) (s .kinds .now) (s .bits .now) (s .word .now) (start .pre)
-          (read .last .1 .1 .0) (read .ensures),
-    )
-
-penalty-requires : tie.Need-penalty-requires
-penalty-requires c κs =
-    let c9 = c .before .before .before .before .before .before .before .before .before in
-    let start = c9 .before .before .before .before .before .before .before .before .before .before .before .before in
-    (c9 .quick-word .kept .1 .1 .0 ∙ start .pre .input .long-word ∙ sym (start .pre .input .entries .long), sums-small (start .pre .input))
+read-kinds-requires : tie.Need-read-kinds-requires
+read-kinds-requires c κs =
+    let put = c .before .before .before .before .before in
+    let s = entry put .args in
+    read-asked (s .code) (s .named .now) (put .put-left .last .1 .1 .0) (put .put-left .ensures) (s .readings .now) (s .kinds .now) (s .bits .now)
+    (s .word .now) (entry put .pre)
 
 same-length : tie.Need-same-length
 same-length c = search needs
@@ -52,27 +36,11 @@ same-length-3 c = search needs
 
 returns : tie.Need-returns
 returns c =
-    let c4 = c .before .before .before .before in
-    let c10 = c4 .before .before .before .before .before .before in
-    let c15 = c10 .before .before .before .before .before in
-    let start = c15 .before .before .before .before .before .before .before in
-    let s = start .args in
-    let put = c15 .put-left in
-    let read = c10 .quick-word in
-    let bits = c4 .take-bits in
-    all-read (s .code) (s .named .now) (put .last .1 .1 .0) (put .ensures) (s .readings .now) (s .kinds .now) (s .bits .now) (s .word .now) (start .pre)
-    (read .last .1 .1 .0) (read .ensures) (bits .last .1 .1 .0) (c .penalty .result) (bits .ensures) (c .penalty .ensures)
+    let read = c .before .before .before .before in
+    let put = read .before .before .before .before .before .before in
+    let s = entry put .args in
+    read .read-kinds .ensures ∙ ap (λ (ks : List ℕ). readingOver (s .code .m) ks (s .readings .now)) (put .put-left .ensures)
 
 pub take-reading-spec : {M : Type 1} → statement M
 take-reading-spec =
-    tie.close
-    (tie.spec
-    cast-m
-    put-left-requires
-    quick-word-requires
-    take-bits-requires
-    penalty-requires
-    same-length
-    same-length-2
-    same-length-3
-    returns)
+    tie.close (tie.spec cast-m put-left-requires read-kinds-requires same-length same-length-2 same-length-3 returns)

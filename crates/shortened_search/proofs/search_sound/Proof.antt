@@ -1,5 +1,5 @@
 -- The kinds that are left and the readings are at the fronts of arrays of 256.
-use mathlib.Core.Path.{ap₂, _∙_}
+use mathlib.Core.Path.{refl, ap₂, _∙_}
 use mathlib.Core.List.{List}
 use Prim.Native.Nat.{ℕ, _^_}
 use native.Mathlib.Omega.{arith}
@@ -55,16 +55,17 @@ copy-readings-requires c κs = search needs
 
 search-kinds-requires : tie.Need-search-kinds-requires
 search-kinds-requires c κs =
-    let c5 = c .before .before .before .before .before in
+    let c5 = c .before .before .before .before .before .before in
     let c8 = c5 .before .before .before in
     let start = c8 .before .before .before .before .before .before in
     let s = start .args in
     let put = c8 .put-left in
     let copied = c5 .copy-readings in
     let n = 2 ^ s .code .m in
-    left-searchable (s .code) (s .named .now) _ (s .readings .now) _ (s .bits .now) (s .word .now)
-    (front-is (put .last .1 .1 .0) _ (leftOf (s .named .now) (s .code)) n (put .ensures) (long-left (s .named .now) (s .code)))
-    (front-is (copied .last .1 .0) _ (s .readings .now) n (copied .ensures) (start .pre .1 .entries .long)) (start .pre .0) (start .pre .1)
+    let kinds-are = front-is (put .last .1 .1 .0) _ (leftOf (s .named .now) (s .code)) n (put .ensures) (long-left (s .named .now) (s .code)) in
+    let readings-are = front-is (copied .last .1 .0) _ (s .readings .now) n (copied .ensures) (start .pre .1 .entries .long) in
+    let named = s .named .now in
+    (refl, left-searchable (s .code) named _ (s .readings .now) _ (s .bits .now) (s .word .now) kinds-are readings-are (start .pre .0) (start .pre .1))
 
 same-length : tie.Need-same-length
 same-length c = search needs
@@ -75,7 +76,7 @@ same-length-2 c = search needs
 returns : tie.Need-returns
 returns c =
     let c4 = c .before .before .before .before in
-    let c10 = c4 .before .before .before .before .before .before in
+    let c10 = c4 .before .before .before .before .before .before .before in
     let c13 = c10 .before .before .before in
     let start = c13 .before .before .before .before .before .before in
     let s = start .args in

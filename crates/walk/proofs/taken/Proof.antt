@@ -1,4 +1,5 @@
 -- `taken`: by the kind of index i.
+use mathlib.Core.Path.{refl}
 use borrow.Author.Needs.{needs}
 use Rattle.walk.proofs.taken.Statement.{statement}
 use Rattle.walk.proofs.taken.Tie as tie
@@ -19,7 +20,7 @@ cast-result : tie.Need-cast-result
 cast-result c = search needs
 
 returns-2 : tie.Need-returns-2
-returns-2 c = (λ e. absurd (c .before .before .before .if1 .left e), λ h. c .hard-blocks .ensures)
+returns-2 c = (λ e. absurd (c .before .before .before .if1 .left e), λ h. (refl, c .hard-blocks .ensures))
 
 pub taken-spec : {M : Type 1} → statement M
 taken-spec = tie.close (tie.spec element-copy-out-if1 zeros-requires returns hard-blocks-requires cast-result returns-2)

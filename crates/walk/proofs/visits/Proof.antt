@@ -15,7 +15,8 @@ returns : tie.Need-returns
 returns c =
     let a = c .before .before .before in
     let g = a .before .before in
-    counted-more (g .args .n) (g .args .state .now) (g .pre) (sym (a .allows .ensures) ∙ c .before .before .if1 .taken) (c .count .ensures)
+    let may = sym (a .allows .ensures) ∙ c .before .before .if1 .taken in
+    (sym may, counted-more (g .args .n) (g .args .state .now) (g .pre) may (c .count .ensures))
 
 element-copy-out-allowed : tie.Need-element-copy-out-allowed
 element-copy-out-allowed c = search needs
@@ -30,7 +31,8 @@ returns-2 : tie.Need-returns-2
 returns-2 c =
     let a = c .before .before in
     let g = a .before .before in
-    counted-out (g .args .n) (g .args .state .now) (g .pre) (sym (a .allows .ensures) ∙ c .before .if1 .left)
+    let few = sym (a .allows .ensures) ∙ c .before .if1 .left in
+    (sym few, counted-out (g .args .n) (g .args .state .now) (g .pre) few)
 
 pub visits-spec : {M : Type 1} → statement M
 visits-spec =
