@@ -5,10 +5,9 @@ use mathlib.Core.Logic.{⊎-elim}
 use mathlib.Core.List.{List, [], _∷_, map}
 use Prim.Native.Nat.{ℕ, zero, suc, _+_, _%_, _≤_, _<_}
 use native.Mathlib.Omega.{arith}
-use native.Mathlib.Numerals.{add-one}
 use lib.IntN.{ℤ, pos}
 use lib.ListN.{length, getD, set, take, drop, length-drop}
-use lib.Seq.{getD-take, getD-drop}
+use lib.Seq.{getD-drop}
 use lib.Dec.{eqb}
 use borrow.Author.Tests.{eq-eqb}
 use Rattle.numbers.specs.Choice.{lt-or-le}
@@ -35,16 +34,6 @@ each-chosen kinds i (suc n) e j h z =
     let is : getD kinds (i + n) 0 ≡ 0 = ap (λ (x : ℕ). getD kinds (i + x) 0) (sym last) ∙ z in
     false≢true (sym (ap not (eq-eqb (getD kinds (i + n) 0) 0 is)) ∙ both .1))
     (lt-or-le j n)
-
--- ---- signs
-sign-of : (l : List ℤ) (j : ℕ) → getD (map hard l) j 0 ≡ hard (getD l j (pos 0))
-sign-of [] j = refl
-sign-of (x ∷ l) zero = refl
-sign-of (x ∷ l) (suc j) = sign-of l j
-
-pub sign-at : (n j : ℕ) (rows : List ℤ) → j < n → getD (map hard (rowOf n rows)) j 0 ≡ hard (getD rows (n + j) (pos 0))
-sign-at n j rows h =
-    sign-of (rowOf n rows) j ∙ ap hard (getD-take n (drop n rows) j (pos 0) h ∙ getD-drop n rows j (pos 0))
 
 -- ---- four choices
 four : (l : List ℤ) → 4 ≤ length l → take 4 l ≡ getD l 0 (pos 0) ∷ getD l 1 (pos 0) ∷ getD l 2 (pos 0) ∷ getD l 3 (pos 0) ∷ []

@@ -1,9 +1,7 @@
 // Blocks of information indices, each choosing the bit that its value speaks for.
 ghost use mathlib.Core.Path.{_≡_};
-ghost use mathlib.Core.List.{map};
 ghost use Prim.Native.Nat.{_+_, _^_, _≤_, _<_};
 ghost use lib.ListN.{length};
-ghost use Rattle.decoding.specs.Quick.{hard};
 ghost use Rattle.decoding.specs.InformationLaws.{hardRow};
 ghost use Rattle.rows.specs.Rows.{rowOf};
 ghost use Rattle.blocks.specs.Information.{allChosen, withHard};
@@ -22,34 +20,15 @@ pub fn all_chosen(kinds: &[u8], i: usize, n: usize) -> bool
     all
 }
 
-// The bit that a sum speaks for.
-fn sign(sum: i32) -> u8
-    ensures { λ b. ⌜ (b ≡ hard sum) × (b < 2) ⌝ }
-{
-    if sum < 0 { 1 } else { 0 }
-}
-
-// The bits that the row of n sums speaks for.
-fn signs(rows: &[i32], bits: &mut [u8], n: usize)
-    requires { ⌜ (length (now bits) ≡ n) × (n + n ≤ length (now rows)) ⌝ }
-    ensures { λ _. ⌜ now (bits .exit) ≡ map hard (rowOf n (now (rows .entry))) ⌝ }
-{
-    let mut j = 0;
-    while j < n {
-        bits[j] = sign(rows[n + j]);
-        j += 1;
-    }
-}
-
-// The choices of four indices whose word is those bits, by straight code.
+// The choices of four indices whose word is the bits that their row speaks for, by straight code.
 fn hard_four(rows: &[i32], bits: &mut [u8])
     requires { ⌜ (length (now bits) ≡ 4) × (8 ≤ length (now rows)) ⌝ }
     ensures { λ _. ⌜ now (bits .exit) ≡ hardRow 2 (rowOf 4 (now (rows .entry))) ⌝ }
 {
-    let b = sign(rows[5]);
-    let d = sign(rows[7]);
-    let c = (sign(rows[6]) + d) % 2;
-    let a = (sign(rows[4]) + b) % 2;
+    let b = rows::hard(rows[5]);
+    let d = rows::hard(rows[7]);
+    let c = (rows::hard(rows[6]) + d) % 2;
+    let a = (rows::hard(rows[4]) + b) % 2;
     bits[0] = (a + c) % 2;
     bits[1] = (b + d) % 2;
     bits[2] = c;
@@ -65,7 +44,7 @@ fn hard_row(rows: &[i32], bits: &mut [u8], n: usize, s: usize)
         hard_four(rows, bits);
         return;
     }
-    signs(rows, bits, n);
+    rows::put_signs(&rows[n..n + n], bits);
     bit_rows::transform(bits, s);
 }
 

@@ -11,6 +11,7 @@ pub mod BestLaws
 -- The quick reading
 pub mod Quick
 pub mod QuickLaws
+pub mod SignLaws
 -- The walk: values and paths, what is held, the whole tree
 pub mod Walk
 pub mod PathLaws

@@ -1,18 +1,20 @@
--- Laws of the steps on a pair, and of the loops that fill a row: what a pass reads and what it stores, whichever list l of 2h entries it reads.
+-- Laws of the steps on a pair, and of the loops that fill a row: what a pass reads and what it stores, whichever list l of 2h entries it reads;
+-- of signs.
 use mathlib.Core.Path.{_≡_, refl, ap, ap₂, sym, _∙_}
 use mathlib.Core.Bool.{true, false}
-use mathlib.Core.List.{List}
+use mathlib.Core.List.{List, map}
 use Prim.Native.Nat.{ℕ, zero, suc, _+_, _-_, _^_, _≤_, _<_}
 use native.Mathlib.Omega.{arith}
 use native.Mathlib.Numerals.{add-one}
 use lib.IntN.{ℤ, pos, negsuc, natAbs, _-ℤ_}
-use lib.ListN.{length, getD, set, take, drop, take-append-drop, length-drop}
+use lib.ListN.{length, getD, set, take, drop, length-map, List·getD-map, take-append-drop, length-drop, drop-of-length-le}
 use lib.Dec.{T}
 use lib.Signed.{ltZ, nonNeg}
 use lib.Seq.{paste, paste-suc, drop-paste, getD-take, getD-drop, length-take-le}
 use mir.Syntax.{w16, w32}
 use mir.Val.{SFits, toZ, ofZ}
 use mir.Facts.{toZ-ofZ, sfits-widen}
+use Rattle.numbers.specs.Front.{front, front-suc, front-done}
 use Rattle.numbers.specs.Parts.{up, down}
 use Rattle.numbers.specs.PartsLaws.{less-parts, not-less-parts}
 use Rattle.decoding.specs.Readings.{loss, sizes}
@@ -105,3 +107,17 @@ module _ (d s l : List ℤ) (h j : ℕ) (x y v : ℤ) (room : h + h ≤ length d
       (e ∙ ap₂ (λ (p q : ℤ). upper p q (getD w j 0)) (pair .first) (pair .second)
       ∙ ap (upper (getD l j (pos 0)) (getD l (h + j) (pos 0))) (sym (getD-take h w j 0 more))
       ∙ sym (getD-upperRow h l long j more (take h w) a))
+
+-- ---- the signs of a row: i of them are put
+module _ (w v : List ℕ) (l : List ℤ) (i : ℕ) (long : length l ≡ length w) (e : v ≡ front w (map hard l) i) where
+  pub sign-more : i < length w → set v i (hard (getD l i (pos 0))) ≡ front w (map hard l) (i + 1)
+  sign-more h =
+      let s : List ℕ = map hard l in
+      ap₂ (λ (x : List ℕ) (b : ℕ). set x i b) e (sym (List·getD-map hard l i (pos 0)))
+      ∙ front-suc w s i 0 h (omega (arith, length-map l hard))
+      ∙ ap (front w s) (sym (add-one i))
+
+  pub signs-done : length w ≤ i → v ≡ map hard l
+  signs-done h =
+      let s : List ℕ = map hard l in
+      e ∙ front-done w s i h (drop-of-length-le s {i = i} (omega (arith, length-map l hard)))

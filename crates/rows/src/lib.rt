@@ -1,11 +1,13 @@
-// The two combining steps, on one pair and over rows; what a bit loses at a value.
+// The two combining steps, the bit that a value speaks for, both on one value and over rows; what a
+// bit loses at a value.
 // Rows of running sums are stored in one scratch array, the row of n sums at [n .. 2n].
 ghost use mathlib.Core.Path.{_≡_};
+ghost use mathlib.Core.List.{map};
 ghost use Prim.Native.Nat.{_+_, _≤_, _<_};
 ghost use lib.IntN.{natAbs};
 ghost use lib.ListN.{length, take};
 ghost use Rattle.decoding.specs.Readings.{loss, sizes, sumLimit};
-ghost use Rattle.decoding.specs.Quick.{lower, upper, lowerRow, upperRow};
+ghost use Rattle.decoding.specs.Quick.{hard, lower, upper, lowerRow, upperRow};
 ghost use Rattle.rows.specs.Order.{lesser, greater};
 ghost use Rattle.rows.specs.Rows.{rowOf, withRow};
 
@@ -37,6 +39,13 @@ pub fn upper(x: i32, y: i32, a: u8) -> i32
     ensures { λ r. ⌜ r ≡ upper x y a ⌝ }
 {
     if a == 0 { y + x } else { y - x }
+}
+
+// The bit that a value speaks for: a positive one and 0 for 0, a negative one for 1.
+pub fn hard(value: i32) -> u8
+    ensures { λ b. ⌜ (b ≡ hard value) × (b < 2) ⌝ }
+{
+    if value < 0 { 1 } else { 0 }
 }
 
 // The size of a value that the bit contradicts, else 0.
@@ -110,5 +119,17 @@ pub fn upper_top(readings: &[i16], rows: &mut [i32], h: usize, word: &[u8])
         let x = readings[j] as i32;
         let y = readings[h + j] as i32;
         rows[h + j] = upper(x, y, word[j]);
+    }
+}
+
+// The bits that a row speaks for.
+pub fn put_signs(row: &[i32], word: &mut [u8])
+    requires { ⌜ length (now row) ≡ length (now word) ⌝ }
+    ensures { λ _. ⌜ now (word .exit) ≡ map hard (now (row .entry)) ⌝ }
+{
+    let mut i = 0;
+    while i < word.len() {
+        word[i] = hard(row[i]);
+        i += 1;
     }
 }

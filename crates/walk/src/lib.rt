@@ -15,7 +15,6 @@ ghost use mathlib.Core.Bool.{true};
 ghost use Prim.Native.Nat.{_+_, _^_, _≤_, _<_};
 ghost use lib.ListN.{length, getD, take, set, replicate};
 ghost use lib.Dec.{eqb, ltb};
-ghost use Rattle.decoding.specs.Quick.{hard};
 ghost use Rattle.walk.specs.Progress.{allowsMore, countedBy, countedMore, drops, seen};
 ghost use Rattle.walk.specs.Progress.{madeFor};
 ghost use Rattle.walk.specs.Progress.{Finished, Shows, StepAsked, StepGiven, Visited};
@@ -102,13 +101,6 @@ pub fn put(path: &mut [u8; 256], i: usize, bit: u8)
     ensures { λ _. ⌜ now (path .exit) ≡ set (now (path .entry)) i bit ⌝ }
 {
     path[i] = bit;
-}
-
-// The bit that the value speaks for.
-fn first_bit(value: i32) -> u8
-    ensures { λ r. ⌜ r ≡ hard value ⌝ }
-{
-    if value < 0 { 1 } else { 0 }
 }
 
 fn copy_front(from: &[u8], to: &mut [u8], n: usize)
@@ -472,7 +464,7 @@ fn info_step(
         return;
     }
     let value = value_at(readings, rows, path, word, state, i);
-    let first = first_bit(value);
+    let first = rows::hard(value);
     let other = 1 - first;
     let after = penalty + rows::loss(value, other);
     put(path, i, first);

@@ -34,10 +34,10 @@ use Rattle.walk.proofs.+frozen_step+info_step.Lts-frozen_step as frozen
 use Rattle.walk.proofs.info_step.Reads as info-step
 use Rattle.walk.proofs.info_step.Kinds as info-step-kinds
 use Rattle.walk.proofs.+frozen_step+info_step.Lts-info_step as info-step-lts
+use Rattle.rows.proofs.hard.Reads as hard-reads
 use Rattle.rows.proofs.loss.Reads as loss-reads
 use Rattle.walk.proofs.dropped.Reads as dropped-reads
 use Rattle.walk.proofs.finish.Reads as finish-reads
-use Rattle.walk.proofs.first_bit.Reads as first-bit-reads
 use Rattle.walk.proofs.full.Reads as full-reads
 use Rattle.walk.proofs.hard_here.Reads as hard-here-reads
 use Rattle.walk.proofs.put.Reads as put-reads
@@ -110,8 +110,8 @@ info-step-calls t = (
   visit-reads.Learnt,
   value-at-reads.Asked,
   value-at-reads.Learnt,
-  first-bit-reads.Asked,
-  first-bit-reads.Learnt,
+  hard-reads.Asked,
+  hard-reads.Learnt,
   loss-reads.Asked,
   loss-reads.Learnt,
   put-reads.Asked,
@@ -438,10 +438,10 @@ info-going t c =
 
 -- the first bit, and the penalty with the other
 abbrev Chosen : ℕ → Type 0
-Chosen t = info-step-lts.After-first-bit (info-step-calls t) (info-step-at t) info-step.Post
+Chosen t = info-step-lts.After-hard (info-step-calls t) (info-step-at t) info-step.Post
 
-info-first : (t : ℕ) (c : Chosen t) → c .first-bit .result ≡ hard (info-at t (c .before .before .before .before .before .before .before .before .before))
-info-first t c = c .first-bit .ensures ∙ ap hard (info-value t (c .before))
+info-first : (t : ℕ) (c : Chosen t) → c .hard .result ≡ hard (info-at t (c .before .before .before .before .before .before .before .before .before))
+info-first t c = c .hard .ensures .0 ∙ ap hard (info-value t (c .before))
 
 info-other : (t : ℕ) (c : info-step-lts.After-loss (info-step-calls t) (info-step-at t) info-step.Post) → let chosen = c .before in
     let g = chosen .before .before .before .before .before .before .before .before .before in
@@ -452,8 +452,8 @@ info-other t c =
     ap (λ (n : ℕ). g .args .penalty + n)
     (c .loss .ensures ∙ ap₂ (λ (v : ℤ) (b : ℕ). loss v (1 - b)) (info-value t (chosen .before)) (info-first t chosen))
 
-info-step-first-bit-requires : (t : ℕ) → info-step-lts.Need-first-bit-requires (info-step-calls t) (info-step-at t) info-step.Post
-info-step-first-bit-requires t c κs = tt
+info-step-hard-requires : (t : ℕ) → info-step-lts.Need-hard-requires (info-step-calls t) (info-step-at t) info-step.Post
+info-step-hard-requires t c κs = tt
 
 info-step-sub-other : (t : ℕ) → info-step-lts.Need-sub-other (info-step-calls t) (info-step-at t) info-step.Post
 info-step-sub-other t c = omega (arith, info-first t c, hard-bit (info-at t (c .before .before .before .before .before .before .before .before .before)))
@@ -787,7 +787,7 @@ pub +frozen-step+info-step-spec : {M : Type 1} → statement M
     (info-step-visit-requires t)
     (info-step-returns t)
     (info-step-value-at-requires t)
-    (info-step-first-bit-requires t)
+    (info-step-hard-requires t)
     (info-step-sub-other t)
     (info-step-loss-requires t)
     (info-step-add-after t)

@@ -10,32 +10,32 @@ use borrow.Author.Needs.{needs}
 use Rattle.blocks.proofs.information.hard_four.Statement.{statement}
 use Rattle.blocks.proofs.information.hard_four.Tie as tie
 
-shared-slice-copy-out-sign : tie.Need-shared-slice-copy-out-sign
-shared-slice-copy-out-sign c = search needs
+shared-slice-copy-out-hard : tie.Need-shared-slice-copy-out-hard
+shared-slice-copy-out-hard c = search needs
 
-sign-requires : tie.Need-sign-requires
-sign-requires c κs = search needs
+hard-requires : tie.Need-hard-requires
+hard-requires c κs = search needs
 
-shared-slice-copy-out-sign-2 : tie.Need-shared-slice-copy-out-sign-2
-shared-slice-copy-out-sign-2 c = search needs
+shared-slice-copy-out-hard-2 : tie.Need-shared-slice-copy-out-hard-2
+shared-slice-copy-out-hard-2 c = search needs
 
-sign-requires-2 : tie.Need-sign-requires-2
-sign-requires-2 c κs = search needs
+hard-requires-2 : tie.Need-hard-requires-2
+hard-requires-2 c κs = search needs
 
-shared-slice-copy-out-sign-3 : tie.Need-shared-slice-copy-out-sign-3
-shared-slice-copy-out-sign-3 c = search needs
+shared-slice-copy-out-hard-3 : tie.Need-shared-slice-copy-out-hard-3
+shared-slice-copy-out-hard-3 c = search needs
 
-sign-requires-3 : tie.Need-sign-requires-3
-sign-requires-3 c κs = search needs
+hard-requires-3 : tie.Need-hard-requires-3
+hard-requires-3 c κs = search needs
 
 add-c : tie.Need-add-c
 add-c c = search needs
 
-shared-slice-copy-out-sign-4 : tie.Need-shared-slice-copy-out-sign-4
-shared-slice-copy-out-sign-4 c = search needs
+shared-slice-copy-out-hard-4 : tie.Need-shared-slice-copy-out-hard-4
+shared-slice-copy-out-hard-4 c = search needs
 
-sign-requires-4 : tie.Need-sign-requires-4
-sign-requires-4 c κs = search needs
+hard-requires-4 : tie.Need-hard-requires-4
+hard-requires-4 c κs = search needs
 
 add-a : tie.Need-add-a
 add-a c = search needs
@@ -69,24 +69,24 @@ returns c =
     let e = c .before .before in
     let rows = g .args .rows .now in
     hard-four rows (g .args .bits .now) (g .pre .1) (g .pre .0)
-    (c .sign4 .ensures .0 ∙ ap hard (toZ-ofZ {w = w32} {z = getD rows 4 (pos 0)} (record { sfits = c .before .sign-arg4 .given })))
-    (b .sign .ensures .0 ∙ ap hard (toZ-ofZ {w = w32} {z = getD rows 5 (pos 0)} (record { sfits = b .before .sign-arg .given })))
-    (e .sign3 .ensures .0 ∙ ap hard (toZ-ofZ {w = w32} {z = getD rows 6 (pos 0)} (record { sfits = e .before .sign-arg3 .given })))
-    (d .sign2 .ensures .0 ∙ ap hard (toZ-ofZ {w = w32} {z = getD rows 7 (pos 0)} (record { sfits = d .before .sign-arg2 .given })))
+    (c .hard4 .ensures .0 ∙ ap hard (toZ-ofZ {w = w32} {z = getD rows 4 (pos 0)} (record { sfits = c .before .hard-arg4 .given })))
+    (b .hard .ensures .0 ∙ ap hard (toZ-ofZ {w = w32} {z = getD rows 5 (pos 0)} (record { sfits = b .before .hard-arg .given })))
+    (e .hard3 .ensures .0 ∙ ap hard (toZ-ofZ {w = w32} {z = getD rows 6 (pos 0)} (record { sfits = e .before .hard-arg3 .given })))
+    (d .hard2 .ensures .0 ∙ ap hard (toZ-ofZ {w = w32} {z = getD rows 7 (pos 0)} (record { sfits = d .before .hard-arg2 .given })))
 
 pub hard-four-spec : {M : Type 1} → statement M
 hard-four-spec =
     tie.close
     (tie.spec
-    shared-slice-copy-out-sign
-    sign-requires
-    shared-slice-copy-out-sign-2
-    sign-requires-2
-    shared-slice-copy-out-sign-3
-    sign-requires-3
+    shared-slice-copy-out-hard
+    hard-requires
+    shared-slice-copy-out-hard-2
+    hard-requires-2
+    shared-slice-copy-out-hard-3
+    hard-requires-3
     add-c
-    shared-slice-copy-out-sign-4
-    sign-requires-4
+    shared-slice-copy-out-hard-4
+    hard-requires-4
     add-a
     add-bits
     slice-write-bits
