@@ -1,5 +1,5 @@
-// The two combining steps, the bit that a value speaks for, both on one value and over rows; what a
-// bit loses at a value.
+// The two combining steps and the bit that a value speaks for, on single values and over rows; what
+// a bit loses at a value.
 // Rows of running sums are stored in one scratch array, the row of n sums at [n .. 2n].
 ghost use mathlib.Core.Path.{_≡_};
 ghost use mathlib.Core.List.{map};
