@@ -1,13 +1,15 @@
 -- `walk::zeros` meets its contract, at each return by the law of its case.
 use borrow.Author.Needs.{needs}
-use mathlib.Core.Path.{sym, _∙_}
+use mathlib.Core.Path.{_≡_, sym, _∙_}
+use mathlib.Core.Logic.{⊎-elim}
 use Prim.Native.Nat.{_+_, _≤_, _<_}
 use native.Mathlib.Omega.{arith}
 use lib.ListN.{drop}
 use borrow.Author.Tests.{not-true, not-false}
 use Rattle.decoding.specs.Readings.{sumLimit}
 use Rattle.rows.specs.Rows.{rowOf}
-use Rattle.blocks.specs.FrozenLaws.{adds-size, run-most}
+use Rattle.blocks.specs.Frozen.{frozenRun}
+use Rattle.blocks.specs.FrozenLaws.{adds-size, run-most, run-sizes}
 use Rattle.walk.specs.FrozenBlockLaws.{given-none, given-dropped, given-unvisited, given-taken}
 use Rattle.walk.proofs.zeros.Statement.{statement}
 use Rattle.walk.proofs.zeros.Tie as tie
@@ -32,6 +34,13 @@ small c =
 few : (c : tie.After-run) → c .run .result ≤ 16
 few c = let g = c .before .args in omega (arith, c .run .ensures, run-most (drop (g .i) (g .kinds .now)))
 
+-- where some are taken, nearly all of the block
+long : (c : tie.After-run) → (c .run .result ≡ 0 → ⊥) → 15 ≤ c .run .result
+long c some =
+    let ks = drop (c .before .args .i) (c .before .args .kinds .now) in
+    let is = c .run .ensures in
+    ⊎-elim (λ (e : frozenRun ks ≡ 15). omega (arith, is, e)) (λ (e : frozenRun ks ≡ 16). omega (arith, is, e)) (run-sizes ks (λ e. some (is ∙ e)))
+
 add-reached : tie.Need-add-reached
 add-reached c = record { fits = omega (arith, small c) }
 
@@ -46,7 +55,7 @@ returns-2 c =
     (added .before .if1 .left) (added .added .ensures) (sym (c .before .dropped .ensures) ∙ c .if2 .taken)
 
 sub-more : tie.Need-sub-more
-sub-more c = search needs
+sub-more c = let added = c .before .before .before in omega (arith, long (added .before .before) (added .before .if1 .left))
 
 cast-more : tie.Need-cast-more
 cast-more c = record { fits = omega (arith, few (c .before .before .before .before .before)) }
