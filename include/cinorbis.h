@@ -32,9 +32,9 @@
  * are 0, and under every refusal all 256 are.
  *
  * Every call ends. None keeps anything from one call to the next, so any number of threads may call
- * at once, each with its own buffers. There is no heap. The archive asks for memcpy and memset, and
- * on 32-bit controllers for divisions, and without an FPU for float arithmetic, of the compiler's
- * own library. */
+ * at once, each with its own buffers. There is no heap. The archive asks for memcpy and memset; and
+ * of the compiler's own library on 32-bit controllers for divisions, without an FPU for float
+ * arithmetic, and on a Cortex-M0+ for 64-bit shifts and products and a count of leading zeros. */
 #ifndef CINORBIS_H
 #define CINORBIS_H
 

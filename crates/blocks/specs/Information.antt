@@ -5,7 +5,7 @@ use Prim.Native.Nat.{ℕ, zero, suc, _+_}
 use lib.IntN.{ℤ}
 use lib.ListN.{getD, take, drop}
 use lib.Dec.{eqb}
-use Rattle.decoding.specs.InformationLaws.{hardRow}
+use Rattle.decoding.specs.Blocks.{hardRow}
 use Rattle.rows.specs.Rows.{rowOf}
 
 -- the n kinds from index i on carry information

@@ -1,4 +1,4 @@
--- Laws of blocks of information indices: what the loops over a block have come to, and the choices of four by straight code.
+-- Laws of blocks of information indices: where all of a block carry information each does; the choices of four by straight code.
 use mathlib.Core.Path.{_≡_, refl, ap, sym, _∙_}
 use mathlib.Core.Bool.{Bool, true, false, _&&_, not, false≢true}
 use mathlib.Core.Logic.{⊎-elim}
@@ -13,7 +13,7 @@ use borrow.Author.Tests.{eq-eqb}
 use Rattle.numbers.specs.Choice.{lt-or-le}
 use Rattle.words.specs.Word.{transform}
 use Rattle.decoding.specs.Quick.{hard}
-use Rattle.decoding.specs.InformationLaws.{hardRow}
+use Rattle.decoding.specs.Blocks.{hardRow}
 use Rattle.rows.specs.Rows.{rowOf}
 use Rattle.blocks.specs.Information.{allChosen}
 

@@ -2,7 +2,7 @@
 ghost use mathlib.Core.Path.{_≡_};
 ghost use Prim.Native.Nat.{_+_, _^_, _≤_, _<_};
 ghost use lib.ListN.{length};
-ghost use Rattle.decoding.specs.InformationLaws.{hardRow};
+ghost use Rattle.decoding.specs.Blocks.{hardRow};
 ghost use Rattle.rows.specs.Rows.{rowOf};
 ghost use Rattle.blocks.specs.Information.{allChosen, withHard};
 

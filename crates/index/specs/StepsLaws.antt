@@ -1,5 +1,6 @@
 -- Laws of stepping: when each answer of a step is given; the starts from a place on, record by record.
 use mathlib.Core.Path.{_≡_, refl, ap, sym, _∙_}
+use mathlib.Core.Bool.{Bool, cond}
 use mathlib.Core.List.{List, [], _∷_}
 use mathlib.Core.Logic.{⊎-elim}
 use Prim.Native.Nat.{ℕ, zero, suc, _+_, _-_, _≤_, _<_}
@@ -28,7 +29,9 @@ module _ (s : List ℕ) (at : ℕ) where
     module _ (some : bytesAt s at ≡ 0 → ⊥) where
       pub step-torn : length s - at < bytesAt s at → stepped s at ≡ Refused Torn
       unfolding stepped
-      step-torn h = rw (lt-leb (length s) at inside, ne-eqb (bytesAt s at) 0 some, lt-ltb (length s - at) (bytesAt s at) h)
+      step-torn h =
+          rw (lt-leb (length s) at inside, ne-eqb (bytesAt s at) 0 some)
+          (ap (λ (b : Bool). cond b (Refused Torn) (At (at + bytesAt s at))) (lt-ltb (length s - at) (bytesAt s at) h))
 
       pub step-next : bytesAt s at ≤ length s - at → stepped s at ≡ At (at + bytesAt s at)
       unfolding stepped

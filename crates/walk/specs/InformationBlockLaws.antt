@@ -19,9 +19,9 @@ use Rattle.decoding.specs.Quick.{hard}
 use Rattle.decoding.specs.Walk.{State, dropped, value, pathPenalty}
 use Rattle.decoding.specs.Allowance.{Limited, out, walkWithin}
 use Rattle.decoding.specs.PathLaws.{hard-bit, loss-hard, path-more}
-use Rattle.decoding.specs.Blocks.{blockRow, Starts, visitedBy}
+use Rattle.decoding.specs.Blocks.{blockRow, Starts, hardRow, visitedBy}
 use Rattle.decoding.specs.BlockLaws.{starts}
-use Rattle.decoding.specs.InformationLaws.{hardRow, bits-hardRow, Speaks, Along, loss-other, undropped-below, chosen-kinds, long-word, block-least}
+use Rattle.decoding.specs.InformationLaws.{bits-hardRow, Speaks, Along, loss-other, undropped-below, chosen-kinds, long-word, block-least}
 use Rattle.decoding.specs.InformationLaws.{block-path, block-along-all, infos, run-first-within, run-first-out}
 use Rattle.rows.specs.Rows.{rowOf}
 use Rattle.memory.specs.Memory.{RowsFor}

@@ -177,7 +177,7 @@ fn plus(visits: u32, n: u32, allowed: u32) -> u32
     visits + n
 }
 
-// So many visits more are allowed: compared so that nothing wraps.
+// n visits more are allowed: compared so that nothing wraps.
 fn allows(state: &[u32; 8], n: u32) -> bool
     ensures { λ r. ⌜ r ≡ allowsMore n (now (state .entry)) ⌝ }
 {
@@ -189,7 +189,7 @@ fn allows(state: &[u32; 8], n: u32) -> bool
     visits <= allowed - n
 }
 
-// So many visits more, which are allowed.
+// n visits more, which are allowed.
 fn count(state: &mut [u32; 8], n: u32)
     requires { ⌜ allowsMore n (now state) ≡ true ⌝ }
     ensures { λ _. ⌜ now (state .exit) ≡ countedMore n (now (state .entry)) ⌝ }
@@ -199,7 +199,7 @@ fn count(state: &mut [u32; 8], n: u32)
     state[VISITS] = plus(visits, n, allowed);
 }
 
-// So many visits more; or where not all are allowed, as many as are, and out.
+// n visits more; or where not all are allowed, as many as are, and out.
 fn visits(state: &mut [u32; 8], n: u32) -> bool
     requires { ⌜ length (now state) ≡ 8 ⌝ }
     ensures { λ r. ⌜ (r ≡ allowsMore n (now (state .entry)))
@@ -215,7 +215,7 @@ fn visits(state: &mut [u32; 8], n: u32) -> bool
     false
 }
 
-// A block of 16 indices starts at i and is not all there are, so that the rows have one of 16 sums.
+// A block of 16 indices starts at i and is not all there are, so that it has a row of 16 sums.
 fn starts_block(state: &[u32; 8], i: usize) -> bool
     ensures { λ r. ⌜ r ≡ startsBlock (now (state .entry)) i ⌝ }
 {
@@ -258,7 +258,7 @@ fn zeros(
     (reached as u64) * 256 + n as u64
 }
 
-// There are more than n indices, so that the rows have one of n sums.
+// There are more than n indices, so that a block of n has a row of n sums.
 fn has_row(state: &[u32; 8], n: usize) -> bool
     requires { ⌜ 2 ^ getD (now state) 6 0 ≤ 256 ⌝ }
     ensures { λ r. ⌜ r ≡ ltb n (2 ^ getD (now (state .entry)) 6 0) ⌝ }
@@ -267,8 +267,8 @@ fn has_row(state: &[u32; 8], n: usize) -> bool
     n < 1usize << m
 }
 
-// Where a block of n = 2^s indices starts at i, for which the rows are made, and all of them carry
-// information, each has the bit that its value speaks for.
+// Whether a block of n = 2^s indices that has a row starts at i, for which the rows are made, and
+// all of them carry information; if so, each has the bit that its value speaks for.
 fn hard_block(
     kinds: &[u8; 256],
     rows: &[i32; 256],
@@ -324,7 +324,7 @@ fn hard_blocks(
 }
 
 // What is taken at once at i, for which the rows are made and a visit is counted: of frozen indices
-// as zeros gives it, of information indices how many, and nothing is counted. Both steps call this,
+// as zeros gives it, of information indices how many, and nothing is counted. It serves both steps,
 // so that the compiler keeps it out of them, and their frames stay as small as they are without it.
 fn taken(
     kinds: &[u8; 256],
@@ -353,7 +353,7 @@ fn taken(
 }
 
 // How many information indices from i on have the bits that their values speak for, where that at i
-// is put: those of the largest block that starts there, or i alone.
+// is put: those of the largest block that starts there, or i alone. No penalty is asked for there.
 fn hard_here(
     kinds: &[u8; 256],
     rows: &[i32; 256],

@@ -54,7 +54,9 @@ loop-again c =
     let long = length-bitsOf m (s .args .place) (s .args .sign) in
     let is : s .args .place / 2 ^ (m - 1 - o .i) % 2 ≡ getD x (o .i) 0 = sym (bit-at m (s .args .place) (s .args .sign) (o .i) (omega arith)) in (
       omega arith,
-      rw (add-one (o .i), is, o .inv .1) (front-suc d x (o .i) 0 (omega (arith, s .pre .0)) (omega arith)),
+      ap₂ (λ (y : List ℕ) (b : ℕ). set y (o .i) b) (o .inv .1) is
+          ∙ front-suc d x (o .i) 0 (omega (arith, s .pre .0)) (omega arith)
+          ∙ ap (front d x) (sym (add-one (o .i))),
       length-set (o .bits) _ _ ∙ o .inv .2,
     )
 

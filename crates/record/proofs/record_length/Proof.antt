@@ -1,6 +1,6 @@
 -- `record::record_length` meets its contract.
 use mathlib.Core.Path.{_∙_, ap, sym}
-use Prim.Native.Nat.{_/_, _%_}
+use Prim.Native.Nat.{ℕ, _+_, _/_, _%_}
 use native.Mathlib.Omega.{arith}
 use native.Mathlib.Numerals.{one-add}
 use Rattle.code.specs.Sound.{Sound}
@@ -34,7 +34,8 @@ enum-told c = search needs
 
 returns : tie.Need-returns
 returns c =
-    rw (one-add, c .part-length .ensures) (ap lengthBy (sym (sym (c .before .before .before .before .code-of .ensures) ∙ c .before .before .code .given .1)))
+    ap (λ (k : ℕ). 1 + k) (c .part-length .ensures) ∙ one-add _
+    ∙ ap lengthBy (sym (sym (c .before .before .before .before .code-of .ensures) ∙ c .before .before .code .given .1))
 
 returns-2 : tie.Need-returns-2
 returns-2 c = ap lengthBy (sym (sym (c .before .before .code-of .ensures) ∙ c .enum-told .given .1))

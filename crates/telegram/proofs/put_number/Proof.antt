@@ -1,9 +1,10 @@
 -- `put_number`: the bits are the digits up to where the loop is.
-use Prim.Native.Nat.{suc, _-_, _^_, _%_, _/_, _≤_}
-use mathlib.Core.Path.{_≡_, refl, sym, _∙_}
+use Prim.Native.Nat.{ℕ, suc, _-_, _^_, _%_, _/_, _≤_}
+use mathlib.Core.Path.{_≡_, refl, ap, ap₂, sym, _∙_}
+use mathlib.Core.List.{List}
 use native.Mathlib.Omega.{arith}
 use native.Mathlib.Numerals.{add-one}
-use lib.ListN.{length, getD, length-set, drop-of-length-le}
+use lib.ListN.{length, getD, set, length-set, drop-of-length-le}
 use borrow.Author.Needs.{needs}
 use Rattle.numbers.specs.Front.{front, front-suc, front-done}
 use Rattle.words.specs.Bits.{digit, digits}
@@ -56,7 +57,9 @@ loop-again c =
     let e : w - 1 - l .i ≡ w - suc (l .i) = omega arith in
     let is : s .args .number / 2 ^ (w - 1 - l .i) % 2 ≡ getD x (l .i) 0 = rw e (sym (digits-at w (s .args .number) (l .i) (omega arith))) in (
       omega arith,
-      rw (add-one (l .i), is, l .inv .1) (front-suc d x (l .i) 0 (omega arith) (omega (arith, length-digits w (s .args .number)))),
+      ap₂ (λ (y : List ℕ) (b : ℕ). set y (l .i) b) (l .inv .1) is
+          ∙ front-suc d x (l .i) 0 (omega arith) (omega (arith, length-digits w (s .args .number)))
+          ∙ ap (front d x) (sym (add-one (l .i))),
       simp length-set (l .inv .2),
     )
 

@@ -1,10 +1,11 @@
 -- `tilt_fault`: the tests in their order.
 use borrow.Author.Tests.{lt-ltb, le-ltb, eq-eqb, ne-eqb}
+use Rattle.telegram.specs.Faults.{largestTilt}
 use Rattle.telegram.proofs.tilt_fault.Statement.{statement}
 use Rattle.telegram.proofs.tilt_fault.Tie as tie
 
 returns : tie.Need-returns
-returns c = rw (lt-ltb _ _ (c .if1 .taken))
+returns c = rw (lt-ltb largestTilt _ (c .if1 .taken))
 
 returns-2 : tie.Need-returns-2
 returns-2 c = rw (le-ltb _ _ (c .before .before .before .before .if1 .left), eq-eqb _ _ (c .before .before .if2 .taken), eq-eqb _ _ (c .if3 .taken))

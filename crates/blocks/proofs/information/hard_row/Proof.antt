@@ -9,7 +9,7 @@ use Rattle.words.specs.Bits.{Bits}
 use Rattle.words.specs.Word.{transform}
 use Rattle.decoding.specs.Quick.{hard}
 use Rattle.decoding.specs.SignLaws.{bits-signs}
-use Rattle.decoding.specs.InformationLaws.{hardRow}
+use Rattle.decoding.specs.Blocks.{hardRow}
 use Rattle.rows.specs.Rows.{rowOf}
 use Rattle.rows.specs.RowLaws.{length-rowOf}
 use borrow.Author.Needs.{needs}
