@@ -353,7 +353,7 @@ fn taken(
 }
 
 // How many information indices from i on have the bits that their values speak for, where that at i
-// is put: those of the largest block that starts there, or i alone. No penalty is asked for there.
+// is put: those of the largest block that starts there, or i alone. Only zeros need a penalty.
 fn hard_here(
     kinds: &[u8; 256],
     rows: &[i32; 256],
