@@ -83,9 +83,9 @@ module _ (m : ℕ) (ks : List ℕ) (f : length ks ≡ 2 ^ m) (h : Bits ks) (c : 
   clean_best =
       let l = clean s c in
       let none : least_penalty m ks l ≡ 0 =
-      le_antisymm (rw (w.gives, penalty_far c w, distance_self c, mul-zero s) at (none_less m ks l w.bits (w.long, w.are_bits_lem))) (omega arith) in
+      le_antisymm (rw (w.gives, penalty_far c w, distance_self c, mul-zero s) at (none_less m ks l w.bits (w.long, w.are_bits))) (omega arith) in
       let b = best_bits_are m ks l in
-      let v : Word m ks (best_word m ks l) = record { bits = best_bits m ks l; long = b.0; are_bits_lem = b.1; gives = refl } in
+      let v : Word m ks (best_word m ks l) = record { bits = best_bits m ks l; long = b.0; are_bits = b.1; gives = refl } in
       let best : best_word m ks l ≡ c = only_clean (best_word m ks l) v (best_attains m ks l ∙ none) in
       let bits : best_bits m ks l ≡ w.bits =
       cc (taken_encoded m ks (best_bits m ks l) f h b.0 b.1, word_taken m ks c f h w, best) in
@@ -100,7 +100,7 @@ module _ (m : ℕ) (ks : List ℕ) (f : length ks ≡ 2 ^ m) (h : Bits ks) (c : 
       let l = clean s c in
       let n = some_next m ks f h information l long_clean in
       let x = encoded m ks n.0 in
-      let v : Word m ks x = record { bits = n.0; long = n.1.0; are_bits_lem = n.1.1; gives = refl } in
+      let v : Word m ks x = record { bits = n.0; long = n.1.0; are_bits = n.1.1; gives = refl } in
       let other : c ≡ x → ⊥ = λ z.
       let same : n.0 ≡ best_bits m ks l =
       cc (taken_encoded m ks n.0 f h n.1.0 n.1.1, word_taken m ks c f h w, z, clean_best.clean_bits) in
@@ -138,7 +138,7 @@ module _ (r m : ℕ) (below : r ≤ m) (c : List ℕ) (w : Word m (kinds r m) c)
       let same : y ≡ c = sym v.gives ∙ ap (encoded m ks) z ∙ clean_best_code.clean-word in
       omega (arith, nearest, ap (distance c) same, distance_self c, pow_pos (m - r)) in
       let most : gap m ks l ≤ penalty l y = rw (v.gives, clean_best_code.clean-penalty, zero-add) at
-      (others_more m ks l (sum_kinds_pos r m) v.bits (v.long, v.are_bits_lem) other) in
+      (others_more m ks l (sum_kinds_pos r m) v.bits (v.long, v.are_bits) other) in
       le_antisymm (rw (penalty_far m ks e bits c w s above y v, nearest) at most)
       (clean_apart m ks e bits c w s above (sum_kinds_pos r m) (2 ^ (m - r)) (λ x u z. distance_least r m c x below w u z))
 

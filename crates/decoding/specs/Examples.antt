@@ -103,7 +103,7 @@ bits_0100 (suc (suc (suc (suc i)))) = omega arith
 
 word_11001100 : Word 3 (kinds 1 3) (1 ∷ 1 ∷ 0 ∷ 0 ∷ 1 ∷ 1 ∷ 0 ∷ 0 ∷ [])
 unfolding kinds kind ones digit tabulate sum
-word_11001100 = record { bits = 0 ∷ 1 ∷ 0 ∷ 0 ∷ []; long = refl; are_bits_lem = bits_0100; gives = examples.word-turned }
+word_11001100 = record { bits = 0 ∷ 1 ∷ 0 ∷ 0 ∷ []; long = refl; are_bits = bits_0100; gives = examples.word-turned }
 
 -- 21 visits are not 25
 pub visits_differ : EqualVisits → ⊥

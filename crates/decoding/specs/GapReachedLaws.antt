@@ -89,7 +89,7 @@ module _ (m : ℕ) (ks : List ℕ) (f : length ks ≡ 2 ^ m) (kinds : Bits ks) (
       let x = encoded m ks b in
       let y = encoded m ks n.0 in
       let word : (c : List ℕ) → InformationBits ks c → Word m ks (encoded m ks c) = λ c i.
-      record { bits = c; long = i.0; are_bits_lem = i.1; gives = refl } in
+      record { bits = c; long = i.0; are_bits = i.1; gives = refl } in
       let long : (c : List ℕ) → InformationBits ks c → length (encoded m ks c) ≡ length l = λ c i. word-length m ks (encoded m ks c) f (word c i) ∙ sym e in
       let differ : x ≡ y → ⊥ = λ z.
       let same : b ≡ n.0 =

@@ -28,7 +28,7 @@ penalty-negated m l x e f h =
     let y = xors x c in
     ap (λ (k : List ℤ). penalty k x) (sym (turns-ones (2 ^ m) l e))
     ∙ ap (penalty (turns c l)) (sym (xors-twice x c same h))
-    ∙ penalty-turns c l y (b.long ∙ sym e) (length-xors x c same ∙ f ∙ sym e) b.are_bits_lem (bits_xors x c)
+    ∙ penalty-turns c l y (b.long ∙ sym e) (length-xors x c same ∙ f ∙ sym e) b.are_bits (bits_xors x c)
 
 -- a set whose last index is frozen does not have the all-ones word
 pub last_frozen : (m : ℕ) (ks : List ℕ) → length ks ≡ 2 ^ m → get_or ks (2 ^ m - 1) 0 ≡ 0 → Word m ks (all_ones m) → ⊥
@@ -51,8 +51,8 @@ module _ (r m : ℕ) (ks : List ℕ) (l : List ℤ) (e : length l ≡ 2 ^ m) (f 
       let other : v.bits ≡ best_bits m js l → ⊥ = λ z.
       let y_is : best_word m js l ≡ y = sym (ap (encoded m js) z) ∙ v.gives in
       no_ones
-      (subst (Word m ks) (xors_undo x (all_ones m) (long_x ∙ sym ones.long) ones.are_bits_lem) (word-xors m ks x y f w (subst (Word m ks) y_is best))) in
-      rw (penalty-negated m l x e long_x bits_x, ← v.gives) (others_more m js l (sum_kinds_pos r m) v.bits (v.long, v.are_bits_lem) other)
+      (subst (Word m ks) (xors_undo x (all_ones m) (long_x ∙ sym ones.long) ones.are_bits) (word-xors m ks x y f w (subst (Word m ks) y_is best))) in
+      rw (penalty-negated m l x e long_x bits_x, ← v.gives) (others_more m js l (sum_kinds_pos r m) v.bits (v.long, v.are_bits) other)
 
   -- so the search over the smaller set has a least penalty that is larger by the gap, for the wrong sign
   pub sign-shown : least_penalty m ks l + gap m (kinds r m) l ≤ least_penalty m ks (map neg_ℤ l)
@@ -61,6 +61,6 @@ module _ (r m : ℕ) (ks : List ℕ) (l : List ℤ) (e : length l ≡ 2 ^ m) (f 
       let negated = map neg_ℤ l in
       let b = best_bits_are m ks negated in
       let here : least_penalty m ks l ≤ penalty l (best_word m (kinds r m) l) =
-      rw best.gives at (none_less m ks l best.bits (best.long, best.are_bits_lem)) in
-      let there = wrong_sign (encoded m ks (best_bits m ks negated)) (record { bits = best_bits m ks negated; long = b.0; are_bits_lem = b.1; gives = refl }) in
+      rw best.gives at (none_less m ks l best.bits (best.long, best.are_bits)) in
+      let there = wrong_sign (encoded m ks (best_bits m ks negated)) (record { bits = best_bits m ks negated; long = b.0; are_bits = b.1; gives = refl }) in
       omega (arith, here, there, best_attains m (kinds r m) l, best_attains m ks negated)

@@ -102,7 +102,7 @@ module _ (m : ℕ) (ks : List ℕ) (l : List ℤ) (e : length ks ≡ 2 ^ m) (h :
       ∙ transform-twice m (quick_word m ks l) (length_quick m ks l) (bits_quick m ks l)
 
   pub quick-word : Word m ks (quick_word m ks l)
-  quick-word = record { bits = quick_bits m ks l; long = length-quick_bits; are_bits_lem = bits_quick_bits; gives = encoded_quick }
+  quick-word = record { bits = quick_bits m ks l; long = length-quick_bits; are_bits = bits_quick_bits; gives = encoded_quick }
 
   -- no better than the best word
   pub quick_least : least_penalty m ks l ≤ quick_penalty m ks l

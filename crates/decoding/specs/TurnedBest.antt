@@ -60,7 +60,7 @@ module _ (m : ℕ) (ks : List ℕ) (l : List ℤ) (c : List ℕ) (g : length ks 
   penalty_added : (b : List ℕ) → length b ≡ sum ks → Bits b → penalty_of m ks (turns c l) (xors b w.bits) ≡ penalty_of m ks l b
   penalty_added b long bits =
       let x = encoded m ks b in
-      let v : Word m ks x = record { bits = b; long = long; are_bits_lem = bits; gives = refl } in
+      let v : Word m ks x = record { bits = b; long = long; are_bits = bits; gives = refl } in
       ap (penalty (turns c l)) (encoded-xors m ks b w.bits g (long ∙ sym w.long) ∙ ap (xors x) w.gives)
       ∙ penalty-turns c l x (word-length m ks c g w ∙ sym e) (word-length m ks x g v ∙ sym e) (word_bits m ks c g w) (word_bits m ks x g v)
 
@@ -70,7 +70,7 @@ module _ (m : ℕ) (ks : List ℕ) (l : List ℤ) (c : List ℕ) (g : length ks 
       let all = all_bits (sum ks) in
       let turned = penalty_of m ks (turns c l) in
       ap sum (map-map f turned all)
-      ∙ sym (all_added (sum ks) w.bits w.long w.are_bits_lem (λ b. f (turned b)))
+      ∙ sym (all_added (sum ks) w.bits w.long w.are_bits (λ b. f (turned b)))
       ∙ ap sum
       (map_same (λ b. f (turned (xors b w.bits))) (λ b. f (penalty_of m ks l b)) all
       (λ b i. let r = of_all_bits (sum ks) b i in ap f (penalty_added b r.0 r.1))

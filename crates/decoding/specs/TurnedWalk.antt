@@ -108,5 +108,5 @@ unfolding walked
 walked-turned m ks l c g e w never =
     let v = fill ks w.bits in
     ap (λ (x : List ℕ). walk m (turns x l) ks [] 0 start) (sym w.gives)
-    ∙ walk-turned m l v e (length-fill ks w.bits ∙ g) (bits_fill ks w.bits w.are_bits_lem) ks [] 0 start
+    ∙ walk-turned m l v e (length-fill ks w.bits ∙ g) (bits_fill ks w.bits w.are_bits) ks [] 0 start
     (omega arith) (λ i. omega arith) (λ i k. rw zero-add (frozen_fill ks w.bits i k)) never

@@ -182,7 +182,7 @@ module _ (m : ℕ) (l : List ℤ) (e : length l ≡ 2 ^ m) where
 -- a full path that is a row of the code, with its word's penalty
 pub record CodePath (m : ℕ) (ks : List ℕ) (l : List ℤ) (f : Full) : Type 0 where
   pub long : length f.path ≡ 2 ^ m
-  pub are_bits_lem : Bits f.path
+  pub are_bits : Bits f.path
   pub frozen : Frozen ks f.path
   pub has : f.penalty ≡ penalty l (transform m f.path)
 
@@ -207,7 +207,7 @@ module _ (m : ℕ) (ks : List ℕ) (l : List ℤ) (e : length l ≡ 2 ^ m) (f : 
       let o = fulls_rows m l ks [] 0 w i in
       let r = of_rows_of ks w.path kinds (Memᴰ.cast o.joined o.in_x) in
       let long : length w.path ≡ 2 ^ m = r.0 ∙ f in
-      record { long = long; are_bits_lem = r.1; frozen = r.2; has = fulls-penalty m l ks [] 0 w refl i ∙ path_full m l e w.path long r.1 }
+      record { long = long; are_bits = r.1; frozen = r.2; has = fulls-penalty m l ks [] 0 w refl i ∙ path_full m l e w.path long r.1 }
 
   pub walked_end : (a b : Full) → (walked m ks l).held ≡ two a b → WalkEnd m ks l a b
   unfolding walked least_penalty
@@ -251,8 +251,8 @@ module _ (m : ℕ) (ks : List ℕ) (l : List ℤ) (e : length l ≡ 2 ^ m) (f : 
       record {
         first = pick ks u;
         second = pick ks v;
-        first_bits = (length-pick ks u kinds long_u, bits_pick ks u a.are_bits_lem);
-        second_bits = (length-pick ks v kinds long_v, bits_pick ks v b.are_bits_lem);
+        first_bits = (length-pick ks u kinds long_u, bits_pick ks u a.are_bits);
+        second_bits = (length-pick ks v kinds long_v, bits_pick ks v b.are_bits);
         differ = λ z. end.differ (sym row-u ∙ ap (fill ks) z ∙ row_v);
         first-has = ap (λ (x : List ℕ). penalty l (transform m x)) row-u ∙ sym a.has ∙ end.least_penalty_lem;
         second-has = ap (λ (x : List ℕ). penalty l (transform m x)) row_v ∙ sym b.has ∙ end.next-least;
@@ -266,7 +266,7 @@ module _ (m : ℕ) (ks : List ℕ) (l : List ℤ) (e : length l ≡ 2 ^ m) (f : 
     pub best_bits_lem : pick ks a.path ≡ best_bits m ks l
     best_bits_lem =
         best_only m ks l information above (pick ks a.path)
-        (length-pick ks a.path kinds (end.best_path.long ∙ sym f), bits_pick ks a.path end.best_path.are_bits_lem)
+        (length-pick ks a.path kinds (end.best_path.long ∙ sym f), bits_pick ks a.path end.best_path.are_bits)
         (ap (λ (x : List ℕ). penalty l (transform m x)) filled ∙ sym end.best_path.has ∙ end.least_penalty_lem)
 
     pub best_row : a.path ≡ fill ks (best_bits m ks l)

@@ -37,7 +37,7 @@ message_with marker message =
 -- a row of bits that is zero but for its last entry, which is not
 last-alone : (u : List ℕ) (n : ℕ) → length u ≡ n → 0 < n → Bits u → ((i : ℕ) → (i ≡ n - 1 → ⊥) → get_or u i 0 ≡ 0) → (get_or u (n - 1) 0 ≡ 0 → ⊥)
     → u ≡ replicate (n - 1) 0 ++ 1 ∷ []
-last-alone u n e h are_bits_lem zeros one =
+last-alone u n e h are_bits zeros one =
     let z : List ℕ = replicate (n - 1) 0 in
     let long : length z ≡ n - 1 = length-replicate (n - 1) 0 in
     let same : take (n - 1) u ≡ z =
@@ -45,13 +45,13 @@ last-alone u n e h are_bits_lem zeros one =
     (λ i k.
     let below : i < n - 1 = omega (arith, k, length-take-le (n - 1) u (omega arith)) in
     get_or-take (n - 1) u i 0 below ∙ zeros i (λ j. omega arith) ∙ sym (get_or-replicate (n - 1) i 0 0 below)) in
-    let marker : get_or u (n - 1) 0 ≡ 1 = omega (arith, one, are_bits_lem (n - 1)) in
+    let marker : get_or u (n - 1) 0 ≡ 1 = omega (arith, one, are_bits (n - 1)) in
     sym (take_all (suc (n - 1)) u (omega arith)) ∙ take-suc u (n - 1) 0 (omega arith) ∙ ap₂ (λ (a : List ℕ) (b : ℕ). a ++ b ∷ []) same marker
 
 pub ones-row : (m : ℕ) → transform m (all_ones m) ≡ replicate (2 ^ m - 1) 0 ++ 1 ∷ []
 ones-row m =
     let b = below-ones m in
-    last-alone (transform m (all_ones m)) (2 ^ m) (length-transform m (all_ones m) b.long) (pow_pos m) (bits_transform m (all_ones m) b.are_bits_lem)
+    last-alone (transform m (all_ones m)) (2 ^ m) (length-transform m (all_ones m) b.long) (pow_pos m) (bits_transform m (all_ones m) b.are_bits)
     (zero_but_last m) (not-zero-last m)
 
 -- ---- picked at the information indices

@@ -34,7 +34,7 @@ noise_corrected s g d far room message long are size above allowed l x enough sm
     let sent : Word m ks c = record {
       bits = guarded_bits message;
       long = length_with 0 message ∙ ap suc long ∙ many;
-      are_bits_lem = bits_more message 0 are (omega arith);
+      are_bits = bits_more message 0 are (omega arith);
       gives = refl;
     } in
     let wide : size * d ≤ gap m ks (clean size c) = clean_apart m ks f h c sent size above some d (λ y u z. far c y sent u z) in
@@ -45,7 +45,7 @@ noise_corrected s g d far room message long are size above allowed l x enough sm
     ∙ ap (by_answer allowed b w) (answer-found m ks l allowed enough kept.gap-left) in
     record {
       long = long;
-      are_bits_lem = are;
+      are_bits = are;
       answers = ap (λ (o : Search.Outcome). o.number) is;
       finds = ap (λ (o : Search.Outcome). o.word) is ∙ kept.same_word ∙ (clean_best m ks f h c sent size above).clean-word;
     }

@@ -45,7 +45,7 @@ pub record Guards (s : Searching) : Type 0 where
 -- the search of the readings finds the word of the guarded message
 pub record Finds (s : Searching) (allowed : ℕ) (l : List ℤ) (room message : List ℕ) : Type 0 where
   pub long : length message ≡ length room
-  pub are_bits_lem : Bits message
+  pub are_bits : Bits message
   pub answers : (own_search s allowed l room).number ≡ 0
   pub finds : (own_search s allowed l room).word ≡ encoded s.code.m s.kinds (guarded_bits message)
 

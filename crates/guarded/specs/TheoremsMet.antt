@@ -153,7 +153,7 @@ module _ (s : Searching) (g : Guards s) (allowed : ℕ) (l : List ℤ) (room mes
   pub sent_bits : o.bits ≡ guarded_bits message
   sent_bits =
       bits_only s.code.m s.kinds o.bits (guarded_bits message) g.long_kinds g.are_kinds sent.best.information
-      (length_with 0 message ∙ ap suc h.long ∙ many, bits_more message 0 h.are_bits_lem (omega arith))
+      (length_with 0 message ∙ ap suc h.long ∙ many, bits_more message 0 h.are_bits (omega arith))
       (sent.best.gives ∙ h.finds)
 
   sent_marker : last_bit o.bits ≡ 0
@@ -212,7 +212,7 @@ read-written s g allowed l room e =
     subst (Finds s allowed l room) (sym says)
     (record {
       long = length-take-le (length o.bits - 1) o.bits (omega arith) ∙ omega (arith, long);
-      are_bits_lem = bits_take (length o.bits - 1) o.bits sent.best.information.1;
+      are_bits = bits_take (length o.bits - 1) o.bits sent.best.information.1;
       answers = f.0;
       finds = sym sent.best.gives ∙ ap (encoded s.code.m s.kinds) (sym whole);
     })

@@ -58,7 +58,7 @@ pub bits_of_are : (m s e : ℕ) → InformationBits (kinds 1 m) (bits_of m s e)
 unfolding bits_of
 bits_of_are m s e = (
   length-append (digits m s) ((ones m s + e) % 2 ∷ []) ∙ omega (arith, length_digits m s, sum-first_order m),
-  bits_append (digits m s) ((ones m s + e) % 2 ∷ []) (bits_digits m s) (λ i. elim i [ zero ↦ omega arith | suc i ↦ omega arith ]),
+  bits_append (digits m s) ((ones m s + e) % 2 ∷ []) (bits_digits m s) (λ i. elim i as (λ j. get_or ((ones m s + e) % 2 ∷ []) j 0 < 2) [ zero ↦ omega arith | suc i ↦ omega arith ]),
 )
 
 pub sign-bits_of : (m s e : ℕ) → e < 2 → sum (bits_of m s e) % 2 ≡ e
@@ -190,15 +190,15 @@ pub place_word : (m s e : ℕ) → s < 2 ^ m → e < 2 → Word m (kinds 1 m) (f
 place_word m s e h g = record {
   bits = bits_of m s e;
   long = (bits_of_are m s e).0;
-  are_bits_lem = (bits_of_are m s e).1;
+  are_bits = (bits_of_are m s e).1;
   gives = encoded-bits_of m s e h g;
 }
 
 pub word_place : (m : ℕ) (x : List ℕ) (w : Word m (kinds 1 m) x) → first_order m (place_named m w.bits) (sum w.bits % 2) ≡ x
 word_place m x w =
     let b = w.bits in
-    sym (encoded-bits_of m (place_named m b) (sum b % 2) (place_within m b w.are_bits_lem) (omega arith))
-    ∙ ap (encoded m (kinds 1 m)) (bits_of_place m b (w.long ∙ sum-first_order m) w.are_bits_lem) ∙ w.gives
+    sym (encoded-bits_of m (place_named m b) (sum b % 2) (place_within m b w.are_bits) (omega arith))
+    ∙ ap (encoded m (kinds 1 m)) (bits_of_place m b (w.long ∙ sum-first_order m) w.are_bits) ∙ w.gives
 
 -- each once
 pub word_once : (m s e s' e' : ℕ) → s < 2 ^ m → e < 2 → s' < 2 ^ m → e' < 2 → first_order m s e ≡ first_order m s' e' → (s ≡ s') × (e ≡ e')

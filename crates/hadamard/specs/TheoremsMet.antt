@@ -20,7 +20,7 @@ words_and_entries m l long = record {
   named = place_word m;
   has_place = λ x w.
       let small : sum w.bits % 2 < 2 = omega arith in
-      (place_named m w.bits, sum w.bits % 2, place_within m w.bits w.are_bits_lem, small, word_place m x w);
+      (place_named m w.bits, sum w.bits % 2, place_within m w.bits w.are_bits, small, word_place m x w);
   once = word_once m;
   correlation-is = λ s e h g. correlation-word m s e l h g long;
   many = length-map (all_bits (sum (kinds 1 m))) (λ b. correlation l (encoded m (kinds 1 m) b)) ∙ length-all_bits (sum (kinds 1 m))

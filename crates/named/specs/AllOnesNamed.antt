@@ -37,7 +37,7 @@ module _ (r m : ℕ) (named : List ℕ) where
   free_ones : LastFree → Word m ks (all_ones m)
   free_ones free =
       let b = below-ones m in
-      frozen_word m ks (all_ones m) long (bits_left named (kinds r m) (bits_kinds r m)) b.long b.are_bits_lem
+      frozen_word m ks (all_ones m) long (bits_left named (kinds r m) (bits_kinds r m)) b.long b.are_bits
       (λ i z.
       elim (ℕ_discrete i (2 ^ m - 1)) [
         | yes last ↦
@@ -55,5 +55,5 @@ module _ (r m : ℕ) (named : List ℕ) where
       let b = below-ones m in
       let same : xors (xors x (all_ones m)) x ≡ all_ones m =
       ap (λ (y : List ℕ). xors y x) (xors_comm x (all_ones m))
-      ∙ xors-twice (all_ones m) x (b.long ∙ sym (word-length m ks x long w)) b.are_bits_lem in
+      ∙ xors-twice (all_ones m) x (b.long ∙ sym (word-length m ks x long w)) b.are_bits in
       f (ones_free (subst (Word m ks) same (word-xors m ks (xors x (all_ones m)) x long v w)))

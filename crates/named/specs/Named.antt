@@ -26,7 +26,7 @@ left (a ∷ named) (k ∷ ks) = kind_left a k ∷ left named ks
 -- a row that names information indices only, possibly none, and leaves at least one
 pub record GoodRow (named ks : List ℕ) : Type 0 where
   pub long : length named ≡ length ks
-  pub are_bits_lem : Bits named
+  pub are_bits : Bits named
   pub information : (i : ℕ) → get_or named i 0 ≡ 1 → get_or ks i 0 ≡ 1
   pub leaves : 0 < sum (left named ks)
 

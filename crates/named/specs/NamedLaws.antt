@@ -135,7 +135,7 @@ module _ (named ks : List ℕ) (are : Bits ks) where
       let none = none_frozen named ks same (not-true (names_frozen named ks) (and_left frozen some later)) in
       record {
         long = same;
-        are_bits_lem = good_bits named (ltb-false place (length named) (not-true (ltb place (length named)) (and_left bad (frozen && some) rest)));
+        are_bits = good_bits named (ltb-false place (length named) (not-true (ltb place (length named)) (and_left bad (frozen && some) rest)));
         information = λ i h. elim (ℕ_discrete (get_or ks i 0) 0) [
           | yes z ↦ absurd (none i (λ y. omega arith) z)
           | no z ↦ omega (arith, are i)
@@ -147,8 +147,8 @@ module _ (named ks : List ℕ) (are : Bits ks) where
   unfolding good_row
   good-row g =
       let place = first_bad_bit named in
-      let all = first-none 0 (λ b. b) 1 named (length named) (λ j h. omega (arith, g.are_bits_lem j)) refl in
-      let none = frozen_none named ks (λ i f z. omega (arith, g.information i (omega (arith, g.are_bits_lem i)))) in
+      let all = first-none 0 (λ b. b) 1 named (length named) (λ j h. omega (arith, g.are_bits j)) refl in
+      let none = frozen_none named ks (λ i f z. omega (arith, g.information i (omega (arith, g.are_bits i)))) in
       rw (eq-eqb (length named) (length ks) g.long, le-ltb place (length named) (omega (arith, all)), none, lt-ltb 0 (sum (left named ks)) g.leaves)
 
   -- each end of the test
@@ -229,7 +229,7 @@ pub empty_good : (r m : ℕ) → GoodRow (replicate (2 ^ m) 0) (kinds r m)
 empty_good r m =
     record {
       long = length-replicate (2 ^ m) 0 ∙ sym (length-kinds r m);
-      are_bits_lem = bits_zeros (2 ^ m);
+      are_bits = bits_zeros (2 ^ m);
       information = λ i h. absurd (omega (arith, zero_at (2 ^ m) i));
       leaves = rw (left-all (2 ^ m) (kinds r m)) (sum_kinds_pos r m);
     }

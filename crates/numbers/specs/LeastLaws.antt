@@ -1,6 +1,6 @@
 -- Laws of the least number of a list and the next one, with repeats, by how many numbers are at most t, so that the order of the list does not matter.
 use Rattle.std.specs.Prelude.{◌≡◌, refl, ◌↔◌, cond, List, [], ◌∷◌, map, ℕ, suc, ◌+◌, ◌≤◌, ◌<◌, min, length, leb}
-use Rattle.std.proofs.Common.{ap, sym, ◌∙◌, ⊎_elim, arith, le_antisymm, le_refl, le-leb, eq-eqb, ne_eqb}
+use Rattle.std.proofs.Common.{ap, sym, subst, ◌∙◌, ⊎_elim, arith, le_antisymm, le_refl, le-leb, eq-eqb, ne_eqb}
 use Rattle.std.proofs.lemmas.Bool.{lt-leb}
 use Rattle.numbers.specs.Choice.{lt_or_le}
 use Rattle.numbers.specs.Sums.{sum}
@@ -89,7 +89,8 @@ taken_out x (y ∷ l) =
     ⊎_elim
     (λ k.
     let e : min x a ≡ a = omega arith in
-    rw (e, ne_eqb x a (λ z. omega arith)) (record { counts = λ t. omega (arith, i.counts t); long = ap suc i.long }))
+    subst (λ (b : ℕ). TakenOut (x ∷ y ∷ l) (without b (x ∷ y ∷ l)) b) (sym e)
+    (rw (ne_eqb x a (λ z. omega arith)) (record { counts = λ t. omega (arith, i.counts t); long = ap suc i.long })))
     (λ k.
     let e : min x a ≡ x = omega arith in
     rw (e, eq-eqb x x refl) (record { counts = λ t. refl; long = refl }))

@@ -112,7 +112,7 @@ module _ (m : ℕ) where
     found =
         record {
           long = length_digits m position ∙ sym (length-replicate m 0);
-          are_bits_lem = bits_digits m position;
+          are_bits = bits_digits m position;
           answers = sym (ap (λ (o : Search.Outcome). o.number) (engine_is l)) ∙ f.answers;
           finds = sym (ap (λ (o : Search.Outcome). o.word) (engine_is l)) ∙ f.finds;
         }
@@ -137,9 +137,9 @@ module _ (m : ℕ) where
       let says : (reading_rod m l).position ≡ of_digits o.message = ap (λ (r : RodOutcome). r.position) (reading-is l o refl) in
       let long : length o.message ≡ m = f.long ∙ length-replicate m 0 in
       let back : digits m (of_digits o.message) ≡ o.message =
-      ap (λ (k : ℕ). digits k (of_digits o.message)) (sym long) ∙ digits_number o.message f.are_bits_lem in
+      ap (λ (k : ℕ). digits k (of_digits o.message)) (sym long) ∙ digits_number o.message f.are_bits in
       rw says (
-        subst (λ (k : ℕ). of_digits o.message < 2 ^ k) long (number_most o.message f.are_bits_lem),
+        subst (λ (k : ℕ). of_digits o.message < 2 ^ k) long (number_most o.message f.are_bits),
         record {
           answers = ap (λ (r : Search.Outcome). r.number) (engine_is l) ∙ f.answers;
           finds = ap (λ (r : Search.Outcome). r.word) (engine_is l) ∙ f.finds ∙ ap (λ (b : List ℕ). encoded m (kinds 1 m) (guarded_bits b)) (sym back);

@@ -45,11 +45,11 @@ module _ (m : ℕ) (ks : List ℕ) (l : List ℤ) (e : length l ≡ 2 ^ m) (f : 
       let next : penalty_of m ks l (pick ks v) ≡ o.penalty + o.gap = omega (arith, has, p, g) in
       record {
         bits = pick ks v;
-        information = (count, bits_pick ks v b.are_bits_lem);
+        information = (count, bits_pick ks v b.are_bits);
         shown = ap (λ h. roomy (pick ks (second_held h))) r.2 ∙ ap (λ (n : ℕ). pick ks v ++ replicate {A = ℕ} (256 - n) 0) count;
         has = next;
         another = λ z. omega (arith, has, above, ap (penalty l) (z ∙ w), best_attains m ks l);
-        only = λ c h. h (pick ks v) (count, bits_pick ks v b.are_bits_lem) next;
+        only = λ c h. h (pick ks v) (count, bits_pick ks v b.are_bits) next;
       }
 
   pub runner_up-shown : (allowed : ℕ) (bits word : List ℕ) → (by_answer allowed bits word (answer m ks l allowed)).number ≡ 0

@@ -147,7 +147,7 @@ module _ (r m : ℕ) (named : List ℕ) where
 
 -- ---- surely right: the set is inside RM(r,m), so that the sum is compared with the full code's distance
 pub left_inside : (r m : ℕ) (named : List ℕ) → Inside r m (left_of named (rm r m))
-left_inside r m named = record { long = long_left named (rm r m); are_bits_lem = are_left named (rm r m); frozen = left_frozen named (kinds r m) }
+left_inside r m named = record { long = long_left named (rm r m); are_bits = are_left named (rm r m); frozen = left_frozen named (kinds r m) }
 
 pub left_surely_right : (M r m : ℕ) (named : List ℕ) (l : List ℤ) (c : List ℕ) → r ≤ m → (w : Word m (left_of named (rm r m)) c) → Sure M r m l c
     → SurelyRight M r m (left_of named (rm r m)) l c w.bits

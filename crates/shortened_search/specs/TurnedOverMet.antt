@@ -68,7 +68,7 @@ module _ (r m : ℕ) (named : List ℕ) (g : GoodRow named (kinds r m)) (last : 
         let best : Word m ks (best_word m (kinds r m) l) = subst (Word m ks) (ap (λ (o : Outcome). o.word) plain ∙ found.2) w in
         let b = best_bits_are m ks negated in
         let more = wrong_sign r m ks l x.entries.long inside.long inside.frozen best (λ v. last ((all_ones-left r m named).0 v))
-        (encoded m ks (best_bits m ks negated)) (record { bits = best_bits m ks negated; long = b.0; are_bits_lem = b.1; gives = refl }) in
+        (encoded m ks (best_bits m ks negated)) (record { bits = best_bits m ks negated; long = b.0; are_bits = b.1; gives = refl }) in
         omega (
           arith,
           more,

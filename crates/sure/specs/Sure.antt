@@ -38,7 +38,7 @@ pub record Sure (M r m : ℕ) (l : List ℤ) (c : List ℕ) : Type 0 where
 -- a row of kinds that is 0 wherever RM(r,m)'s is
 pub record Inside (r m : ℕ) (ks : List ℕ) : Type 0 where
   pub long : length ks ≡ 2 ^ m
-  pub are_bits_lem : Bits ks
+  pub are_bits : Bits ks
   pub frozen : Frozen (kinds r m) ks
 
 -- what follows for a word c of such a set, with its information bits

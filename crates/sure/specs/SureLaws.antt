@@ -56,7 +56,7 @@ module _ (r m : ℕ) (ks : List ℕ) (inside : Inside r m ks) (c : List ℕ) (w 
       (λ i z. word_frozen m ks c e w i (inside.frozen i z))
 
   bits_are : pick ks (transform m c) ≡ w.bits
-  bits_are = ap (pick ks) (word_row m ks c inside.long w) ∙ pick-fill ks w.bits inside.are_bits_lem w.long
+  bits_are = ap (pick ks) (word_row m ks c inside.long w) ∙ pick-fill ks w.bits inside.are_bits w.long
 
 -- ---- a word of it that has the property
 module _ (M r m : ℕ) (ks : List ℕ) (l : List ℤ) (c : List ℕ) (h : r ≤ m) (inside : Inside r m ks) (w : Word m ks c) (s : Sure M r m l c) where
@@ -69,7 +69,7 @@ module _ (M r m : ℕ) (ks : List ℕ) (l : List ℤ) (c : List ℕ) (h : r ≤ 
       let frozen : FrozenBelow (suc r) m ks = λ i k o. inside.frozen i (kinds_at r m i k ∙ kind_frozen r m i (omega arith)) in
       let clear : Clear M (2 ^ (suc m - suc r)) l (transform m u) =
       rw (suc-sub-suc m r, w.gives) (sure_clear M r m l c (word-length m ks c inside.long w) s) in
-      quick_right (suc r) m M ks u l s.long (length-fill ks w.bits ∙ inside.long) (bits_fill ks w.bits w.are_bits_lem) s.within
+      quick_right (suc r) m M ks u l s.long (length-fill ks w.bits ∙ inside.long) (bits_fill ks w.bits w.are_bits) s.within
       frozen (frozen_fill ks w.bits) (λ i. clear)
       ∙ w.gives
 
@@ -77,12 +77,12 @@ module _ (M r m : ℕ) (ks : List ℕ) (l : List ℤ) (c : List ℕ) (h : r ≤ 
   bits_only : (b : List ℕ) → InformationBits ks b → penalty_of m ks l b ≤ penalty l c → b ≡ w.bits
   bits_only b i k =
       let x = encoded m ks b in
-      let v : Word m ks x = record { bits = b; long = i.0; are_bits_lem = i.1; gives = refl } in
+      let v : Word m ks x = record { bits = b; long = i.0; are_bits = i.1; gives = refl } in
       let same : c ≡ x = no_other M r m l h c x in_code (inside_word r m ks inside x v) s k in
       sym (bits_are r m ks inside x v) ∙ ap (λ (y : List ℕ). pick ks (transform m y)) (sym same) ∙ bits_are r m ks inside c w
 
   least_most : least_penalty m ks l ≤ penalty l c
-  least_most = rw w.gives at (none_less m ks l w.bits (w.long, w.are_bits_lem))
+  least_most = rw w.gives at (none_less m ks l w.bits (w.long, w.are_bits))
 
   best_bits-is : best_bits m ks l ≡ w.bits
   best_bits-is = bits_only (best_bits m ks l) (best_bits_are m ks l) (rw (best_attains m ks l) least_most)
@@ -114,7 +114,7 @@ module _ (M r m : ℕ) (ks : List ℕ) (l : List ℤ) (c : List ℕ) (h : r ≤ 
         least_penalty_lem = least-is;
         gap_above = gap_is_above;
         answered = λ information allowed t.
-            answer-found m ks l allowed (le_trans (needed_most m ks l inside.are_bits_lem) t) (gap_is_above information)
+            answer-found m ks l allowed (le_trans (needed_most m ks l inside.are_bits) t) (gap_is_above information)
             ∙ rw (best_bits-is, best_is, least-is);
       }
 
@@ -122,13 +122,13 @@ module _ (M r m : ℕ) (ks : List ℕ) (l : List ℤ) (c : List ℕ) (h : r ≤ 
 pub quick_sure : (M r m : ℕ) (ks : List ℕ) (l : List ℤ) → r ≤ m → Inside r m ks → Sure M r m l (quick_word m ks l)
     → SurelyRight M r m ks l (quick_word m ks l) (quick_bits m ks l)
 quick_sure M r m ks l h inside s =
-    let w = quick-word m ks l inside.long inside.are_bits_lem in
+    let w = quick-word m ks l inside.long inside.are_bits in
     let right = surely-right M r m ks l (quick_word m ks l) h inside w s in
     subst (SurelyRight M r m ks l (quick_word m ks l)) (sym right.quick_bits_lem) right
 
 -- for RM(r,m) itself, which always has a second word
 pub inside_code : (r m : ℕ) → Inside r m (kinds r m)
-inside_code r m = record { long = length-kinds r m; are_bits_lem = bits_kinds r m; frozen = λ i z. z }
+inside_code r m = record { long = length-kinds r m; are_bits = bits_kinds r m; frozen = λ i z. z }
 
 module _ (M r m : ℕ) (l : List ℤ) (c : List ℕ) (h : r ≤ m) (w : Word m (kinds r m) c) (s : Sure M r m l c) where
   pub surely_right_code : SurelyRight M r m (kinds r m) l c w.bits

@@ -55,7 +55,7 @@ module _ (r m : ℕ) (ks : List ℕ) (h : r ≤ m) (inside : Inside r m ks) wher
 
     pub passes_exactly : (passes r m ks l ≡ true) ↔ SomeSure r m ks l
     passes_exactly = (
-      λ e. record { M = largest l; word = quick_word m ks l; is_word = quick-word m ks l inside.long inside.are_bits_lem; sure = passes_sure e },
+      λ e. record { M = largest l; word = quick_word m ks l; is_word = quick-word m ks l inside.long inside.are_bits; sure = passes_sure e },
       sure_passes,
     )
 
@@ -71,13 +71,13 @@ module _ (r m : ℕ) (ks : List ℕ) (h : r ≤ m) (inside : Inside r m ks) wher
     added : Word m ks (xors (quick_word m ks l) c)
     added =
         let b = quick_bits m ks l in
-        let e = length-quick_bits m ks l inside.long inside.are_bits_lem in
+        let e = length-quick_bits m ks l inside.long inside.are_bits in
         record {
           bits = xors b w.bits;
           long = length-xors b w.bits (e ∙ sym w.long) ∙ e;
-          are_bits_lem = bits_xors b w.bits;
+          are_bits = bits_xors b w.bits;
           gives = encoded-xors m ks b w.bits inside.long (e ∙ sym w.long)
-              ∙ ap₂ xors (encoded_quick m ks l inside.long inside.are_bits_lem) w.gives;
+              ∙ ap₂ xors (encoded_quick m ks l inside.long inside.are_bits) w.gives;
         }
 
     module _ (e : passes r m ks l ≡ true) where

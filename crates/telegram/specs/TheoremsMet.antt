@@ -67,7 +67,7 @@ marker_alone = replicate 15 0 ++ 1 ∷ []
 ones-word : Word 5 (kinds 2 5) (all_ones 5)
 unfolding kinds kind ones digit tabulate transform
 ones-word =
-    record { bits = marker_alone; long = sym sum_25; are_bits_lem = bits_more (replicate 15 0) 1 (bits_zeros 15) (omega arith); gives = refl }
+    record { bits = marker_alone; long = sym sum_25; are_bits = bits_more (replicate 15 0) 1 (bits_zeros 15) (omega arith); gives = refl }
 
 -- ---- the writer
 written_good : (x : Tested) (t : Telegram) (word : List ℕ) → (written_if x t word).carry.number ≡ 0 → x ≡ Good

@@ -33,6 +33,6 @@ module _ (m : ℕ) where
         | no f ↦ zero_but_last i f
       ] in
       let b = below-ones m in
-      let zeros = below-zero m (all_ones m) (record { long = b.long; are_bits_lem = b.are_bits_lem; frozen = λ i h k. all-zero i }) in
+      let zeros = below-zero m (all_ones m) (record { long = b.long; are_bits = b.are_bits; frozen = λ i h k. all-zero i }) in
       let some = pow_pos m in
       omega (arith, ap (λ (l : List ℕ). get_or l 0 0) zeros, get_or-replicate {A = ℕ} (2 ^ m) 0 1 0 some, get_or-replicate {A = ℕ} (2 ^ m) 0 0 0 some)

@@ -72,10 +72,10 @@ module _ (d m : ℕ) (x : List ℕ) (b : Below d (suc m) x) where
   halves_equal : xors (take (2 ^ m) x) (drop (2 ^ m) x) ≡ replicate (2 ^ m) 0 → take (2 ^ m) x ≡ drop (2 ^ m) x
   halves_equal =
       alike (2 ^ m) (take (2 ^ m) x) (drop (2 ^ m) x) (length-first m x b.long) (length-second m x b.long)
-      (bits_take (2 ^ m) x b.are_bits_lem) (bits_drop (2 ^ m) x b.are_bits_lem)
+      (bits_take (2 ^ m) x b.are_bits) (bits_drop (2 ^ m) x b.are_bits)
 
 heavy : (r m : ℕ) (x : List ℕ) → Below (suc r) m x → Heavy r m x
-heavy r zero x b = heavy_one r x b.long b.are_bits_lem
+heavy r zero x b = heavy_one r x b.long b.are_bits
 heavy zero (suc m) x b =
     heavy_twice 0 m x (halves_equal 1 m x b (below-zero m _ (below-first 1 m x b))) (heavy 0 m (drop (2 ^ m) x) (below-second 1 m x b))
 heavy (suc r) (suc m) x b =
@@ -138,7 +138,7 @@ below-lightest (suc r) (suc m) h =
     let zeros : List ℕ = replicate (2 ^ m) 0 in
     let g : Below (suc r) m a = below-lightest r m (omega arith) in
     let e : suc r ≡ suc (suc r) - 1 = omega arith in
-    subst (λ (l : List ℕ). Below (suc (suc r)) (suc m) (l ++ zeros)) (xors-zeros (2 ^ m) a g.long g.are_bits_lem)
+    subst (λ (l : List ℕ). Below (suc (suc r)) (suc m) (l ++ zeros)) (xors-zeros (2 ^ m) a g.long g.are_bits)
     (below_joined (suc (suc r)) m a zeros (subst (λ (d : ℕ). Below d m a) e g) (below-zeros (suc (suc r)) m))
 
 pub lightest-word : (r m : ℕ) → r ≤ m → Word m (kinds r m) (lightest r m)
@@ -148,5 +148,5 @@ lightest-word r m h = below_word r m (lightest r m) (below-lightest r m h)
 pub distance_attained : (r m : ℕ) → r ≤ m → distance (lightest r m) (replicate (2 ^ m) 0) ≡ 2 ^ (m - r)
 distance_attained r m h =
     let b = below-lightest r m h in
-    distance-weight (lightest r m) (replicate (2 ^ m) 0) b.are_bits_lem (bits_zeros (2 ^ m))
-    ∙ ap weight (xors-zeros (2 ^ m) (lightest r m) b.long b.are_bits_lem) ∙ weight-lightest r m h
+    distance-weight (lightest r m) (replicate (2 ^ m) 0) b.are_bits (bits_zeros (2 ^ m))
+    ∙ ap weight (xors-zeros (2 ^ m) (lightest r m) b.long b.are_bits) ∙ weight-lightest r m h

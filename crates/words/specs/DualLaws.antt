@@ -89,14 +89,14 @@ below_dual (suc m) (suc d) (suc e) x y h v w =
     let sy = below-first (suc e) m y w in
     let w2 = below-second (suc e) m y w in
     let w1 : Below (suc e) m y1 =
-    subst (Below (suc e) m) (xors-twice y1 y2 (ly1 ∙ sym ly2) (bits_take n y w.are_bits_lem))
+    subst (Below (suc e) m) (xors-twice y1 y2 (ly1 ∙ sym ly2) (bits_take n y w.are_bits))
     (below-xors (suc e) m (xors y1 y2) y2 (below_more (suc e - 1) (suc e) m (xors y1 y2) (omega arith) sy) w2) in
     let cut : common_ones x y ≡ common_ones x1 y1 + common_ones x2 y2 =
     ap₂ common_ones (sym (take-append-drop n x)) (sym (take-append-drop n y)) ∙ common-append x1 x2 y1 y2 (lx1 ∙ sym ly1) in
     omega (
       arith,
       cut,
-      common-crossed x1 x2 y1 y2 (lx1 ∙ sym lx2) (lx1 ∙ sym ly1) (lx1 ∙ sym ly2) (bits_take n x v.are_bits_lem) (bits_drop n x v.are_bits_lem),
+      common-crossed x1 x2 y1 y2 (lx1 ∙ sym lx2) (lx1 ∙ sym ly1) (lx1 ∙ sym ly2) (bits_take n x v.are_bits) (bits_drop n x v.are_bits),
       below_dual m (suc d - 1) (suc e) (xors x1 x2) y1 (omega arith) sx w1,
       below_dual m (suc d) (suc e - 1) x2 (xors y1 y2) (omega arith) (below-second (suc d) m x v) sy,
     )
@@ -119,10 +119,10 @@ even_below zero d e (a ∷ p ∷ x) h l b f = absurd (omega arith)
 even_below zero d e (a ∷ []) h l b f =
     record {
       long = l;
-      are_bits_lem = b;
+      are_bits = b;
       frozen = λ i k few.
           let one : Below e 0 (1 ∷ []) =
-          record { long = refl; are_bits_lem = bits_more [] 1 (λ j. omega arith) (omega arith); frozen = λ j n z. absurd (omega arith) } in
+          record { long = refl; are_bits = bits_more [] 1 (λ j. omega arith) (omega arith); frozen = λ j n z. absurd (omega arith) } in
           let first : i ≡ 0 = omega arith in
           ap (λ (j : ℕ). get_or (a ∷ []) j 0) first ∙ omega (arith, f (1 ∷ []) one, b 0);
     }
@@ -141,13 +141,13 @@ even_below (suc m) d e x h l b f =
     even_below m d (e - 1) x1 (omega arith) l1 b1
     (λ a w.
     let whole : Below e (suc m) (a ++ zeros) =
-    subst (λ (z : List ℕ). Below e (suc m) (z ++ zeros)) (xors-zeros n a w.long w.are_bits_lem) (below_joined e m a zeros w (below-zeros e m)) in
+    subst (λ (z : List ℕ). Below e (suc m) (z ++ zeros)) (xors-zeros n a w.long w.are_bits) (below_joined e m a zeros w (below-zeros e m)) in
     omega (arith, f (a ++ zeros) whole, cut a zeros w.long, common_swapped x2 zeros, common-zeros n x2)) in
     let sum : Below (d - 1) m (xors x1 x2) =
     even_below m (d - 1) e (xors x1 x2) (omega arith) (length-xors x1 x2 (l1 ∙ sym l2) ∙ l1) (bits_xors x1 x2)
     (λ c w.
     let whole : Below e (suc m) (c ++ c) =
-    subst (λ (z : List ℕ). Below e (suc m) (z ++ c)) (xors_comm zeros c ∙ xors-zeros n c w.long w.are_bits_lem)
+    subst (λ (z : List ℕ). Below e (suc m) (z ++ c)) (xors_comm zeros c ∙ xors-zeros n c w.long w.are_bits)
     (below_joined e m zeros c (below-zeros (e - 1) m) w) in
     omega (arith, f (c ++ c) whole, cut c c w.long, common_added x1 x2 c (l1 ∙ sym l2) (l1 ∙ sym w.long) b1 b2)) in
     let second : Below d m x2 =

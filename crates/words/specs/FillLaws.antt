@@ -1,6 +1,6 @@
 -- Laws of information bits and the rows they fill, for every row of kinds: there and back, linear, and that all bits fill all rows.
 use Rattle.std.specs.Prelude.{◌≡◌, refl, List, [], ◌∷◌, ◌++◌, map, ℕ, zero, suc, ◌+◌, ◌^◌, ◌%◌, ◌<◌, length, replicate}
-use Rattle.std.proofs.Common.{ap, ap₂, sym, subst, ◌∙◌, ⊎_elim, arith, suc-ne-zero, zero-add, length-append}
+use Rattle.std.proofs.Common.{get_or, ap, ap₂, sym, subst, ◌∙◌, ⊎_elim, arith, suc-ne-zero, zero-add, length-append}
 use mathlib.Core.List.Memᴰ
 use Rattle.std.proofs.lemmas.Simd.{map-map}
 use Rattle.std.proofs.lemmas.List.{map-append, length-map}
@@ -106,7 +106,7 @@ abbrev RowOf : ℕ → List ℕ → Type 0
 RowOf k b = (length b ≡ k) × Bits b
 
 row_more : (k a : ℕ) (b : List ℕ) → a < 2 → RowOf k b → RowOf (suc k) (a ∷ b)
-row_more k a b h r = (ap suc r.0, λ i. elim i [ zero ↦ h | suc i ↦ r.1 i ])
+row_more k a b h r = (ap suc r.0, λ i. elim i as (λ j. get_or (a ∷ b) j 0 < 2) [ zero ↦ h | suc i ↦ r.1 i ])
 
 row_mapped : (k a : ℕ) (b : List ℕ) (l : List (List ℕ)) → a < 2 → ((u : List ℕ) → Memᴰ u l → RowOf k u)
     → Memᴰ b (map (λ u. a ∷ u) l) → RowOf (suc k) b

@@ -18,7 +18,7 @@ use Rattle.words.specs.InverseLaws.{word-length, word_bits, word_frozen, frozen_
 
 pub record Below (d m : ℕ) (x : List ℕ) : Type 0 where
   pub long : length x ≡ 2 ^ m
-  pub are_bits_lem : Bits x
+  pub are_bits : Bits x
   pub frozen : (i : ℕ) → i < 2 ^ m → ones m i + d ≤ m → get_or (transform m x) i 0 ≡ 0
 
 -- ---- the words of RM(r,m)
@@ -27,13 +27,13 @@ word_below r m x w =
     let e = length-kinds r m in
     record {
       long = word-length m (kinds r m) x e w;
-      are_bits_lem = word_bits m (kinds r m) x e w;
+      are_bits = word_bits m (kinds r m) x e w;
       frozen = λ i h k. word_frozen m (kinds r m) x e w i (kinds_at r m i h ∙ kind_frozen r m i (omega arith));
     }
 
 pub below_word : (r m : ℕ) (x : List ℕ) → Below (suc r) m x → Word m (kinds r m) x
 below_word r m x b =
-    frozen_word m (kinds r m) x (length-kinds r m) (bits_kinds r m) b.long b.are_bits_lem
+    frozen_word m (kinds r m) x (length-kinds r m) (bits_kinds r m) b.long b.are_bits
     (λ i z.
     ⊎_elim
     (λ h.
@@ -54,14 +54,14 @@ below-xors d m x y a b =
     let l : length x ≡ length y = a.long ∙ sym b.long in
     record {
       long = length-xors x y l ∙ a.long;
-      are_bits_lem = bits_xors x y;
+      are_bits = bits_xors x y;
       frozen = λ i h k.
           let same : length (transform m x) ≡ length (transform m y) = length-transform m x a.long ∙ sym (length-transform m y b.long) in
           rw (transform-xors m x y a.long b.long, get_or-xors (transform m x) (transform m y) i same, a.frozen i h k, b.frozen i h k);
     }
 
 pub below_more : (d e m : ℕ) (x : List ℕ) → d ≤ e → Below d m x → Below e m x
-below_more d e m x h b = record { long = b.long; are_bits_lem = b.are_bits_lem; frozen = λ i k l. b.frozen i k (omega arith) }
+below_more d e m x h b = record { long = b.long; are_bits = b.are_bits; frozen = λ i k l. b.frozen i k (omega arith) }
 
 -- RM(r,m) is contained in RM(s,m) for r ≤ s
 pub word_nested : (r s m : ℕ) (x : List ℕ) → r ≤ s → Word m (kinds r m) x → Word m (kinds s m) x
@@ -94,7 +94,7 @@ below-first d m x b =
     let a = length-first m x e in
     record {
       long = length-xors (take (2 ^ m) x) (drop (2 ^ m) x) (a ∙ sym (length-second m x e)) ∙ a;
-      are_bits_lem = bits_xors (take (2 ^ m) x) (drop (2 ^ m) x);
+      are_bits = bits_xors (take (2 ^ m) x) (drop (2 ^ m) x);
       frozen = λ i h k.
           sym (first-row m x e i h) ∙ b.frozen i (omega (arith, two-pow-succ m)) (omega (arith, ones-first m i h, ones_most m i));
     }
@@ -102,7 +102,7 @@ below-first d m x b =
 pub below-second : (d m : ℕ) (x : List ℕ) → Below d (suc m) x → Below d m (drop (2 ^ m) x)
 below-second d m x b = record {
   long = length-second m x b.long;
-  are_bits_lem = bits_drop (2 ^ m) x b.are_bits_lem;
+  are_bits = bits_drop (2 ^ m) x b.are_bits;
   frozen = λ i h k.
       sym (second-row m x b.long i) ∙ b.frozen (2 ^ m + i) (omega (arith, two-pow-succ m)) (omega (arith, ones-second m i h));
 }
@@ -111,7 +111,7 @@ below_halves : (d m : ℕ) (x : List ℕ) → length x ≡ 2 ^ suc m → Bits x
     → Below (d - 1) m (xors (take (2 ^ m) x) (drop (2 ^ m) x)) → Below d m (drop (2 ^ m) x) → Below d (suc m) x
 below_halves d m x e h s b = record {
   long = e;
-  are_bits_lem = h;
+  are_bits = h;
   frozen = by_halves_lem (λ (i : ℕ). ones (suc m) i + d ≤ suc m → get_or (transform (suc m) x) i 0 ≡ 0) m
       (λ i l k. first-row m x e i l ∙ s.frozen i l (omega (arith, ones-first m i l, ones_most m i)))
       (λ i l k. second-row m x e i ∙ b.frozen i l (omega (arith, ones-second m i l)));
@@ -124,8 +124,8 @@ below_joined d m a b g h =
     let l : length (xors a b) ≡ 2 ^ m = length-xors a b e ∙ g.long in
     below_halves d m (xors a b ++ b)
     (length-append (xors a b) b ∙ omega (arith, l, h.long, two-pow-succ m))
-    (bits_append (xors a b) b (bits_xors a b) h.are_bits_lem)
-    (rw (take_at (xors a b) b (2 ^ m) l, drop_at (xors a b) b (2 ^ m) l, xors-twice a b e g.are_bits_lem) g)
+    (bits_append (xors a b) b (bits_xors a b) h.are_bits)
+    (rw (take_at (xors a b) b (2 ^ m) l, drop_at (xors a b) b (2 ^ m) l, xors-twice a b e g.are_bits) g)
     (rw (drop_at (xors a b) b (2 ^ m) l) h)
 
 -- the code for d = 0
@@ -135,24 +135,24 @@ below-zero m x b =
     let zeros : transform m x ≡ replicate (2 ^ m) 0 =
     ext_get_or 0 (transform m x) (replicate (2 ^ m) 0) (l ∙ sym (length-replicate (2 ^ m) 0))
     (λ i h. let k : i < 2 ^ m = omega arith in b.frozen i k (omega (arith, ones_most m i)) ∙ sym (get_or-replicate (2 ^ m) i 0 0 k)) in
-    sym (transform-twice m x b.long b.are_bits_lem) ∙ ap (transform m) zeros ∙ transform-zeros m
+    sym (transform-twice m x b.long b.are_bits) ∙ ap (transform m) zeros ∙ transform-zeros m
 
 -- ---- the zero row, and the row of ones
 pub below-zeros : (d m : ℕ) → Below d m (replicate (2 ^ m) 0)
 below-zeros d m = record {
   long = length-replicate (2 ^ m) 0;
-  are_bits_lem = bits_zeros (2 ^ m);
+  are_bits = bits_zeros (2 ^ m);
   frozen = λ i h k. ap (λ (u : List ℕ). get_or u i 0) (transform-zeros m) ∙ get_or-replicate (2 ^ m) i 0 0 h;
 }
 
 pub below-ones : (m : ℕ) → Below 1 m (all_ones m)
 unfolding ones
-below-ones zero = record { long = refl; are_bits_lem = bits_more [] 1 (λ i. omega arith) (omega arith); frozen = λ i k l. absurd (omega arith) }
+below-ones zero = record { long = refl; are_bits = bits_more [] 1 (λ i. omega arith) (omega arith); frozen = λ i k l. absurd (omega arith) }
 below-ones (suc m) =
     let full : List ℕ = all_ones m in
     let g = below-ones m in
     let twice : xors (replicate (2 ^ m) 0) full ++ full ≡ all_ones (suc m) =
-    ap (λ (l : List ℕ). l ++ full) (xors_comm (replicate (2 ^ m) 0) full ∙ xors-zeros (2 ^ m) full g.long g.are_bits_lem)
+    ap (λ (l : List ℕ). l ++ full) (xors_comm (replicate (2 ^ m) 0) full ∙ xors-zeros (2 ^ m) full g.long g.are_bits)
     ∙ replicate-append-replicate (2 ^ m) (2 ^ m) 1 ∙ ap (λ (n : ℕ). replicate n 1) (sym (two-pow-succ m)) in
     subst (Below 1 (suc m)) twice (below_joined 1 m (replicate (2 ^ m) 0) full (below-zeros 0 m) g)
 

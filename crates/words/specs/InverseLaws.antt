@@ -2,7 +2,7 @@
 -- Words are the rows whose transform is 0 at every frozen index; sums of words are words.
 use Rattle.std.proofs.Math.Path.{◌≡◌, subst}
 use Rattle.std.specs.Prelude.{refl, ◌⊎◌, ℕ, zero, suc, ◌^◌, ◌≤◌, ◌<◌, length, replicate}
-use Rattle.std.proofs.Common.{ap, ap₂, sym, ◌∙◌, inl, inr, suc-le-suc, arith, suc-ne-zero, le_of_suc-le-suc, not-suc-le-zero, zero-lt-suc, lt-ltb, le-ltb}
+use Rattle.std.proofs.Common.{get_or, ap, ap₂, sym, ◌∙◌, inl, inr, suc-le-suc, arith, suc-ne-zero, le_of_suc-le-suc, not-suc-le-zero, zero-lt-suc, lt-ltb, le-ltb}
 use Rattle.std.proofs.Math.Logic.{⊎_elim}
 use mathlib.Core.List.{List, [], ◌∷◌}
 use Rattle.std.proofs.Math.Nat.{suc_inj, le_antisymm}
@@ -27,14 +27,15 @@ abbrev Found : List ℕ → List ℕ → ℕ → Type 0
 Found ks u n = ((n ≡ length ks) × Frozen ks u) ⊎ LowestFrozenOne ks u n
 
 found-more : (k a n : ℕ) (ks u : List ℕ) → (k ≡ 0 → a ≡ 0) → Found ks u n → Found (k ∷ ks) (a ∷ u) (suc n)
-found-more k a n ks u z (inl f) = inl (ap suc f.0, λ i. elim i [ zero ↦ z | suc i ↦ f.1 i ])
+found-more k a n ks u z (inl f) = inl (ap suc f.0, λ i. elim i as (λ j. get_or (k ∷ ks) j 0 ≡ 0 → get_or (a ∷ u) j 0 ≡ 0) [ zero ↦ z | suc i ↦ f.1 i ])
 found-more k a n ks u z (inr l) =
     inr
     record {
       below = suc-le-suc l.below;
       frozen = l.frozen;
       one = l.one;
-      lowest = λ j. elim j [ zero ↦ λ h. z | suc j ↦ λ h. l.lowest j (le_of_suc-le-suc h) ];
+      lowest = λ j. elim j as (λ i. i < suc n → get_or (k ∷ ks) i 0 ≡ 0 → get_or (a ∷ u) i 0 ≡ 0)
+          [ zero ↦ λ h. z | suc j ↦ λ h. l.lowest j (le_of_suc-le-suc h) ];
     }
 
 found : (ks u : List ℕ) → length u ≡ length ks → Bits u → Found ks u (first_frozen_one ks u)
@@ -54,13 +55,13 @@ module _ (m : ℕ) (ks x : List ℕ) (e : length ks ≡ 2 ^ m) where
   word-length w = subst (λ (y : List ℕ). length y ≡ 2 ^ m) w.gives (length-transform m (fill ks w.bits) (length-fill ks w.bits ∙ e))
 
   pub word_bits : Word m ks x → Bits x
-  word_bits w = subst Bits w.gives (bits_transform m (fill ks w.bits) (bits_fill ks w.bits w.are_bits_lem))
+  word_bits w = subst Bits w.gives (bits_transform m (fill ks w.bits) (bits_fill ks w.bits w.are_bits))
 
   -- the row that a word comes from
   pub word_row : (w : Word m ks x) → transform m x ≡ fill ks w.bits
   word_row w =
       ap (transform m) (sym w.gives)
-      ∙ transform-twice m (fill ks w.bits) (length-fill ks w.bits ∙ e) (bits_fill ks w.bits w.are_bits_lem)
+      ∙ transform-twice m (fill ks w.bits) (length-fill ks w.bits ∙ e) (bits_fill ks w.bits w.are_bits)
 
   pub word_frozen : Word m ks x → Frozen ks (transform m x)
   word_frozen w = subst (Frozen ks) (sym (word_row w)) (frozen_fill ks w.bits)
@@ -72,7 +73,7 @@ module _ (m : ℕ) (ks x : List ℕ) (e : length ks ≡ 2 ^ m) where
       record {
         bits = pick ks u;
         long = length-pick ks u h l;
-        are_bits_lem = bits_pick ks u (bits_transform m x b);
+        are_bits = bits_pick ks u (bits_transform m x b);
         gives = ap (transform m) (fill-pick ks u z l) ∙ transform-twice m x f b;
       }
 
@@ -131,7 +132,7 @@ module _ (m : ℕ) (ks x : List ℕ) (e : length ks ≡ 2 ^ m) (h : Bits ks) (f 
       (λ r.
       let w = frozen_word m ks x e h f b r.1 in
       let same : pick ks (transform m x) ≡ c = cc (taken_frozen r.1) in
-      subst (λ (d : List ℕ). (length d ≡ sum ks) × Bits d × (encoded m ks d ≡ x)) same (w.long, w.are_bits_lem, w.gives))
+      subst (λ (d : List ℕ). (length d ≡ sum ks) × Bits d × (encoded m ks d ≡ x)) same (w.long, w.are_bits, w.gives))
       (λ k. let z : ◌≡◌ {A = ℕ} 0 1 = cc (refused_lowest (first_frozen_one ks (transform m x)) k) in absurd (omega arith))
       at_row
 
@@ -143,7 +144,7 @@ word_taken m ks x e h w =
 
 -- there and back
 pub taken_encoded : (m : ℕ) (ks b : List ℕ) → length ks ≡ 2 ^ m → Bits ks → length b ≡ sum ks → Bits b → taken_back m ks (encoded m ks b) ≡ taken b
-taken_encoded m ks b e h l c = word_taken m ks (encoded m ks b) e h (record { bits = b; long = l; are_bits_lem = c; gives = refl })
+taken_encoded m ks b e h l c = word_taken m ks (encoded m ks b) e h (record { bits = b; long = l; are_bits = c; gives = refl })
 
 -- ---- words form a linear code
 pub encoded-xors : (m : ℕ) (ks a b : List ℕ) → length ks ≡ 2 ^ m → length a ≡ length b → encoded m ks (xors a b) ≡ xors (encoded m ks a) (encoded m ks b)
@@ -157,7 +158,7 @@ word-xors m ks x y e v w =
     record {
       bits = xors a b;
       long = length-xors a b l ∙ v.long;
-      are_bits_lem = bits_xors a b;
+      are_bits = bits_xors a b;
       gives = encoded-xors m ks a b e l ∙ ap₂ xors v.gives w.gives;
     }
 
@@ -165,6 +166,6 @@ pub word-zeros : (m : ℕ) (ks : List ℕ) → length ks ≡ 2 ^ m → Word m ks
 word-zeros m ks e = record {
   bits = replicate (sum ks) 0;
   long = length-replicate (sum ks) 0;
-  are_bits_lem = bits_zeros (sum ks);
+  are_bits = bits_zeros (sum ks);
   gives = ap (transform m) (fill-zeros ks (sum ks) ∙ ap (λ (n : ℕ). replicate n 0) e) ∙ transform-zeros m;
 }

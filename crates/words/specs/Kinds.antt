@@ -58,7 +58,7 @@ Frozen ks u = (i : ℕ) → get_or ks i 0 ≡ 0 → get_or u i 0 ≡ 0
 pub record Word (m : ℕ) (ks x : List ℕ) : Type 0 where
   pub bits : List ℕ
   pub long : length bits ≡ sum ks
-  pub are_bits_lem : Bits bits
+  pub are_bits : Bits bits
   pub gives : encoded m ks bits ≡ x
 
 -- the row of 2^m ones, a word of every RM(r,m)

@@ -39,7 +39,7 @@ module _ (m : ℕ) (a b : List ℕ) (e : length a ≡ 2 ^ m) (h : Bits a) where
             let v = (below_plotkin 1).0 (word_below 0 (suc m) (a ++ b) w) in
             let same : length a ≡ length b = e ∙ sym v.1.long in (
               sym (xors-twice a b same h) ∙ ap (λ (x : List ℕ). xors x b) (below-zero m (xors a b) v.0) ∙ xors_comm zeros b
-                  ∙ xors-zeros (2 ^ m) b v.1.long v.1.are_bits_lem,
+                  ∙ xors-zeros (2 ^ m) b v.1.long v.1.are_bits,
               below_word 0 m b v.1,
             ),
         λ w.

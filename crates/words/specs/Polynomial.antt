@@ -18,6 +18,6 @@ value_table m c = tabulate (λ j. total (λ i. get_or c i 0 * monomial m i j) (2
 pub record Polynomial (r m : ℕ) (x : List ℕ) : Type 0 where
   pub coefficients : List ℕ
   pub long : length coefficients ≡ 2 ^ m
-  pub are_bits_lem : Bits coefficients
+  pub are_bits : Bits coefficients
   pub degree : (i : ℕ) → r < ones m i → get_or coefficients i 0 ≡ 0
   pub table : value_table m coefficients ≡ x

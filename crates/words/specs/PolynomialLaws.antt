@@ -44,7 +44,7 @@ values_halves m c =
 record OfDegree (d m : ℕ) (x : List ℕ) : Type 0 where
   coefficients : List ℕ
   long : length coefficients ≡ 2 ^ m
-  are_bits_lem : Bits coefficients
+  are_bits : Bits coefficients
   degree : (i : ℕ) → i < 2 ^ m → d ≤ ones m i → get_or coefficients i 0 ≡ 0
   table_is : value_table m coefficients ≡ x
 
@@ -58,28 +58,28 @@ values_one (a ∷ b ∷ c) e h = absurd (omega arith)
 joined : (d m : ℕ) (a b : List ℕ) → Below d m a → Below (d - 1) m b → Below d (suc m) (a ++ xors a b)
 joined d m a b g h =
     let e : length b ≡ length a = h.long ∙ sym g.long in
-    subst (λ (l : List ℕ). Below d (suc m) (l ++ xors a b)) (ap (xors b) (xors_comm a b) ∙ xors_undo b a e g.are_bits_lem)
+    subst (λ (l : List ℕ). Below d (suc m) (l ++ xors a b)) (ap (xors b) (xors_comm a b) ∙ xors_undo b a e g.are_bits)
     (below_joined d m b (xors a b) h (below-xors d m a b g (below_more (d - 1) d m b (omega arith) h)))
 
 degree_below : (d m : ℕ) (x : List ℕ) → OfDegree d m x → Below d m x
 unfolding ones transform
 degree_below d zero x p =
-    subst (Below d 0) (sym (values_one p.coefficients p.long p.are_bits_lem) ∙ p.table_is)
-    (record { long = p.long; are_bits_lem = p.are_bits_lem; frozen = λ i h k. p.degree i h (omega arith) })
+    subst (Below d 0) (sym (values_one p.coefficients p.long p.are_bits) ∙ p.table_is)
+    (record { long = p.long; are_bits = p.are_bits; frozen = λ i h k. p.degree i h (omega arith) })
 degree_below d (suc m) x p =
     let c = p.coefficients in
     let n = 2 ^ m in
     let g = degree_below d m (value_table m (take n c)) (record {
       coefficients = take n c;
       long = length-first m c p.long;
-      are_bits_lem = bits_take n c p.are_bits_lem;
+      are_bits = bits_take n c p.are_bits;
       degree = λ i h k. get_or-take n c i 0 h ∙ p.degree i (omega (arith, two-pow-succ m)) (omega (arith, ones-first m i h));
       table_is = refl;
     }) in
     let h = degree_below (d - 1) m (value_table m (drop n c)) (record {
       coefficients = drop n c;
       long = length-second m c p.long;
-      are_bits_lem = bits_drop n c p.are_bits_lem;
+      are_bits = bits_drop n c p.are_bits;
       degree = λ i h k. get_or-drop n c i 0 ∙ p.degree (n + i) (omega (arith, two-pow-succ m)) (omega (arith, ones-second m i h));
       table_is = refl;
     }) in
@@ -91,9 +91,9 @@ unfolding ones transform
 below_degree d zero x b = record {
   coefficients = x;
   long = b.long;
-  are_bits_lem = b.are_bits_lem;
+  are_bits = b.are_bits;
   degree = λ i h k. b.frozen i h (omega arith);
-  table_is = values_one x b.long b.are_bits_lem;
+  table_is = values_one x b.long b.are_bits;
 }
 below_degree d (suc m) x b =
     let n = 2 ^ m in
@@ -104,7 +104,7 @@ below_degree d (suc m) x b =
     let hs = below-first d m x b in
     let h2 = below-second d m x b in
     let h1 : Below d m x1 =
-    subst (Below d m) (xors-twice x1 x2 e (bits_take n x b.are_bits_lem)) (below-xors d m s x2 (below_more (d - 1) d m s (omega arith) hs) h2) in
+    subst (Below d m) (xors-twice x1 x2 e (bits_take n x b.are_bits)) (below-xors d m s x2 (below_more (d - 1) d m s (omega arith) hs) h2) in
     let g = below_degree d m x1 h1 in
     let h = below_degree (d - 1) m s hs in
     let c1 = g.coefficients in
@@ -112,7 +112,7 @@ below_degree d (suc m) x b =
     record {
       coefficients = c1 ++ c2;
       long = length-append c1 c2 ∙ omega (arith, g.long, h.long, two-pow-succ m);
-      are_bits_lem = bits_append c1 c2 g.are_bits_lem h.are_bits_lem;
+      are_bits = bits_append c1 c2 g.are_bits h.are_bits;
       degree = by_halves_lem (λ (i : ℕ). d ≤ ones (suc m) i → get_or (c1 ++ c2) i 0 ≡ 0) m
           (λ i l k. get_or-first c1 c2 n g.long i 0 l ∙ g.degree i l (omega (arith, ones-first m i l)))
           (λ i l k. get_or-second c1 c2 n g.long i 0 ∙ h.degree i l (omega (arith, ones-second m i l)));
@@ -122,7 +122,7 @@ below_degree d (suc m) x b =
         drop_at c1 c2 n g.long,
         g.table_is,
         h.table_is,
-        xors_undo x1 x2 e h2.are_bits_lem,
+        xors_undo x1 x2 e h2.are_bits,
       )
           (take-append-drop n x);
     }
@@ -135,7 +135,7 @@ word_polynomial r m x w =
     record {
       coefficients = c;
       long = p.long;
-      are_bits_lem = p.are_bits_lem;
+      are_bits = p.are_bits;
       degree = λ i h.
           ⊎_elim (λ l. p.degree i l h) (λ l. get_or-eq_default c 0 {n = i} (omega (arith, p.long))) (lt_or_le i (2 ^ m));
       table = p.table_is;
@@ -145,4 +145,4 @@ pub polynomial_word : (r m : ℕ) (x : List ℕ) → Polynomial r m x → Word m
 polynomial_word r m x p =
     below_word r m x
     (degree_below (suc r) m x
-    (record { coefficients = p.coefficients; long = p.long; are_bits_lem = p.are_bits_lem; degree = λ i l h. p.degree i h; table_is = p.table }))
+    (record { coefficients = p.coefficients; long = p.long; are_bits = p.are_bits; degree = λ i l h. p.degree i h; table_is = p.table }))
