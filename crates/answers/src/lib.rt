@@ -1,5 +1,7 @@
 // What C gets of an answer: its values go into the numbers that C lends, in the order of the
 // header's structs, and its number is returned, which is 0 or a refusal's.
+#![tactic(auto)]
+
 ghost use Rattle.std.specs.Prelude.{◌≡◌, [], ◌∷◌};
 ghost use Rattle.code.specs.Sound.{carried, completed};
 ghost use Rattle.telegram.specs.Outcome as Tilt;

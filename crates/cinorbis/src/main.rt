@@ -1,5 +1,7 @@
 // The program: records in, lines out. Only here is the operating system called. What it is given,
 // and what is done with its answers, is decided by functions on slices.
+#![tactic(auto)]
+
 ghost use Rattle.std.specs.Prelude.{◌+◌, ◌-◌, ◌^◌, ◌≤◌, ◌<◌, length};
 ghost use Rattle.rounds.specs.Situation.{room, longest, Ready, Flushed, Refilled};
 ghost use Rattle.cinorbis.specs.Runs.{RoundTaken, Ran};

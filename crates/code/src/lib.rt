@@ -1,5 +1,7 @@
 // The code-parameter type: the limits, the tests on r and m, length, dimension and index kind;
 // the refusals and their numbers. This is the one place for all of them.
+#![tactic(auto)]
+
 ghost use Rattle.std.specs.Prelude.{◌≡◌, ◌≤◌, ◌<◌, ◌^◌, length, nat_abs, ltb};
 ghost use Rattle.numbers.specs.Parts.{up, down};
 ghost use Rattle.numbers.specs.Sums.{tabulate};
@@ -11,20 +13,20 @@ ghost use Rattle.code.specs.Entries.{some_bad_reading, first_bad_reading};
 ghost use Rattle.code.specs.Admitted.{admitted_by, admitted};
 
 // The parameters of RM(r,m).
-#[derive(Drop)]
+#[derive(Clone, Copy)]
 pub struct Code {
     pub r: u32,
     pub m: u32,
 }
 
-#[derive(Drop)]
+#[derive(Clone, Copy)]
 pub enum Made {
     Good(Code),
     Bad,
 }
 
 // Why a call refuses, in the order of the rules' table.
-#[derive(Drop)]
+#[derive(Clone, Copy)]
 pub enum Refusal {
     Parameters,
     InputLength,
@@ -48,7 +50,7 @@ pub enum Refusal {
 
 // What a refusal reports: the rules' number, and the place, penalty and visits that it carries, 0
 // for those that it does not carry.
-#[derive(Drop)]
+#[derive(Clone, Copy)]
 pub struct Shown {
     pub number: u32,
     pub place: usize,
@@ -57,14 +59,14 @@ pub struct Shown {
 }
 
 // The answer of a call that reports only a refusal.
-#[derive(Drop)]
+#[derive(Clone, Copy)]
 pub enum Completed {
     Done,
     Refused(Refusal),
 }
 
 // What the tests on readings leave.
-#[derive(Drop)]
+#[derive(Clone, Copy)]
 pub enum Admitted {
     Allowed(Code),
     Refused(Refusal),

@@ -1,5 +1,7 @@
 // The early answer (docs/RULES.md, §10): the quick reading's word if it is surely the best, else
 // the search's.
+#![tactic(auto)]
+
 ghost use Rattle.std.specs.Prelude.{◌≡◌, ◌^◌, ◌≤◌, ◌<◌, max, nat_abs, length};
 ghost use Rattle.decoding.specs.Readings.{loss};
 ghost use Rattle.sure.specs.Sure.{largest, doubt_at, doubt};
@@ -13,7 +15,7 @@ ghost use Rattle.early.specs.Work.{Testable, Summable};
 use code::{Admitted, Code, Refusal};
 use search::Searched;
 
-#[derive(Drop)]
+#[derive(Clone, Copy)]
 pub enum Answered {
     Best { penalty: u32 },
     Refused(Refusal),

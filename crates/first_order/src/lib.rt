@@ -1,6 +1,8 @@
 // First-order words (docs/RULES.md, §13), without a walk: up to sign, the entries of one
 // transform are the correlations of all words of RM(1,m), so the best two of them say what the
 // search would say.
+#![tactic(auto)]
+
 ghost use Rattle.std.specs.Prelude.{◌≡◌, ◌+◌, ◌-◌, ◌^◌, ◌≤◌, ◌<◌, max, nat_abs, length, take};
 ghost use Rattle.words.specs.Bits.{Bits};
 ghost use Rattle.decoding.specs.Readings.{sizes, Within};
@@ -17,7 +19,7 @@ use code::{Admitted, Refusal};
 use search::Searched;
 
 // The place of the largest size, whether the entry there is negative, that size and the next.
-#[derive(Drop)]
+#[derive(Clone, Copy)]
 pub struct Seen {
     pub place: usize,
     pub sign: u32,

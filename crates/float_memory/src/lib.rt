@@ -1,5 +1,7 @@
 // The crate memory in float arithmetic: the value at the next index of the path. The path's bits
 // are in path as there, and the rows of the blocks that lead to an index are floats.
+#![tactic(auto)]
+
 ghost use Rattle.std.specs.Prelude.{◌≡◌, ◌+◌, ◌^◌, ◌%◌, ◌≤◌, ◌<◌, length, take};
 ghost use Rattle.decoding.specs.Readings.{sizes, sum_limit};
 ghost use Rattle.decoding.specs.Walk.{value};

@@ -1,6 +1,8 @@
 // The crate rows in float arithmetic: the two combining steps, on one pair and over rows; what a
 // bit loses at a value. Sums of whole numbers below 2^24 are exact, so that each function gives
 // what its twin gives for the whole numbers that its floats are.
+#![tactic(auto)]
+
 ghost use Rattle.std.specs.Prelude.{◌≡◌, ◌+◌, ◌≤◌, ◌<◌, pos, nat_abs, length, take};
 ghost use Rattle.decoding.specs.Readings.{loss, sizes, sum_limit};
 ghost use Rattle.decoding.specs.Quick.{lower, upper, lower_row, upper_row};

@@ -1,5 +1,7 @@
 // The float board (docs/RULES.md, §16): the search of float readings, with an allowance and
 // without.
+#![tactic(auto)]
+
 ghost use Rattle.std.specs.Prelude.{◌≡◌, ◌^◌, length, take, replicate};
 ghost use Rattle.words.specs.Kinds.{kinds};
 ghost use Rattle.code.specs.Sound.{default_allowance};

@@ -2,6 +2,8 @@
 // held is passed by value: how many full paths, and two float penalties. What is counted
 // is in state, at the places 3 to 7 of the whole-number walk, whose functions change it; the
 // places 0 to 2 are not used here.
+#![tactic(auto)]
+
 ghost use Rattle.std.specs.Prelude.{◌≡◌, List, ℕ, ◌+◌, ◌^◌, ◌≤◌, ◌<◌, nat_abs, get_or, take, replicate};
 ghost use Rattle.decoding.specs.Readings.{loss, sum_limit};
 ghost use Rattle.decoding.specs.Quick.{hard};
@@ -11,7 +13,7 @@ ghost use Rattle.float_walk.specs.Held.{count, eight_of, Penalty, Counts, Extend
 ghost use Rattle.float_walk.specs.Held.{FloatAsked, FloatGiven};
 
 // The penalties of the full paths that are held; their rows of bits are in best and second.
-#[derive(Drop)]
+#[derive(Clone, Copy)]
 pub struct Penalties {
     // how many are held: none, the best, best and second
     pub held: u32,
@@ -20,7 +22,7 @@ pub struct Penalties {
 }
 
 // The result of an extension: it is dropped, or kept with its penalty.
-#[derive(Drop)]
+#[derive(Clone, Copy)]
 pub enum Extension {
     Dropped,
     Kept(f32),

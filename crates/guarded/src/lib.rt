@@ -1,6 +1,8 @@
 // Guarded words (docs/RULES.md, §17): the last information bit is a marker, 0, and the other k - 1
 // bits are a message. A link that is turned over sets the marker. Here is what the formats over
 // them share: their refusals and the number that bits say; in specs/ the guard and its theorems.
+#![tactic(auto)]
+
 ghost use Rattle.std.specs.Prelude.{◌≡◌, ◌≤◌, length};
 ghost use Rattle.words.specs.Bits.{Bits};
 ghost use Rattle.guarded.specs.Guard.{of_digits};
@@ -9,7 +11,7 @@ ghost use Rattle.guarded.specs.Faults.{fault_carries};
 use code::{Refusal, Shown};
 
 // Why a guarded word, or what it says, is refused.
-#[derive(Drop)]
+#[derive(Clone, Copy)]
 pub enum Fault {
     // by the search's tests, or the word's length
     Link(Refusal),
@@ -24,7 +26,7 @@ pub enum Fault {
 }
 
 // What a writer answers.
-#[derive(Drop)]
+#[derive(Clone, Copy)]
 pub enum Written {
     Done,
     Refused(Fault),

@@ -1,5 +1,7 @@
 // Maps of positions at work (docs/RULES.md, §12): the images of all positions, in one array of 256,
 // and columns of tables.
+#![tactic(auto)]
+
 ghost use Rattle.std.specs.Prelude.{◌≡◌, [], ◌+◌, ◌*◌, ◌^◌, ◌%◌, ◌/◌, ◌≤◌, ◌<◌, length, get_or, pos};
 ghost use Rattle.words.specs.Bits.{Bits};
 ghost use Rattle.code.specs.Sound.{largest_m};

@@ -1,5 +1,7 @@
 // The program's lines (docs/RULES.md, §8), written into a lent buffer from a given place. Each
 // function gives the place after what it wrote.
+#![tactic(auto)]
+
 ghost use Rattle.std.specs.Prelude.{◌≡◌, map, ◌++◌, ◌+◌, ◌≤◌, ◌<◌, length};
 ghost use Rattle.words.specs.Bits.{Bits};
 ghost use Rattle.lines.specs.Line.{digit_byte, decimal, Put};

@@ -1,6 +1,8 @@
 // The walk's memory: the value at the next index of the path. The path's bits are in path, and
 // one scratch array holds the rows of the blocks that lead to an index. The word of the block
 // before a row is made where the row needs it.
+#![tactic(auto)]
+
 ghost use Rattle.std.specs.Prelude.{◌≡◌, ◌+◌, ◌-◌, ◌^◌, ◌%◌, ◌≤◌, ◌<◌, max, length, take, drop};
 ghost use Rattle.numbers.specs.Lowest.{LowestOne};
 ghost use Rattle.words.specs.Bits.{Bits};

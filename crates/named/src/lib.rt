@@ -1,5 +1,7 @@
 // A row of n bytes that names information indices (docs/RULES.md, §15), 1 where named: its test,
 // and the kinds that it leaves.
+#![tactic(auto)]
+
 ghost use Rattle.std.specs.Prelude.{◌≡◌, ◌^◌, length};
 ghost use Rattle.numbers.specs.Sums.{sum};
 ghost use Rattle.words.specs.Kinds.{kinds};

@@ -1,5 +1,7 @@
 // Readings in packed bytes (docs/RULES.md, §7) and back: a field of 12 bits for each, two fields in
 // three bytes.
+#![tactic(auto)]
+
 ghost use Rattle.std.specs.Prelude.{◌≡◌, suc, ◌*◌, ◌/◌, ◌≤◌, ◌<◌, nat_abs, length};
 ghost use Rattle.numbers.specs.Front.{front};
 ghost use Rattle.decoding.specs.Readings.{Within};

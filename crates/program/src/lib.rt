@@ -1,5 +1,7 @@
 // The program's work on one record (docs/RULES.md, §8), on slices: it is searched, and its line is
 // written.
+#![tactic(auto)]
+
 ghost use Rattle.std.specs.Prelude.{◌≡◌, ◌||◌, ◌+◌, ◌^◌, ◌≤◌, ◌<◌, eqb, length};
 ghost use Rattle.words.specs.Bits.{Bits};
 ghost use Rattle.words.specs.Kinds.{dimension};
@@ -15,7 +17,7 @@ use search::Searched;
 const ALLOWANCE: u32 = 1000000;
 
 // What becomes of a record.
-#[derive(Drop)]
+#[derive(Clone, Copy)]
 pub struct Step {
     // the next record starts this many bytes further on
     pub taken: usize,

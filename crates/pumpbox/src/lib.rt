@@ -1,5 +1,7 @@
 // The C exports, one per public call: include/cinorbis.h says what each means.
 // A call returns 0 or its refusal's number.
+#![tactic(auto)]
+
 mod early_answers;
 mod first;
 mod floats;

@@ -1,4 +1,6 @@
 // Packed records (docs/RULES.md, §7): the reader, the writer, and the search of a record.
+#![tactic(auto)]
+
 ghost use Rattle.std.specs.Prelude.{◌≡◌, suc, ◌<◌, ◌≤◌, length};
 ghost use Rattle.decoding.specs.Readings.{Within};
 ghost use Rattle.code.specs.Sound.{Sound, largest_record_reading};
@@ -15,14 +17,14 @@ use code::{Admitted, Code, Made, Refusal};
 use search::WithRunnerUp;
 
 // What bytes begin with: a record of a code, or why not.
-#[derive(Drop)]
+#[derive(Clone, Copy)]
 pub enum Header {
     Record(Code),
     Refused(Refusal),
 }
 
 // What writing a record answers: the place after it, or why not.
-#[derive(Drop)]
+#[derive(Clone, Copy)]
 pub enum Written {
     Next(usize),
     Refused(Refusal),

@@ -1,5 +1,7 @@
 // Position orders (docs/RULES.md, §12): reordering by a map of positions, the map that undoes it,
 // and the product of two maps. A map is an m by m table of bits, row by row, and a row of m bits.
+#![tactic(auto)]
+
 ghost use Rattle.std.specs.Prelude.{◌≡◌, ◌^◌, length};
 ghost use Rattle.reorder.specs.Outcome.{outcome_of, is_long};
 ghost use Rattle.reorder.specs.Outcome.{reordering, reordering_word, undoing, multiplying};
@@ -11,7 +13,7 @@ ghost use Rattle.images.specs.Images.{Mapped};
 use code::{Code, Completed, Refusal};
 
 // What the tests on m and on lengths leave.
-#[derive(Drop)]
+#[derive(Clone, Copy)]
 enum Sizes {
     Right,
     Wrong(Refusal),

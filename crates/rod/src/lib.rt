@@ -1,5 +1,7 @@
 // Rod position (docs/RULES.md, §18): a number from 0 to 2^m - 1 in one guarded word of RM(1,m),
 // over the first-order words, of which only what they promise is known here.
+#![tactic(auto)]
+
 ghost use Rattle.std.specs.Prelude.{◌≡◌, suc, ◌≤◌, length, replicate};
 ghost use Rattle.words.specs.Bits.{Bits};
 ghost use Rattle.code.specs.Sound.{largest_m};
@@ -11,7 +13,7 @@ use code::{Code, Refusal};
 use guarded::{Fault, Written, number_of};
 use search::Searched;
 
-#[derive(Drop)]
+#[derive(Clone, Copy)]
 pub enum Heard {
     Shown {
         position: u32,

@@ -1,5 +1,7 @@
 // The program's state between two rounds, and all that it does between two calls of the
 // operating system: functions of the bytes and of what the last call answered.
+#![tactic(auto)]
+
 ghost use Rattle.std.specs.Prelude.{◌≡◌, ◌++◌, ◌+◌, ◌-◌, ◌^◌, ◌≤◌, ◌<◌, length, take, drop};
 ghost use Rattle.rounds.specs.Situation.{starting, room, is_there, next_of, counted_by};
 ghost use Rattle.rounds.specs.Situation.{Took, Finished, after_read};
@@ -10,7 +12,7 @@ use program::Step;
 // The longest line fits, and so does the total.
 const ROOM: usize = 512;
 
-#[derive(Drop)]
+#[derive(Clone, Copy)]
 pub struct Situation {
     // the bytes that are read and not yet used are input[at..end]
     pub at: usize,
@@ -29,7 +31,7 @@ pub struct Situation {
 }
 
 // What a round does.
-#[derive(Drop)]
+#[derive(Clone, Copy)]
 pub enum Next {
     Write,
     Take,

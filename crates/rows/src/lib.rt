@@ -1,6 +1,8 @@
 // The two combining steps and the bit that a value speaks for, on single values and over rows; what
 // a bit loses at a value.
 // Rows of running sums are stored in one scratch array, the row of n sums at [n .. 2n].
+#![tactic(auto)]
+
 ghost use Rattle.std.specs.Prelude.{◌≡◌, map, ◌+◌, ◌≤◌, ◌<◌, nat_abs, length, take};
 ghost use Rattle.decoding.specs.Readings.{loss, sizes, sum_limit};
 ghost use Rattle.decoding.specs.Quick.{hard, lower, upper, lower_row, upper_row};

@@ -1,5 +1,7 @@
 // Encoder, inverse and quick reading on a shortened set (docs/RULES.md, §15). A row names
 // information indices that are to be 0 as well, 1 where named.
+#![tactic(auto)]
+
 ghost use Rattle.std.specs.Prelude.{◌≡◌, ◌^◌, length};
 ghost use Rattle.words.specs.Bits.{Bits};
 ghost use Rattle.words.specs.Kinds.{kinds, encoded};

@@ -1,4 +1,6 @@
 // The search on a shortened set (docs/RULES.md, §15): with an allowance and without.
+#![tactic(auto)]
+
 ghost use Rattle.std.specs.Prelude.{◌≡◌, length};
 ghost use Rattle.numbers.specs.Sums.{sum};
 ghost use Rattle.words.specs.Kinds.{kinds};

@@ -1,5 +1,7 @@
 // The tilt telegram (docs/RULES.md, §11): a cylinder, a direction and a tilt in one word of
 // RM(2,5), over the encoder and the search, of which only what they promise is known here.
+#![tactic(auto)]
+
 ghost use Rattle.std.specs.Prelude.{◌≡◌, ◌≤◌, length};
 ghost use Rattle.code.specs.Sound.{default_allowance};
 ghost use Rattle.words.specs.Bits.{Bits, digits};
@@ -14,7 +16,7 @@ use guarded::{Fault, Written, number_of};
 use search::Searched;
 
 // What the tilt head says. Direction 1 is to port; the tilt is in hundredths of a degree.
-#[derive(Drop)]
+#[derive(Clone, Copy)]
 pub struct Telegram {
     pub cylinder: u32,
     pub direction: u32,
@@ -35,13 +37,13 @@ impl Telegram {
 }
 
 // What the tests on a telegram's fields say.
-#[derive(Drop)]
+#[derive(Clone, Copy)]
 pub enum Tested {
     Good,
     Bad(Fault),
 }
 
-#[derive(Drop)]
+#[derive(Clone, Copy)]
 pub enum Heard {
     Shown {
         telegram: Telegram,

@@ -10,6 +10,8 @@
 //
 // What the walk holds and counts is in state, by place, and is changed there. Nothing is handed
 // back, so that the last call of a step takes no stack of its own.
+#![tactic(auto)]
+
 ghost use Rattle.std.specs.Prelude.{◌≡◌, true, ◌+◌, ◌^◌, ◌/◌, ◌%◌, ◌≤◌, ◌<◌, length, get_or, take, set, replicate, eqb, ltb};
 ghost use Rattle.walk.specs.Progress.{allows_more, counted_by, counted_more, drops, seen};
 ghost use Rattle.walk.specs.Progress.{made_for};
