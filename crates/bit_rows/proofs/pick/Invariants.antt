@@ -1,0 +1,14 @@
+-- The loop's invariant is `Picked`; a pass takes a part of eight kinds, and the last few, fewer than eight, are taken one by one.
+use mathlib.Core.Path.{◌∙◌}
+use Prim.Native.Nat.{◌-◌}
+use native.Mathlib.Omega.{arith}
+use lib.ListN.{length-drop}
+use Rattle.numbers.specs.Lent.{lent_from}
+use Rattle.bit_rows.specs.PickLaws.{Picked, all_pickable, picked_all, pick-starts, part_asked, part-back, last-back}
+use Rattle.bit_rows.proofs.pick.Given as goal
+
+abbrev pub invariant-loop-at : goal.invariant-loop-at
+invariant-loop-at l = Picked l.kinds l.row l.initial.bits l.bits l.at l.taken
+
+abbrev pub decreases-loop-at : goal.decreases-loop-at
+decreases-loop-at l = l.n - l.at

@@ -1,0 +1,18 @@
+-- The row holds the kinds left up to where the loop is.
+use mathlib.Core.Path.{◌≡◌, refl, ap, sym, ◌∙◌}
+use Prim.Native.Nat.{◌-◌, ◌≤◌}
+use native.Mathlib.Omega.{arith}
+use native.Mathlib.Numerals.{add-one}
+use lib.ListN.{length, get_or, length-set, drop_of_length-le}
+use Rattle.numbers.specs.Front.{front, front-suc, front-done}
+use Rattle.words.specs.Kinds.{kinds}
+use Rattle.words.specs.KindLaws.{length-kinds, kinds_at}
+use Rattle.named.specs.Named.{kind_left, left}
+use Rattle.named.specs.NamedLaws.{left_at, length-left}
+use Rattle.named.proofs.put_left.Given as goal
+
+abbrev pub invariant-loop-i : goal.invariant-loop-i
+invariant-loop-i l = (l.i ≤ length l.initial.row) × (l.row ≡ front l.initial.row (left l.named (kinds l.code.r l.code.m)) l.i) × (length l.row ≡ length l.initial.row)
+
+abbrev pub decreases-loop-i : goal.decreases-loop-i
+decreases-loop-i l = length l.initial.row - l.i
