@@ -1,10 +1,10 @@
 -- The loop's invariant: what is copied comes first, then what is unchanged.
 use mathlib.Core.Path.{◌≡◌, refl, ◌∙◌}
-use Prim.Native.Nat.{◌-◌, ◌≤◌, zero-le}
+use Prim.Native.Nat.{zero-le}
 use native.Mathlib.Omega.{arith}
 use native.Mathlib.Numerals.{add-one}
 use lib.ListN.{length, length-set}
-use Rattle.numbers.specs.Front.{front, front-suc, front-all}
+use Rattle.numbers.specs.Front.{front-suc, front-all}
 use Rattle.bit_rows.proofs.copy.Goals as goal
 
 pub loop-i-init : goal.loop-i-init

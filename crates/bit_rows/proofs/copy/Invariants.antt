@@ -1,10 +1,8 @@
 -- The loop's invariant: what is copied comes first, then what is unchanged.
-use mathlib.Core.Path.{◌≡◌, refl, ◌∙◌}
-use Prim.Native.Nat.{◌-◌, ◌≤◌, zero-le}
-use native.Mathlib.Omega.{arith}
-use native.Mathlib.Numerals.{add-one}
-use lib.ListN.{length, length-set}
-use Rattle.numbers.specs.Front.{front, front-suc, front-all}
+use mathlib.Core.Path.{◌≡◌}
+use Prim.Native.Nat.{◌-◌, ◌≤◌}
+use lib.ListN.{length}
+use Rattle.numbers.specs.Front.{front}
 use Rattle.bit_rows.proofs.copy.Given as goal
 
 abbrev pub invariant-loop-i : goal.invariant-loop-i

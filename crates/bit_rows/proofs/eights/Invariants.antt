@@ -1,8 +1,7 @@
 -- The loop's invariant is `Blockwise`: the blocks before at are transformed.
 use Prim.Native.Nat.{◌-◌}
-use native.Mathlib.Omega.{arith}
 use Rattle.words.specs.Word.{transform}
-use Rattle.bit_rows.specs.BlockLaws.{Blockwise, first_pass, part_asked, next_pass, last_pass, keeps_transform}
+use Rattle.bit_rows.specs.BlockLaws.{Blockwise}
 use Rattle.bit_rows.proofs.eights.Given as goal
 
 abbrev pub invariant-loop-at : goal.invariant-loop-at

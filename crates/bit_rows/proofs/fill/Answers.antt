@@ -1,9 +1,8 @@
 -- The loop's invariant is `Filled`: what is filled comes first, then what the row held.
-use mathlib.Core.Logic.{⊎_elim}
-use Prim.Native.Nat.{◌-◌, ◌<◌}
+use Prim.Native.Nat.{◌<◌}
 use native.Mathlib.Omega.{arith}
 use lib.ListN.{length}
-use Rattle.bit_rows.specs.FillLaws.{Filled, fill-starts, fill_frozen, bit_left, fill_information, fill_ends}
+use Rattle.bit_rows.specs.FillLaws.{fill-starts, fill_frozen, bit_left, fill_information, fill_ends}
 use Rattle.bit_rows.proofs.fill.Goals as goal
 use Rattle.bit_rows.proofs.fill.Goals.{else-kinds-i-eq0, then-kinds-i-eq0}
 
@@ -26,8 +25,9 @@ loop-i-preserved c =
     let r = s.args.row.now in
     let h : l.i < length k = omega arith in
     elim c.if-kinds-i-eq0.branch [
-      then-kinds-i-eq0 w ↦ rw (w.1, w.2) (fill_frozen k b r s.requires.0 l.row l.i l.used l.invariant h w.if-kinds-i-eq0.true)
-    | else-kinds-i-eq0 w ↦ rw (w.2, w.3) (fill_information k b r s.requires.0 l.row l.i l.used l.invariant h w.if-kinds-i-eq0.false) ]
+      | then-kinds-i-eq0 w ↦ rw (w.row-is, w.used-is) (fill_frozen k b r s.requires.0 l.row l.i l.used l.invariant h w.if-kinds-i-eq0.true)
+      | else-kinds-i-eq0 w ↦ rw (w.row-is, w.used-is) (fill_information k b r s.requires.0 l.row l.i l.used l.invariant h w.if-kinds-i-eq0.false)
+    ]
 
 pub returns : goal.returns
 returns c =

@@ -1,9 +1,7 @@
 -- The loop's invariant is `Filled`: what is filled comes first, then what the row held.
-use mathlib.Core.Logic.{⊎_elim}
-use Prim.Native.Nat.{◌-◌, ◌<◌}
-use native.Mathlib.Omega.{arith}
+use Prim.Native.Nat.{◌-◌}
 use lib.ListN.{length}
-use Rattle.bit_rows.specs.FillLaws.{Filled, fill-starts, fill_frozen, bit_left, fill_information, fill_ends}
+use Rattle.bit_rows.specs.FillLaws.{Filled}
 use Rattle.bit_rows.proofs.fill.Given as goal
 
 abbrev pub invariant-loop-i : goal.invariant-loop-i

@@ -1,7 +1,6 @@
 -- The loop's invariant is `ByEights`: the indices before s are filled.
 use Prim.Native.Nat.{◌-◌}
-use native.Mathlib.Omega.{arith}
-use Rattle.bit_rows.specs.EightKindsLaws.{ByEights, eights_start, block_within, eight_asked, eight_back, eights_end}
+use Rattle.bit_rows.specs.EightKindsLaws.{ByEights}
 use Rattle.bit_rows.proofs.fill_code.Given as goal
 
 abbrev pub invariant-loop-s : goal.invariant-loop-s

@@ -1,13 +1,11 @@
 -- Where there is one, the loop's invariant is `Passed`: no index passed is frozen and 1.
-use borrow.Author.Rules.{rules}
 use mathlib.Core.Path.{sym, ◌∙◌}
-use mathlib.Core.Logic.{⊎_elim}
-use Prim.Native.Nat.{◌-◌, zero-le}
+use Prim.Native.Nat.{zero-le}
 use native.Mathlib.Omega.{arith}
-use lib.ListN.{length, get_or}
-use borrow.Author.Tests.{eqb-true, eqb-false, not-true, not-false}
-use Rattle.bit_rows.specs.FillLaws.{Passed, pass, found, none_found, none_seen}
+use borrow.Author.Tests.{not-true}
+use Rattle.bit_rows.specs.FillLaws.{pass, found, none_found, none_seen}
 use Rattle.bit_rows.proofs.first_frozen_one.Goals as goal
+use Rattle.bit_rows.proofs.first_frozen_one.Goals.{else-kinds-i-eq0-via-then-kinds-i-eq0+else-row-i-ne0, else-kinds-i-eq0-via-else-kinds-i-eq0}
 
 pub returns-then-not-some_frozen_one : goal.returns-then-not-some_frozen_one
 returns-then-not-some_frozen_one c =
@@ -23,16 +21,17 @@ returns-then-row-i-ne0 c =
     let s = c5 in
     let u = s.args.row.now in
     let l = c5.loop-i in
-    let one = eqb-false (get_or u l.i 0) 0 (not-true _ c.if-row-i-ne0.true-raw) in
-    found s.args.kinds.now u l.i s.requires l.invariant (omega arith) c.if-kinds-i-eq0.true one
+    found s.args.kinds.now u l.i s.requires l.invariant (omega arith) c.if-kinds-i-eq0.true c.if-row-i-ne0.true
 
 pub loop-i-preserved : goal.loop-i-preserved
 loop-i-preserved c =
     let s = c in
-    let u = s.args.row.now in
     let l = c.loop-i in
     let next = pass s.args.kinds.now s.args.row.now l.i s.requires l.invariant (omega arith) in
-    ⊎_elim (λ w. next (λ z. eqb-true (get_or u l.i 0) 0 (not-false _ w.2.left))) (λ w. next (λ z. absurd (w.left z))) c.else-kinds-i-eq0.branch
+    elim c.else-kinds-i-eq0.branch [
+      | else-kinds-i-eq0-via-then-kinds-i-eq0+else-row-i-ne0 w ↦ next (λ z. w.if-row-i-ne0.false)
+      | else-kinds-i-eq0-via-else-kinds-i-eq0 w ↦ next (λ z. absurd (w.if-kinds-i-eq0.false z))
+    ]
 
 pub returns : goal.returns
 returns c =

@@ -1,12 +1,7 @@
 -- Where there is one, the loop's invariant is `Passed`: no index passed is frozen and 1.
-use borrow.Author.Rules.{rules}
-use mathlib.Core.Path.{sym, ◌∙◌}
-use mathlib.Core.Logic.{⊎_elim}
-use Prim.Native.Nat.{◌-◌, zero-le}
-use native.Mathlib.Omega.{arith}
-use lib.ListN.{length, get_or}
-use borrow.Author.Tests.{eqb-true, eqb-false, not-true, not-false}
-use Rattle.bit_rows.specs.FillLaws.{Passed, pass, found, none_found, none_seen}
+use Prim.Native.Nat.{◌-◌}
+use lib.ListN.{length}
+use Rattle.bit_rows.specs.FillLaws.{Passed}
 use Rattle.bit_rows.proofs.first_frozen_one.Given as goal
 
 abbrev pub invariant-loop-i : goal.invariant-loop-i

@@ -1,5 +1,4 @@
 -- The front of a word of 2h bits is the whole word.
-use borrow.Author.Rules.{rules}
 use mathlib.Core.Path.{◌∙◌}
 use Prim.Native.Nat.{◌+◌}
 use Rattle.bit_rows.specs.Fold.{folded}

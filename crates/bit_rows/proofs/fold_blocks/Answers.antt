@@ -1,8 +1,8 @@
 -- The loop's invariant is `Blockwise`: the blocks before start are folded.
-use Prim.Native.Nat.{◌-◌, ◌+◌}
+use Prim.Native.Nat.{◌+◌}
 use native.Mathlib.Omega.{arith}
 use Rattle.bit_rows.specs.Fold.{folded}
-use Rattle.bit_rows.specs.BlockLaws.{Blockwise, first_pass, part_asked, next_pass, last_pass, keeps_folded}
+use Rattle.bit_rows.specs.BlockLaws.{first_pass, part_asked, next_pass, last_pass, keeps_folded}
 use Rattle.bit_rows.proofs.fold_blocks.Goals as goal
 
 pub loop-start-init : goal.loop-start-init

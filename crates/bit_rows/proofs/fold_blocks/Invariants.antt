@@ -1,8 +1,7 @@
 -- The loop's invariant is `Blockwise`: the blocks before start are folded.
 use Prim.Native.Nat.{◌-◌, ◌+◌}
-use native.Mathlib.Omega.{arith}
 use Rattle.bit_rows.specs.Fold.{folded}
-use Rattle.bit_rows.specs.BlockLaws.{Blockwise, first_pass, part_asked, next_pass, last_pass, keeps_folded}
+use Rattle.bit_rows.specs.BlockLaws.{Blockwise}
 use Rattle.bit_rows.proofs.fold_blocks.Given as goal
 
 abbrev pub invariant-loop-start : goal.invariant-loop-start

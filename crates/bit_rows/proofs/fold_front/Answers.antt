@@ -1,8 +1,8 @@
 -- The loop's invariant: the sums come first, then what is unchanged.
 use mathlib.Core.Path.{◌≡◌, refl, ap, ◌∙◌}
-use Prim.Native.Nat.{◌+◌, ◌-◌, ◌≤◌, zero-le}
+use Prim.Native.Nat.{◌+◌, zero-le}
 use native.Mathlib.Omega.{arith}
-use lib.ListN.{length, length-set}
+use lib.ListN.{length-set}
 use Rattle.numbers.specs.Front.{front}
 use Rattle.bit_rows.specs.FoldLaws.{sums, unread, pass, all-passes}
 use Rattle.bit_rows.proofs.fold_front.Goals as goal

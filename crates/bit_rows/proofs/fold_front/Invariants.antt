@@ -1,10 +1,9 @@
 -- The loop's invariant: the sums come first, then what is unchanged.
-use mathlib.Core.Path.{◌≡◌, refl, ap, ◌∙◌}
-use Prim.Native.Nat.{◌+◌, ◌-◌, ◌≤◌, zero-le}
-use native.Mathlib.Omega.{arith}
-use lib.ListN.{length, length-set}
+use mathlib.Core.Path.{◌≡◌}
+use Prim.Native.Nat.{◌-◌, ◌≤◌}
+use lib.ListN.{length}
 use Rattle.numbers.specs.Front.{front}
-use Rattle.bit_rows.specs.FoldLaws.{sums, unread, pass, all-passes}
+use Rattle.bit_rows.specs.FoldLaws.{sums}
 use Rattle.bit_rows.proofs.fold_front.Given as goal
 
 abbrev pub invariant-loop-j : goal.invariant-loop-j

@@ -1,7 +1,5 @@
 -- The loop's invariant is `Layering`: what the layers that are left give is what all give.
-use mathlib.Core.Path.{refl}
-use native.Mathlib.Omega.{arith}
-use Rattle.bit_rows.specs.LayerLaws.{Layering, layer_asked, next-layer, last-layer}
+use Rattle.bit_rows.specs.LayerLaws.{Layering}
 use Rattle.bit_rows.proofs.layers.Given as goal
 
 abbrev pub invariant-loop-left : goal.invariant-loop-left

@@ -1,5 +1,4 @@
 -- Eight bytes as one number: no product wraps.
-use borrow.Author.Rules.{rules}
 use mathlib.Core.Path.{◌∙◌}
 use native.Mathlib.Omega.{arith}
 use Rattle.numbers.specs.Sums.{total}

@@ -1,10 +1,9 @@
 -- The loop's invariant is `Picked`; a pass takes a part of eight kinds, and the last few, fewer than eight, are taken one by one.
 use mathlib.Core.Path.{◌∙◌}
-use Prim.Native.Nat.{◌-◌}
 use native.Mathlib.Omega.{arith}
 use lib.ListN.{length-drop}
 use Rattle.numbers.specs.Lent.{lent_from}
-use Rattle.bit_rows.specs.PickLaws.{Picked, all_pickable, picked_all, pick-starts, part_asked, part-back, last-back}
+use Rattle.bit_rows.specs.PickLaws.{all_pickable, picked_all, pick-starts, part_asked, part-back, last-back}
 use Rattle.bit_rows.proofs.pick.Goals as goal
 
 pub loop-at-init : goal.loop-at-init

@@ -1,10 +1,9 @@
 -- The loop's invariant is `Picked`; a pass takes a part of one kind.
 use mathlib.Core.Path.{◌≡◌}
-use mathlib.Core.Logic.{⊎_elim}
-use Prim.Native.Nat.{◌-◌, ◌<◌}
+use Prim.Native.Nat.{◌<◌}
 use native.Mathlib.Omega.{arith}
 use lib.ListN.{length, get_or}
-use Rattle.bit_rows.specs.PickLaws.{Picked, pick-starts, pick_frozen, place_left, pick_information, pick_ends}
+use Rattle.bit_rows.specs.PickLaws.{pick-starts, pick_frozen, place_left, pick_information, pick_ends}
 use Rattle.bit_rows.proofs.pick_each.Goals as goal
 use Rattle.bit_rows.proofs.pick_each.Goals.{else-kinds-i-ne0, then-kinds-i-ne0}
 
@@ -27,8 +26,9 @@ loop-i-preserved c =
     let b = s.args.bits.now in
     let h : l.i < length k = omega arith in
     elim c.if-kinds-i-ne0.branch [
-      then-kinds-i-ne0 w ↦ rw (w.2, w.3) (pick_information k u b s.requires l.bits l.i l.taken l.invariant h (omega (arith, s.requires.bits_kinds l.i, w.if-kinds-i-ne0.true)))
-    | else-kinds-i-ne0 w ↦ rw (w.1, w.2) (pick_frozen k u b s.requires l.bits l.i l.taken l.invariant h w.if-kinds-i-ne0.false) ]
+      | then-kinds-i-ne0 w ↦ rw (w.bits-is, w.taken-is) (pick_information k u b s.requires l.bits l.i l.taken l.invariant h (omega (arith, s.requires.bits_kinds l.i, w.if-kinds-i-ne0.true)))
+      | else-kinds-i-ne0 w ↦ rw (w.bits-is, w.taken-is) (pick_frozen k u b s.requires l.bits l.i l.taken l.invariant h w.if-kinds-i-ne0.false)
+    ]
 
 pub returns : goal.returns
 returns c =

@@ -1,10 +1,7 @@
 -- The loop's invariant is `Picked`; a pass takes a part of one kind.
-use mathlib.Core.Path.{◌≡◌}
-use mathlib.Core.Logic.{⊎_elim}
-use Prim.Native.Nat.{◌-◌, ◌<◌}
-use native.Mathlib.Omega.{arith}
-use lib.ListN.{length, get_or}
-use Rattle.bit_rows.specs.PickLaws.{Picked, pick-starts, pick_frozen, place_left, pick_information, pick_ends}
+use Prim.Native.Nat.{◌-◌}
+use lib.ListN.{length}
+use Rattle.bit_rows.specs.PickLaws.{Picked}
 use Rattle.bit_rows.proofs.pick_each.Given as goal
 
 abbrev pub invariant-loop-i : goal.invariant-loop-i

@@ -1,5 +1,4 @@
 -- Eight bits, one after the other.
-use borrow.Author.Rules.{rules}
 use mathlib.Core.Path.{ap, sym, ◌∙◌}
 use Rattle.numbers.specs.Sums.{tabulate}
 use Rattle.words.specs.Bits.{digit, ones}

@@ -1,5 +1,4 @@
 -- Four bits at the indices with two ones or more.
-use borrow.Author.Rules.{rules}
 use mathlib.Core.Path.{ap, sym, ◌∙◌}
 use Rattle.numbers.specs.Sums.{tabulate}
 use Rattle.words.specs.Bits.{digit, ones}

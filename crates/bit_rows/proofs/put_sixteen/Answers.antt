@@ -5,7 +5,6 @@ use Rattle.bit_rows.specs.Eight.{unpacked, bytes_added, pairs_added, fours_added
 use Rattle.numbers.specs.Lent.{lent_from}
 use Rattle.bit_rows.specs.EightLaws.{three_layers}
 use Rattle.bit_rows.specs.SixteenLaws.{sixteen_put}
-use borrow.Author.Rules.{rules}
 use Rattle.bit_rows.proofs.put_sixteen.Goals as goal
 
 pub returns : goal.returns

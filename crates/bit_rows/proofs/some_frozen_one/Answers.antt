@@ -1,10 +1,9 @@
 -- `some_frozen_one`: the indices before i, and what was found among them.
 use mathlib.Core.Path.{refl}
 use mathlib.Core.Logic.{inl}
-use Prim.Native.Nat.{◌-◌, ◌≤◌, zero-le}
+use Prim.Native.Nat.{zero-le}
 use native.Mathlib.Omega.{arith}
-use lib.ListN.{length}
-use Rattle.bit_rows.specs.FillLaws.{Seen, see_more, see_all}
+use Rattle.bit_rows.specs.FillLaws.{see_more, see_all}
 use Rattle.bit_rows.proofs.some_frozen_one.Goals as goal
 
 pub loop-i-init : goal.loop-i-init

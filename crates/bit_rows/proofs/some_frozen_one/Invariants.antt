@@ -1,10 +1,7 @@
 -- `some_frozen_one`: the indices before i, and what was found among them.
-use mathlib.Core.Path.{refl}
-use mathlib.Core.Logic.{inl}
-use Prim.Native.Nat.{◌-◌, ◌≤◌, zero-le}
-use native.Mathlib.Omega.{arith}
+use Prim.Native.Nat.{◌-◌, ◌≤◌}
 use lib.ListN.{length}
-use Rattle.bit_rows.specs.FillLaws.{Seen, see_more, see_all}
+use Rattle.bit_rows.specs.FillLaws.{Seen}
 use Rattle.bit_rows.proofs.some_frozen_one.Given as goal
 
 abbrev pub invariant-loop-i : goal.invariant-loop-i

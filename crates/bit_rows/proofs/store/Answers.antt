@@ -1,5 +1,4 @@
 -- A run of eight stores.
-use borrow.Author.Rules.{rules}
 use native.Mathlib.Omega.{arith}
 use lib.ListN.{length-set}
 use Rattle.bit_rows.specs.EightLaws.{eight_stored}
