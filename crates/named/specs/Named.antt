@@ -3,8 +3,6 @@ use Rattle.std.specs.Prelude.{◌≡◌, Bool, true, false, not, cond, ◌&&◌,
 use Rattle.numbers.specs.Sums.{sum}
 use Rattle.words.specs.Bits.{Bits}
 use Rattle.words.specs.Kinds.{kinds}
-use Rattle.code.specs.declared.Code.{Code}
-use Rattle.code.specs.declared.Refusal.{Refusal}
 use Rattle.code.specs.declared.Refusal.TheVariants.{Named}
 use Rattle.code.specs.declared.Admitted.{Admitted}
 use Rattle.code.specs.declared.Admitted.TheVariants.{Allowed, Refused}

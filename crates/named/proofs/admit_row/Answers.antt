@@ -1,6 +1,5 @@
 -- Test 1, and then the row's.
 use mathlib.Core.Path.{◌≡◌, sym, ◌∙◌}
-use borrow.Author.Rules.{rules}
 use borrow.Author.Tests.{not-true, not-false}
 use Rattle.code.specs.declared.Made.TheVariants.{Good}
 use Rattle.code.specs.Sound.{made}

@@ -1,29 +1,17 @@
 -- The count is of the indices left before i.
-use mathlib.Core.Path.{◌≡◌, ap, sym, ◌∙◌}
-use Prim.Native.Nat.{◌-◌, ◌+◌}
+use mathlib.Core.Path.{ap, sym, ◌∙◌}
+use Prim.Native.Nat.{◌+◌}
 use native.Mathlib.Omega.{arith}
-use lib.ListN.{length, get_or}
+use lib.ListN.{get_or}
 use Rattle.words.specs.Kinds.{kinds}
 use Rattle.words.specs.KindLaws.{length-kinds, bits_kinds, kinds_at}
 use Rattle.named.specs.Named.{kind_left}
 use Rattle.named.specs.NamedLaws.{CountedBefore, counted_none, count-more, counted-all}
 use Rattle.named.proofs.count_left.Goals as goal
-use Rattle.named.proofs.count_left.Goals.{After-wide-count, Start}
-
-long : (s : Start) → length s.args.named.now ≡ length (kinds s.args.code.r s.args.code.m)
-long s = s.requires.1 ∙ sym (length-kinds s.args.code.r s.args.code.m)
+use Rattle.named.proofs.count_left.Goals.{After-wide-count}
 
 pub loop-i-init : goal.loop-i-init
-loop-i-init c = counted_none _ _ (long ((goal.at.loop-i-init c).Start))
-
-pub kind-requires : goal.kind-requires
-kind-requires c = let s = c in (s.requires.0, omega (arith, s.requires.1))
-
-pub kind_left-requires : goal.kind_left-requires
-kind_left-requires c = tt
-
-pub wide-count-requires : goal.wide-count-requires
-wide-count-requires c = tt
+loop-i-init c = counted_none _ _ (c.requires.1 ∙ sym (length-kinds c.args.code.r c.args.code.m))
 
 -- one more index
 more : (c : After-wide-count)
@@ -32,13 +20,12 @@ more : (c : After-wide-count)
     CountedBefore s.named.now (kinds s.code.r s.code.m) (l.i + 1) (l.count + c.wide-count.result)
 more c =
     let l = c.loop-i in
-    let start = (AT c Start) in
-    let s = start.args in
+    let s = c.args in
     let r = s.code.r in
     let m = s.code.m in
-    count-more s.named.now (kinds r m) (long start) l.i l.count c.wide-count.result (omega arith) l.invariant (bits_kinds r m)
+    count-more s.named.now (kinds r m) (c.requires.1 ∙ sym (length-kinds r m)) l.i l.count c.wide-count.result (omega arith) l.invariant (bits_kinds r m)
     (c.wide-count.ensures ∙ c.kind_left.ensures
-    ∙ ap (kind_left (get_or s.named.now l.i 0)) (c.kind.ensures ∙ sym (kinds_at r m l.i (omega (arith, start.requires.1)))))
+    ∙ ap (kind_left (get_or s.named.now l.i 0)) (c.kind.ensures ∙ sym (kinds_at r m l.i (omega (arith, c.requires.1)))))
 
 pub overflow_add-count : goal.overflow_add-count
 overflow_add-count c = omega (arith, (more c).1)
@@ -47,4 +34,4 @@ pub loop-i-preserved : goal.loop-i-preserved
 loop-i-preserved c = more c
 
 pub returns : goal.returns
-returns c = counted-all _ _ (long ((goal.at.returns c).Start)) c.loop-i.i c.loop-i.count (omega arith) c.loop-i.invariant
+returns c = counted-all _ _ (c.requires.1 ∙ sym (length-kinds c.args.code.r c.args.code.m)) c.loop-i.i c.loop-i.count (omega arith) c.loop-i.invariant

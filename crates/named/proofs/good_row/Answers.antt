@@ -5,7 +5,6 @@ use lib.Dec.{ltb}
 use Rattle.words.specs.Kinds.{kinds}
 use Rattle.words.specs.KindLaws.{length-kinds, bits_kinds}
 use Rattle.named.specs.NamedLaws.{wrong_length, wrong_byte, frozen_named, none_wrong}
-use borrow.Author.Rules.{rules}
 use Rattle.named.proofs.good_row.Goals as goal
 
 pub returns-then-named-length : goal.returns-then-named-length

@@ -1,7 +1,6 @@
 -- A named index is frozen.
 use mathlib.Core.Path.{sym}
 use Rattle.named.specs.NamedLaws.{kind_left_named}
-use borrow.Author.Rules.{rules}
 use Rattle.named.proofs.kind_left.Goals as goal
 
 pub returns-else-named-eq0 : goal.returns-else-named-eq0

@@ -1,6 +1,5 @@
 -- Both tests are made.
 use Rattle.named.specs.NamedLaws.{named-frozen}
-use borrow.Author.Rules.{rules}
 use Rattle.named.proofs.named_frozen.Goals as goal
 
 pub returns : goal.returns

@@ -1,12 +1,11 @@
 -- No frozen index is named before i.
 use mathlib.Core.Path.{◌≡◌, refl, ap, sym, ◌∙◌}
-use Prim.Native.Nat.{◌-◌}
 use native.Mathlib.Omega.{arith}
 use lib.ListN.{length, get_or}
 use Rattle.words.specs.Kinds.{kinds}
 use Rattle.words.specs.KindLaws.{length-kinds, kinds_at}
 use Rattle.named.specs.Named.{named_frozen}
-use Rattle.named.specs.NamedLaws.{NoneBefore, named_here, not-here, none_named}
+use Rattle.named.specs.NamedLaws.{named_here, not-here, none_named}
 use Rattle.named.proofs.names_frozen.Goals as goal
 use Rattle.named.proofs.names_frozen.Goals.{After-named_frozen, Start}
 

@@ -1,10 +1,9 @@
 -- The row holds the kinds left up to where the loop is.
 use mathlib.Core.Path.{◌≡◌, refl, ap, sym, ◌∙◌}
-use Prim.Native.Nat.{◌-◌, ◌≤◌}
 use native.Mathlib.Omega.{arith}
 use native.Mathlib.Numerals.{add-one}
 use lib.ListN.{length, get_or, length-set, drop_of_length-le}
-use Rattle.numbers.specs.Front.{front, front-suc, front-done}
+use Rattle.numbers.specs.Front.{front-suc, front-done}
 use Rattle.words.specs.Kinds.{kinds}
 use Rattle.words.specs.KindLaws.{length-kinds, kinds_at}
 use Rattle.named.specs.Named.{kind_left, left}

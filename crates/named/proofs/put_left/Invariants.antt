@@ -1,14 +1,10 @@
 -- The row holds the kinds left up to where the loop is.
-use mathlib.Core.Path.{◌≡◌, refl, ap, sym, ◌∙◌}
+use mathlib.Core.Path.{◌≡◌}
 use Prim.Native.Nat.{◌-◌, ◌≤◌}
-use native.Mathlib.Omega.{arith}
-use native.Mathlib.Numerals.{add-one}
-use lib.ListN.{length, get_or, length-set, drop_of_length-le}
-use Rattle.numbers.specs.Front.{front, front-suc, front-done}
+use lib.ListN.{length}
+use Rattle.numbers.specs.Front.{front}
 use Rattle.words.specs.Kinds.{kinds}
-use Rattle.words.specs.KindLaws.{length-kinds, kinds_at}
-use Rattle.named.specs.Named.{kind_left, left}
-use Rattle.named.specs.NamedLaws.{left_at, length-left}
+use Rattle.named.specs.Named.{left}
 use Rattle.named.proofs.put_left.Given as goal
 
 abbrev pub invariant-loop-i : goal.invariant-loop-i

@@ -1,9 +1,9 @@
 -- `rows::lower_row` meets its contract: after j passes the new row has its first j sums.
 use mathlib.Core.Path.{◌≡◌, refl, ap, ◌∙◌}
-use Prim.Native.Nat.{◌+◌, ◌-◌, ◌≤◌, zero-le}
+use Prim.Native.Nat.{◌+◌, zero-le}
 use native.Mathlib.Omega.{arith}
 use lib.IntN.{pos}
-use lib.ListN.{length, get_or, length-set}
+use lib.ListN.{get_or, length-set}
 use lib.Seq.{paste, paste-zero}
 use mir.Syntax.{w32}
 use mir.Val.{to_z, of_z}

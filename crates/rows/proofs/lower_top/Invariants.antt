@@ -1,15 +1,9 @@
 -- `rows::lower_top` meets its contract: after j passes the new row has its first j sums.
-use mathlib.Core.Path.{◌≡◌, refl, ap, ◌∙◌}
-use Prim.Native.Nat.{◌+◌, ◌-◌, ◌≤◌, zero-le}
-use native.Mathlib.Omega.{arith}
-use lib.IntN.{pos}
-use lib.ListN.{length, get_or, length-set}
-use lib.Seq.{paste, paste-zero}
-use mir.Syntax.{w16, w32}
-use mir.Val.{to_z, of_z}
-use mir.Facts.{to_z-of_z}
+use mathlib.Core.Path.{◌≡◌}
+use Prim.Native.Nat.{◌-◌, ◌≤◌}
+use lib.ListN.{length}
+use lib.Seq.{paste}
 use Rattle.decoding.specs.Quick.{lower_row}
-use Rattle.rows.specs.RowLaws.{Pair, reading_fits, reading-read, reading-size, lower-turn}
 use Rattle.rows.proofs.lower_top.Given as goal
 
 abbrev pub invariant-loop-j : goal.invariant-loop-j

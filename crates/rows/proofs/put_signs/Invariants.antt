@@ -1,15 +1,10 @@
 -- `put_signs`: the word holds the signs up to where the loop is.
-use mathlib.Core.Path.{◌≡◌, refl, ap, ◌∙◌}
+use mathlib.Core.Path.{◌≡◌}
 use mathlib.Core.List.{map}
 use Prim.Native.Nat.{◌-◌, ◌≤◌}
-use native.Mathlib.Omega.{arith}
-use lib.IntN.{pos}
-use lib.ListN.{length, get_or, set, length-set}
-use mir.Syntax.{w32}
-use mir.Facts.{to_z-of_z}
+use lib.ListN.{length}
 use Rattle.numbers.specs.Front.{front}
 use Rattle.decoding.specs.Quick.{hard}
-use Rattle.rows.specs.RowLaws.{sign-more, signs_done}
 use Rattle.rows.proofs.put_signs.Given as goal
 
 abbrev pub invariant-loop-i : goal.invariant-loop-i

@@ -1,9 +1,9 @@
 -- `rows::upper_row` meets its contract: after j passes the new row has its first j sums.
 use mathlib.Core.Path.{◌≡◌, refl, ap, ◌∙◌}
-use Prim.Native.Nat.{◌+◌, ◌-◌, ◌≤◌, zero-le}
+use Prim.Native.Nat.{◌+◌, zero-le}
 use native.Mathlib.Omega.{arith}
 use lib.IntN.{pos}
-use lib.ListN.{length, get_or, take, length-set}
+use lib.ListN.{get_or, take, length-set}
 use lib.Seq.{paste, paste-zero, length-take-le}
 use mir.Syntax.{w32}
 use mir.Val.{to_z, of_z}

@@ -1,17 +1,10 @@
 -- `rows::upper_row` meets its contract: after j passes the new row has its first j sums.
-use mathlib.Core.Path.{◌≡◌, refl, ap, ◌∙◌}
-use Prim.Native.Nat.{◌+◌, ◌-◌, ◌≤◌, zero-le}
-use native.Mathlib.Omega.{arith}
-use lib.IntN.{pos}
-use lib.ListN.{length, get_or, take, length-set}
-use lib.Seq.{paste, paste-zero, length-take-le}
-use mir.Syntax.{w32}
-use mir.Val.{to_z, of_z}
-use mir.Facts.{to_z-of_z}
+use mathlib.Core.Path.{◌≡◌}
+use Prim.Native.Nat.{◌+◌, ◌-◌, ◌≤◌}
+use lib.ListN.{length, take}
+use lib.Seq.{paste}
 use Rattle.decoding.specs.Quick.{upper_row}
-use Rattle.decoding.specs.StepLaws.{length-upper_row}
 use Rattle.rows.specs.Rows.{row_of}
-use Rattle.rows.specs.RowLaws.{Pair, pair-sizes, length-row_of, row_read, upper-turn}
 use Rattle.rows.proofs.upper_row.Given as goal
 
 abbrev pub invariant-loop-j : goal.invariant-loop-j

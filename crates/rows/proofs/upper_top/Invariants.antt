@@ -1,15 +1,9 @@
 -- `rows::upper_top` meets its contract: after j passes the new row has its first j sums.
-use mathlib.Core.Path.{◌≡◌, refl, ap, ◌∙◌}
-use Prim.Native.Nat.{◌+◌, ◌-◌, ◌≤◌, zero-le}
-use native.Mathlib.Omega.{arith}
-use lib.IntN.{pos}
-use lib.ListN.{length, get_or, take, length-set}
-use lib.Seq.{paste, paste-zero}
-use mir.Syntax.{w16, w32}
-use mir.Val.{to_z, of_z}
-use mir.Facts.{to_z-of_z}
+use mathlib.Core.Path.{◌≡◌}
+use Prim.Native.Nat.{◌-◌, ◌≤◌}
+use lib.ListN.{length, take}
+use lib.Seq.{paste}
 use Rattle.decoding.specs.Quick.{upper_row}
-use Rattle.rows.specs.RowLaws.{Pair, reading_fits, reading-read, reading-size, upper-turn}
 use Rattle.rows.proofs.upper_top.Given as goal
 
 abbrev pub invariant-loop-j : goal.invariant-loop-j
