@@ -14,7 +14,7 @@ static cinorbis_telegram shown;
 static uint64_t position;
 static cinorbis_written written;
 static cinorbis_index made;
-static cinorbis_found entry;
+static cinorbis_entry entry;
 static cinorbis_front front;
 static cinorbis_numbers numbers;
 static volatile uint32_t refusal;

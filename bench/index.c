@@ -40,7 +40,7 @@ int main(void) {
     for (int i = 0; i < 2; i++) {
         double by_index = 1e18, stepping = 1e18;
         for (int round = 0; round < ROUNDS; round++) {
-            cinorbis_found entry = {0, 0, 0, 0, 0};
+            cinorbis_entry entry = {0, 0, 0, 0, 0};
             start = now();
             for (int j = 0; j < 1000; j++)
                 if (cinorbis_index_find(asked[i], capture, length, table, entries, &entry) !=

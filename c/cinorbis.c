@@ -13,8 +13,8 @@
 #include <stddef.h>
 #include <stdint.h>
 
-#if CINORBIS_VERSION != 18
-#error "cinorbis: cinorbis.c is of version 18, and the cinorbis.h that was found is of another"
+#if CINORBIS_VERSION != 17
+#error "cinorbis: cinorbis.c is of version 17, and the cinorbis.h that was found is of another"
 #endif
 #if INT_MAX != 2147483647
 #error "cinorbis: int has to have 32 bits"
@@ -6273,7 +6273,7 @@ static uint32_t pumpbox_unpacking_cinorbis_unpack(slice part, slice readings, un
 
 /* pumpbox::lengths::cinorbis_version, crates/pumpbox/src/lengths.rt */
 static uint32_t pumpbox_lengths_cinorbis_version(void) {
-    return 18;
+    return 17;
 }
 
 /* pumpbox::writing::cinorbis_write_record, crates/pumpbox/src/writing.rt */
@@ -6355,9 +6355,9 @@ uint32_t cinorbis_first_order(uint32_t r, uint32_t m, const int16_t *readings,
 /* cinorbis_index_find */
 uint32_t cinorbis_index_find(cinorbis_size number, const uint8_t *capture,
     cinorbis_size capture_length, const cinorbis_size *table, cinorbis_size entries,
-    cinorbis_found *found) {
+    cinorbis_entry *entry) {
     return pumpbox_indexing_cinorbis_index_find(number, slice_of((unsigned char *)capture,
-        capture_length), slice_of((unsigned char *)table, entries), (unsigned char *)found);
+        capture_length), slice_of((unsigned char *)table, entries), (unsigned char *)entry);
 }
 
 /* cinorbis_index_front */

@@ -20,7 +20,7 @@ int main(void) {
     }
     /* what is asked takes the bytes and the entries in use, not the room for them */
     size_t used = (size_t)index.used, entries = ((size_t)index.records + 15) / 16;
-    cinorbis_found found;
+    cinorbis_entry found;
     uint32_t refusal = cinorbis_index_find(37, capture, used, table, entries, &found);
     if (refusal != CINORBIS_DONE)
         return printf("refused %u, %s\n", (unsigned)refusal, cinorbis_refusal_text(refusal)), 1;

@@ -69,7 +69,7 @@ extern "C" {
 
 /* Raised when a call is added or changed. An archive of another version may take other arguments:
  * compare once, at start-up, with cinorbis_version(). */
-#define CINORBIS_VERSION 18
+#define CINORBIS_VERSION 17
 
 #define CINORBIS_LARGEST_M 8u
 /* A reading is from -32767 to 32767: every int16_t except -32768 is a reading, and that one is
@@ -144,7 +144,7 @@ static inline const char *cinorbis_refusal_text(uint32_t refusal) {
                "words";
     case CINORBIS_INPUT_LENGTH: return "an input has the wrong length";
     case CINORBIS_OUTPUT_LENGTH: return "an output has the wrong length, or too little room";
-    case CINORBIS_ENTRY: return "an entry is not a reading (too large, or not whole), or not a bit";
+    case CINORBIS_ENTRY: return "an entry is no reading (too large, or no whole number), or no bit";
     case CINORBIS_NOT_A_WORD: return "no information bits give this word";
     case CINORBIS_OUT_OF_VISITS: return "out of visits";
     case CINORBIS_TIED: return "tied: two words share the least penalty";
@@ -156,10 +156,10 @@ static inline const char *cinorbis_refusal_text(uint32_t refusal) {
     case CINORBIS_NAMED:
         return "the row of named indices has a wrong length or byte, names a frozen index, or "
                "leaves none";
-    case CINORBIS_MARKER: return "the marker is set, as when the link is turned over";
+    case CINORBIS_MARKER: return "the telegram's marker is set, as when the link is turned over";
     case CINORBIS_TILT: return "the telegram's tilt is above 15.00 degrees";
     case CINORBIS_ZERO_TILT: return "the telegram has a direction and no tilt";
-    case CINORBIS_FIELD: return "a cylinder, a direction or a rod position is too large";
+    case CINORBIS_FIELD: return "a field of the telegram is too large";
     default: return "no refusal has this number";
     }
 }
@@ -210,7 +210,7 @@ typedef struct {
     uint64_t start;  /* the packed part starts at capture[start] */
     uint64_t length; /* of the packed part */
     uint64_t place;  /* 0: no record is refused as ENTRY */
-} cinorbis_found;
+} cinorbis_entry;
 
 /* What the tilt head says. All 0 when refused. */
 typedef struct {
@@ -459,7 +459,7 @@ CINORBIS_CALL uint32_t cinorbis_index_front(const uint8_t *capture, cinorbis_siz
  * Promise: index::locate. */
 CINORBIS_CALL uint32_t cinorbis_index_find(cinorbis_size number, const uint8_t *capture,
                                            cinorbis_size capture_length, const cinorbis_size *table,
-                                           cinorbis_size entries, cinorbis_found *found);
+                                           cinorbis_size entries, cinorbis_entry *entry);
 
 /* Writes a record after the used part of a capture's buffer, and its entry into the table if its
  * number is a multiple of 16. The index goes in and comes out; if the call refuses, it stays as it

@@ -1,5 +1,5 @@
 /* The numbers of include/cinorbis.h, written by tools/figures --write. */
-export const VERSION = 18;
+export const VERSION = 17;
 export const LARGEST_M = 8;
 export const LARGEST_READING = 32767;
 export const LARGEST_RECORD_READING = 2047;
@@ -32,6 +32,6 @@ export const STRUCT = {
     written: { next: 0, place: 8, size: 16 },
     index: { records: 0, used: 8, size: 16 },
     front: { records: 0, used: 8, ended: 16, size: 24 },
-    found: { r: 0, m: 8, start: 16, length: 24, place: 32, size: 40 },
+    entry: { r: 0, m: 8, start: 16, length: 24, place: 32, size: 40 },
     telegram: { cylinder: 0, direction: 8, tilt: 16, size: 24 },
 };

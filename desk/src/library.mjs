@@ -21,7 +21,7 @@ const PLACES = {
     numbers: STRUCT.numbers.size,
     telegram: STRUCT.telegram.size,
     front: STRUCT.front.size,
-    found: STRUCT.found.size,
+    entry: STRUCT.entry.size,
     written: STRUCT.written.size,
     bits: LARGEST_N,
     word: LARGEST_N,
@@ -258,8 +258,8 @@ export class Library {
     find(w) {
         const { capture, at, calls } = this;
         const refusal = calls.cinorbis_index_find(
-            BigInt(w), capture.at, capture.used, capture.table, capture.entries, at.found);
-        if (refusal === REFUSAL.DONE) return this.field('found', 'start') - 1;
+            BigInt(w), capture.at, capture.used, capture.table, capture.entries, at.entry);
+        if (refusal === REFUSAL.DONE) return this.field('entry', 'start') - 1;
         if (refusal !== REFUSAL.PAD) throw new Error(`record ${w} is refused as ${refusal}`);
         let start = this.number(capture.table + 8 * (w >> 4));
         for (let i = w & 15; i > 0; i--) start += this.kinds[this.firstByte(start)].length;

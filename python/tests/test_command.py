@@ -57,7 +57,7 @@ def test_show(run, tmp_path):
     assert run("show", path, -1)[1] == out
     over = tmp_path / "over"
     over.write_bytes(c.write_record(2, 5, -telegram.readings(90)))
-    assert "telegram  refused 13: the marker is set" in run("show", over)[1]
+    assert "telegram  refused 13: the telegram's marker is set" in run("show", over)[1]
     for w in (3, -4):
         status, out, err = run("show", path, w)
         assert (status, out) == (1, "") and f"has no record {w}: it has 0 to 2" in err

@@ -150,7 +150,7 @@ static void refusals_by_name(void) {
     named("a tie", search(0, 0, tied, 1, bits, 1, word, 1).refusal, 7, CINORBIS_TIED);
     named("a torn record", cinorbis_record(torn, 1, &part), 8, CINORBIS_TORN);
     named("a pad bit", cinorbis_record(pad, 3, &part), 9, CINORBIS_PAD);
-    cinorbis_found entry;
+    cinorbis_entry entry;
     cinorbis_size no_table[1] = {0};
     named("no entry", cinorbis_index_find(0, pad, 3, no_table, 0, &entry), 10, CINORBIS_NO_ENTRY);
     cinorbis_telegram telegram;

@@ -132,7 +132,7 @@ static cinorbis_size fill(cinorbis_size records) {
 
 static void found(const uint8_t *s, cinorbis_size n, const cinorbis_size *t, cinorbis_size entries,
                   cinorbis_size w) {
-    cinorbis_found e;
+    cinorbis_entry e;
     cinorbis_size start = 0;
     memset(&e, 0xA5, sizeof e);
     uint32_t expected = by_table(s, n, t, entries, w, &start),
@@ -346,7 +346,7 @@ static void pads(void) {
     for (int t = 0; t < 200; t++) {
         cinorbis_size records = 20, n = 3 * records,
                       bad = (cinorbis_size)random_below((int)records), zero = 0;
-        cinorbis_found e;
+        cinorbis_entry e;
         cinorbis_index index;
         scramble();
         for (cinorbis_size w = 0; w < records; w++)

@@ -13,7 +13,7 @@ static cinorbis_telegram telegram;
 static uint64_t position;
 static cinorbis_written written;
 static cinorbis_index made;
-static cinorbis_found entry;
+static cinorbis_entry entry;
 
 /* the length that is given a high half, and that half */
 static int at;

@@ -3,3 +3,5 @@ pub mod BenchFigures
 pub mod LargestReadings
 pub mod RunnerUpFigures
 pub mod RuleNumbers
+-- How deep the walk goes
+pub mod Depth

@@ -7,7 +7,7 @@ use Rattle.record.specs.Reader.{code_of, length_by}
 
 -- raised when a call is added or changed; the header has it too
 abbrev pub version : ℕ
-version = 18
+version = 17
 
 -- n
 abbrev pub length_in : Made → ℕ

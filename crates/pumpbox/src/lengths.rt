@@ -7,7 +7,7 @@ ghost use Rattle.pumpbox.specs.Lengths.{version, length_in, dimension_in, record
 use code::{Code, Made};
 
 // Raised together with the header's.
-const VERSION: u32 = 18;
+const VERSION: u32 = 17;
 
 #[unsafe(no_mangle)]
 pub extern "C" fn cinorbis_version() -> u32

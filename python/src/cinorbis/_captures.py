@@ -22,7 +22,7 @@ from ._telegrams import Telegram, TelegramRead
 from ._words import NUMBERS, Found, dimension, length
 
 _Part, _Written, _Index = struct("part"), struct("written"), struct("index")
-_Entry, _Front = struct("found"), struct("front")
+_Entry, _Front = struct("entry"), struct("front")
 _BLOCK = 16  # records from one entry of the library's table to the next
 _BLOCK_BYTES = _BLOCK * LARGEST_RECORD
 _PIECE = 1 << 20  # bytes of a file that are looked at together

@@ -36,7 +36,7 @@ class Rod:
     >>> Rod.read(7, -readings)
     Traceback (most recent call last):
     ...
-    cinorbis.Refused: refused 13: the marker is set, as when the link is turned over
+    cinorbis.Refused: refused 13: the telegram's marker is set, as when the link is turned over
 
     A word with m = 5 is the word of a telegram, too, and of another length than m no word is read:
     a link that carries both takes another m for the rod.

@@ -42,7 +42,7 @@ class Telegram:
     >>> Telegram.read(-readings)
     Traceback (most recent call last):
     ...
-    cinorbis.Refused: refused 13: the marker is set, as when the link is turned over
+    cinorbis.Refused: refused 13: the telegram's marker is set, as when the link is turned over
     """
 
     cylinder: int
