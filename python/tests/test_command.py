@@ -71,21 +71,18 @@ def test_list(run, tmp_path):
     path = tmp_path / "a"
     path.write_bytes(EXAMPLE * 3 + TIED + EXAMPLE[:5])
     status, out, err = run("list", path)
-    last = "4 refused 8: the record ends before its last byte"
-    assert status == 1 and out.endswith(f"\n{last}\n3 read, 2 refused\n")
+    assert status == 1 and out.endswith("\n3 read, 1 refused\n")
     assert out.splitlines()[0] == "0 RM(1,2) bits 011 penalty 1 gap 1 visits 9"
     stops = "it stops at byte 24 of 29, in record 4: only 5 bytes of it are there"
     assert err == f"cinorbis-capture: {path}: {stops}\n"
     status, out, err = run("list", "--csv", path)
     rows = list(csv.DictReader(io.StringIO(out)))
-    assert [row["refusal"] for row in rows] == ["0", "0", "0", "7", "8"]
-    assert out.splitlines()[-1] == "4,24,,,8,,,,,"
+    assert [row["refusal"] for row in rows] == ["0", "0", "0", "7"]
     assert rows[0]["bits"] == "011" and rows[3]["penalty"] == "0" and rows[3]["byte"] == "21"
     assert run("list", path, "--allowed", 8)[1].count("refused 6") == 3
     path.write_bytes(EXAMPLE + b"\x90")
     status, out, err = run("list", path)
     assert status == 1 and "at byte 7 of 8, in record 1: that byte begins no record" in err
-    assert out.splitlines()[1].startswith("1 refused 1: ") and out.endswith("\n1 read, 1 refused\n")
     (tmp_path / "text").write_text("1 2 5 -2 3 1\n")
     status, out, err = run("list", tmp_path / "text")
     assert status == 0 and "looks like text" in err and out.startswith("0 RM(1,3)")
@@ -142,6 +139,15 @@ def test_telegrams(run, tmp_path):
     status, out, err = run("telegrams", path, "--csv")
     assert status == 0 and "2 left out" in err
     assert out.splitlines() == [
+        "record,cylinder,tilt,to,penalty,gap,refusal",
+        "0,1,2.50,port,0,72,0",
+        "1,2,0.07,starboard,0,72,0",
+        "2,3,0.00,,0,72,0",
+        "3,,,,,,13",
+    ]
+    status, out, err = run("telegrams", path, "--table")
+    assert status == 0 and "2 left out" in err
+    assert out.splitlines() == [
         "record,refusal,cylinder,tilt_degrees,direction,penalty,gap,sure_percent",
         "0,0,1,2.50,port,0,72,100.0",
         "1,0,2,0.07,starboard,0,72,100.0",
@@ -166,7 +172,7 @@ def test_rods(run, tmp_path):
     status, out, err = run("rods", path, "--csv")
     head = "record,refusal,m,position,penalty,gap,sure_percent"
     assert out.splitlines() == [head, "0,0,7,93,0,576,100.0", "2,13,7,,0,576,100.0"]
-    status, out, err = run("telegrams", path, "--csv")
+    status, out, err = run("telegrams", path, "--table")
     assert out.splitlines()[1:] == ["1,0,2,1.25,port,0,72,100.0", "3,13,,,,0,72,100.0"]
     assert "RM(2,5) are no telegrams: 3 left out" in err
     status, out, err = run("list", path, "--messages")
@@ -196,7 +202,7 @@ def test_rods(run, tmp_path):
 def test_the_pages_table(run, command, folder):
     """The stored tables, which the page's own code is compared with (tests/desk/calls.mjs)."""
     stored = TOP / "tests" / folder
-    status, out, err = run(command, stored / "capture.bin", "--csv")
+    status, out, err = run(command, stored / "capture.bin", "--table")
     assert status == 0 and out == (stored / "table.csv").read_text()
 
 
@@ -243,7 +249,7 @@ def test_pipes(tmp_path):
     assert (full.returncode, full.stderr) == (1, line)
     command = [sys.executable, "-m", "cinorbis", "list", "-"]
     piped = subprocess.run(command, input=EXAMPLE + b"\x21", capture_output=True)
-    assert piped.returncode == 1 and piped.stdout.endswith(b"1 read, 1 refused\n")
+    assert piped.returncode == 1 and piped.stdout.endswith(b"1 read, 0 refused\n")
     assert b"at byte 7 of 8" in piped.stderr
 
 

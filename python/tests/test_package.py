@@ -23,6 +23,8 @@ def test_header_is_the_projects():
     made = [sys.executable, TOP / "tools/header.py", "python"]
     text = subprocess.run(made, capture_output=True, text=True, check=True).stdout
     assert text == Path(_header.__file__).read_text()
+    declared = re.findall(r"\b(cinorbis_\w+)\(", (TOP / "include/cinorbis.h").read_text())
+    assert set(_header.CALLS) == set(declared) - {"cinorbis_refusal_text"}
     assert cinorbis.__version__ == f"{_header.VERSION}.{(TOP / 'RELEASE').read_text().strip()}" == version("cinorbis")
 
 
@@ -78,6 +80,18 @@ def test_everything_public_has_words():
     for name in cinorbis.__all__:
         one = getattr(cinorbis, name)
         assert not callable(one) or one.__doc__, name
+
+
+def test_lines_to_be_believed():
+    """How many lines docs/TRUST.md says that the package has."""
+
+    def lines(*paths):
+        return sum(bool(one.strip()) for path in paths for one in path.read_text().splitlines())
+
+    source, rows = TOP / "python/src/cinorbis", TOP / "python/native/rows.c"
+    trust = re.sub(r"<!--.*?-->", "", (TOP / "docs/TRUST.md").read_text())
+    assert f"`python/src/cinorbis`, {lines(*source.glob('*.py')):,} lines" in trust
+    assert f"`python/native/rows.c`, {lines(rows):,} lines" in trust
 
 
 def test_types():

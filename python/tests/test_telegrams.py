@@ -115,7 +115,7 @@ def test_no_signed_tilt():
 def test_shown():
     assert str(Telegram(5, 12.34, "port")) == "cylinder 5, 12.34 degrees to port"
     assert str(Telegram(3, 0.07, "starboard")) == "cylinder 3, 0.07 degrees to starboard"
-    assert str(Telegram(3, 0)) == "cylinder 3, level"
+    assert str(Telegram(3, 0)) == "cylinder 3, 0.00 degrees"
     assert Telegram(3, 0, "starboard") == Telegram(3, 0) and Telegram(3, 0).to is None
     assert Telegram(3, 0.1 + 0.2, "port") == Telegram(3, 0.3, "port")
     for size in (0, -1, 32768):

@@ -262,6 +262,8 @@ def test_words_many_is_one_by_one():
 
 
 LONG = {
+    "threads=1": "cinorbis.search_many(4, 8, rows, threads=1)",
+    "threads=2": "cinorbis.search_many(4, 8, rows, threads=2)",
     "one": "cinorbis.search(4, 8, rows[0], allowed=most)",
     "record": "cinorbis.Record.first(data).search(allowed=most)",
     "records": "list(cinorbis.Capture.of(data * 3).answers(allowed=most))",

@@ -17,7 +17,7 @@ import numpy as np
 from . import Answer, Capture, Record, Refusal, Refused, Rod, Telegram
 from . import DEFAULT_ALLOWANCE, dimension, encode_many, record_length
 from ._arrays import text
-from ._said import RODS, TELEGRAMS, kind_of, row_of, said
+from ._said import RODS, TELEGRAMS, Said, kind_of, row_of, said
 
 # not `cinorbis`, which is the proved program
 SCRIPT = "cinorbis-capture"
@@ -195,7 +195,7 @@ def list_(given: argparse.Namespace) -> int:
         table = csv.writer(sys.stdout, lineterminator="\n")
         if given.csv:
             table.writerow(LIST + ["message"] * given.messages)
-        refused = int(capture.torn is not None)  # what stops it counts, as in the program's total
+        refused = 0
         for one in answers(capture, given.allowed):
             refused += one.refused is not None
             message = list_message(one, given.allowed) if given.messages else ""
@@ -208,18 +208,23 @@ def list_(given: argparse.Namespace) -> int:
                 numbers = f"penalty {found.penalty} gap {found.gap} visits {found.visits}"
                 line = f"{one.number} RM({one.r},{one.m}) bits {text(found.bits)} {numbers}"
             print(f"{line}; {message}" if message else line)
-        whole = len(capture)
-        if capture.torn and given.csv:
-            empty = [""] * (5 + given.messages)
-            table.writerow([whole, capture.used, "", "", capture.torn.number] + empty)
-        elif capture.torn:
-            print(f"{whole} {capture.torn}")
         if not given.csv:
-            print(f"{whole + bool(capture.torn) - refused} read, {refused} refused")
+            print(f"{len(capture) - refused} read, {refused} refused")
         return tear(capture, given.capture)
 
 
 # ---- telegrams and rod positions
+
+TILTS = ["record", "cylinder", "tilt", "to", "penalty", "gap", "refusal"]
+
+
+def tilt_row(number: int, one: Said) -> list[Any]:
+    """A telegram as the columns of TILTS: the tilt has no sign, and its direction is a word."""
+    telegram = one.message
+    if not isinstance(telegram, Telegram):
+        return [number, "", "", "", "", "", one.refused.number if one.refused else ""]
+    tilt = f"{telegram.hundredths // 100}.{telegram.hundredths % 100:02}"
+    return [number, telegram.cylinder, tilt, telegram.to or "", one.penalty, one.gap, 0]
 
 
 def told(given: argparse.Namespace, kind: str, columns: list[str], others: str) -> int:
@@ -227,8 +232,9 @@ def told(given: argparse.Namespace, kind: str, columns: list[str], others: str) 
     draw = plotter(kind) if given.plot else None
     with opened(given.capture) as capture:
         table = csv.writer(sys.stdout, lineterminator="\n")
-        if given.csv:
-            table.writerow(columns)
+        tilts = given.csv and not given.table and kind == "telegram"
+        if given.csv or given.table:
+            table.writerow(TILTS if tilts else columns)
         points: list[tuple[int, Any]] = []
         left = 0
         for one in records(capture):
@@ -237,8 +243,8 @@ def told(given: argparse.Namespace, kind: str, columns: list[str], others: str) 
                 continue
             what = said(one.r, one.m, one.readings, given.allowed)
             points.append((one.number, what.message))
-            if given.csv:
-                table.writerow(row_of(one.number, what))
+            if given.csv or given.table:
+                table.writerow(tilt_row(one.number, what) if tilts else row_of(one.number, what))
             elif not given.plot:
                 print(f"{one.number} {what}" + ("" if what.refused else f", gap {what.gap}"))
         if left:
@@ -421,6 +427,8 @@ def parser() -> argparse.ArgumentParser:
     ):
         one = of_capture(name, what, summary) if what == rods else searched(name, what, summary)
         one.add_argument("--csv", action="store_true", help=table)
+        page = "as the table that the desk page saves"
+        one.add_argument("--table", action="store_true", help=page)
         picture = "draw them, to an .svg, .png or .pdf (needs matplotlib)"
         one.add_argument("--plot", metavar="FILE", help=picture)
     of_capture("readings", readings, "back to the text that sample/pack takes")

@@ -89,10 +89,8 @@ class Telegram:
         return clean(self.word(), size)
 
     def __str__(self) -> str:
-        if not self.to:
-            return f"cylinder {self.cylinder}, level"
         tilt = f"{self.hundredths // 100}.{self.hundredths % 100:02}"
-        return f"cylinder {self.cylinder}, {tilt} degrees to {self.to}"
+        return f"cylinder {self.cylinder}, {tilt} degrees" + (f" to {self.to}" if self.to else "")
 
     @classmethod
     def read(
