@@ -1,0 +1,17 @@
+-- `float_rows::upper_row`: after j passes the new row has its first j sums.
+use mathlib.Core.Path.{◌≡◌}
+use Prim.Native.Nat.{◌+◌, ◌-◌, ◌≤◌}
+use lib.ListN.{length, take}
+use lib.Seq.{paste}
+use Rattle.decoding.specs.Quick.{upper_row}
+use Rattle.rows.specs.Rows.{row_of}
+use Rattle.float_numbers.specs.Whole.{wholes}
+use Rattle.float_rows.proofs.upper_row.Given as goal
+
+abbrev pub invariant-loop-j : goal.invariant-loop-j
+invariant-loop-j l =
+    (l.j ≤ l.h) × (wholes l.rows ≡ paste (wholes l.initial.rows) l.h (upper_row l.h (row_of (l.h + l.h) (wholes l.initial.rows)) (take l.h l.word)) l.j)
+    × (length l.rows ≡ length l.initial.rows)
+
+abbrev pub decreases-loop-j : goal.decreases-loop-j
+decreases-loop-j l = l.h - l.j

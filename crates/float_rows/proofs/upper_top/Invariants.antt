@@ -1,0 +1,16 @@
+-- `float_rows::upper_top`: after j passes the new row has its first j sums.
+use mathlib.Core.Path.{◌≡◌}
+use Prim.Native.Nat.{◌-◌, ◌≤◌}
+use lib.ListN.{length, take}
+use lib.Seq.{paste}
+use Rattle.decoding.specs.Quick.{upper_row}
+use Rattle.float_numbers.specs.Whole.{wholes}
+use Rattle.float_rows.proofs.upper_top.Given as goal
+
+abbrev pub invariant-loop-j : goal.invariant-loop-j
+invariant-loop-j l =
+    (l.j ≤ l.h) × (wholes l.rows ≡ paste (wholes l.initial.rows) l.h (upper_row l.h (wholes l.readings) (take l.h l.word)) l.j)
+    × (length l.rows ≡ length l.initial.rows)
+
+abbrev pub decreases-loop-j : goal.decreases-loop-j
+decreases-loop-j l = l.h - l.j
