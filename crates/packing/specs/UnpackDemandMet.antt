@@ -3,7 +3,6 @@ use Rattle.std.specs.Prelude.{◌≡◌, refl, List, [], ℕ, zero, suc, ◌^◌
 use Rattle.std.proofs.Common.{ap, subst, sym, ◌∙◌, inl, inr, arith, eq-eqb, ne_eqb}
 use Rattle.std.proofs.Math.Decide.{ℕ_discrete}
 use Rattle.code.specs.Sound.{largest_m}
-use Rattle.code.specs.Demand1.{refused_as}
 use Rattle.code.specs.Demand1Laws.{Decides, demand_1}
 use Rattle.packing.specs.Layout.{part_length, readings_in}
 use Rattle.packing.specs.Unpacking.{UnpackedOutcome, unpacking}

@@ -14,7 +14,7 @@ use code::{Code, Completed, Refusal};
 
 // What unpacking answers: the readings are there, or why not.
 // How many bytes follow a record's first.
-pub fn part_length_lem(code: Code) -> usize
+pub fn part_length(code: Code) -> usize
     requires { Sound code }
     ensures { result ≡ part_length code.m }
 {
@@ -128,7 +128,7 @@ fn readings_in(bytes: usize) -> usize
     while 0 < m {
         m -= 1;
         let code = Code { r: 0, m };
-        if bytes == part_length_lem(code) {
+        if bytes == part_length(code) {
             return code.length();
         }
     }

@@ -42,7 +42,7 @@ pub fn record_length(first: u8) -> usize
     ensures { result ≡ length_by (code_of first) }
 {
     match code_of(first) {
-        Made::Good(code) => 1 + packing::part_length_lem(code),
+        Made::Good(code) => 1 + packing::part_length(code),
         Made::Bad => 0,
     }
 }
@@ -52,7 +52,7 @@ fn header_for(s: &[u8], code: Code) -> Header
     requires { Sound code × (0 < length s.now) }
     ensures { result ≡ headed_by (Made.Good code) s.now }
 {
-    if s.len() - 1 < packing::part_length_lem(code) {
+    if s.len() - 1 < packing::part_length(code) {
         return Header::Refused(Refusal::Torn);
     }
     if code.m == 0 {
@@ -90,7 +90,7 @@ pub fn packed(s: &[u8]) -> &[u8]
 {
     match read_header(s) {
         Header::Record(code) => {
-            let end = 1 + packing::part_length_lem(code);
+            let end = 1 + packing::part_length(code);
             &s[1..end]
         }
         Header::Refused(_) => &s[..0],
@@ -124,7 +124,7 @@ pub fn search_headed(
 {
     let mut readings = [0i16; 256];
     let n = code.length();
-    let end = 1 + packing::part_length_lem(code);
+    let end = 1 + packing::part_length(code);
     packing::put_readings(&s[1..end], &mut readings[0..n]);
     search::search_within(code.r, code.m, allowed, &readings[0..n], bits, word)
 }
@@ -147,7 +147,7 @@ pub fn writable(r: u32, m: u32, readings: &[i16], bytes: usize, place: usize) ->
     if bytes < place {
         return Admitted::Refused(Refusal::OutputLength);
     }
-    if bytes - place < 1 + packing::part_length_lem(code) {
+    if bytes - place < 1 + packing::part_length(code) {
         return Admitted::Refused(Refusal::OutputLength);
     }
     Admitted::Allowed(code)
@@ -171,7 +171,7 @@ pub fn write(r: u32, m: u32, readings: &[i16], buffer: &mut [u8], place: usize) 
 {
     match writable(r, m, readings, buffer.len(), place) {
         Admitted::Allowed(code) => {
-            let end = place + (1 + packing::part_length_lem(code));
+            let end = place + (1 + packing::part_length(code));
             put_record(code, readings, &mut buffer[place..end]);
             Written::Next(end)
         }

@@ -7,10 +7,10 @@ use mir.Val.{SFits, to_z, of_z}
 use mir.Facts.{to_z-of_z}
 use Rattle.numbers.specs.PartsLaws.{fits_size}
 use Rattle.packing.specs.LayoutLaws.{raised, raised-sum, raised_small, raised-field}
-use Rattle.packing.proofs.field_of.Statement.{statement}
-use Rattle.packing.proofs.field_of.Tie as tie
+use Rattle.packing.proofs.field_of.Goals as goal
+use Rattle.packing.proofs.field_of.Goals.{Start}
 
-module _ (c : tie.Start) where
+module _ (c : Start) where
   sum : to_z w16 (of_z w16 c.args.reading) +ℤ pos 4096 ≡ pos (raised c.args.reading)
   sum = rw (to_z-of_z c.ranges.reading) (raised-sum c.args.reading c.requires)
 
@@ -20,14 +20,11 @@ module _ (c : tie.Start) where
   result : to_z w16 (of_z w16 (to_z w16 (of_z w16 c.args.reading) +ℤ pos 4096)) ≡ pos (raised c.args.reading)
   result = ap (λ (z : ℤ). to_z w16 (of_z w16 z)) sum ∙ to_z-of_z fits
 
-add-result : tie.Need-overflow-add-result
-add-result c = rw (sum c) (fits c)
+pub overflow_add-result : goal.overflow_add-result
+overflow_add-result c = rw (sum c) (fits c)
 
-cast-result : tie.Need-overflow-cast-result
-cast-result c = rw (result c) (tt, omega (arith, raised_small c.args.reading c.requires))
+pub overflow_cast-result : goal.overflow_cast-result
+overflow_cast-result c = rw (result c) (tt, omega (arith, raised_small c.args.reading c.requires))
 
-returns : tie.Need-returns
+pub returns : goal.returns
 returns c = rw (result c) (raised-field c.args.reading c.requires, omega arith)
-
-pub field-of-spec : {M : Type 1} → statement M
-field-of-spec = tie.close (tie.spec add-result cast-result returns)
