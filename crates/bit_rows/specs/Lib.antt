@@ -1,12 +1,9 @@
 -- Rows of bits: the transform by folds, layers and eights; filling and picking; what the functions require
 pub mod Fold
-pub mod FoldLaws
 pub mod Layers
 pub mod BlockLaws
-pub mod LayerLaws
 pub mod Eight
 pub mod EightLaws
-pub mod SixteenLaws
 pub mod FillLaws
 pub mod Pick
 pub mod PickLaws

@@ -2,7 +2,7 @@
 use mathlib.Core.Path.{◌∙◌}
 use Prim.Native.Nat.{◌+◌}
 use Rattle.bit_rows.specs.Fold.{folded}
-use Rattle.bit_rows.specs.FoldLaws.{on_all}
+use Rattle.bit_rows.proofs.FoldLaws.{on_all}
 use Rattle.bit_rows.proofs.fold.Goals as goal
 
 pub returns : goal.returns

@@ -4,7 +4,7 @@ use Prim.Native.Nat.{◌+◌, zero-le}
 use native.Mathlib.Omega.{arith}
 use lib.ListN.{length-set}
 use Rattle.numbers.specs.Front.{front}
-use Rattle.bit_rows.specs.FoldLaws.{sums, unread, pass, all-passes}
+use Rattle.bit_rows.proofs.FoldLaws.{sums, unread, pass, all-passes}
 use Rattle.bit_rows.proofs.fold_front.Goals as goal
 
 pub loop-j-init : goal.loop-j-init

@@ -3,7 +3,7 @@ use mathlib.Core.Path.{◌≡◌}
 use Prim.Native.Nat.{◌-◌, ◌≤◌}
 use lib.ListN.{length}
 use Rattle.numbers.specs.Front.{front}
-use Rattle.bit_rows.specs.FoldLaws.{sums}
+use Rattle.bit_rows.proofs.FoldLaws.{sums}
 use Rattle.bit_rows.proofs.fold_front.Given as goal
 
 abbrev pub invariant-loop-j : goal.invariant-loop-j

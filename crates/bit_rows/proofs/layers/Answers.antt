@@ -1,7 +1,7 @@
 -- The loop's invariant is `Layering`: what the layers that are left give is what all give.
 use mathlib.Core.Path.{refl}
 use native.Mathlib.Omega.{arith}
-use Rattle.bit_rows.specs.LayerLaws.{layer_asked, next-layer, last-layer}
+use Rattle.bit_rows.proofs.LayerLaws.{layer_asked, next-layer, last-layer}
 use Rattle.bit_rows.proofs.layers.Goals as goal
 
 pub loop-left-init : goal.loop-left-init

@@ -1,5 +1,5 @@
 -- The loop's invariant is `Layering`: what the layers that are left give is what all give.
-use Rattle.bit_rows.specs.LayerLaws.{Layering}
+use Rattle.bit_rows.proofs.LayerLaws.{Layering}
 use Rattle.bit_rows.proofs.layers.Given as goal
 
 abbrev pub invariant-loop-left : goal.invariant-loop-left

@@ -11,8 +11,8 @@ use Rattle.words.specs.Word.{transform}
 use Rattle.bit_rows.specs.Layers.{layers}
 use Rattle.bit_rows.specs.Eight.{unpacked, bytes_added, pairs_added, fours_added}
 use Rattle.bit_rows.specs.BlockLaws.{keeps_transform, length-blocks, bits_blocks}
-use Rattle.bit_rows.specs.LayerLaws.{layers_double}
-use Rattle.bit_rows.specs.SixteenLaws.{eight_put}
+use Rattle.bit_rows.proofs.LayerLaws.{layers_double}
+use Rattle.bit_rows.proofs.SixteenLaws.{eight_put}
 use Rattle.bit_rows.proofs.put_row.Goals as goal
 
 pub transform-requires : goal.transform-requires

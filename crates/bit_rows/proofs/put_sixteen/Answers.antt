@@ -4,7 +4,7 @@ use Prim.Native.Nat.{ℕ}
 use Rattle.bit_rows.specs.Eight.{unpacked, bytes_added, pairs_added, fours_added}
 use Rattle.numbers.specs.Lent.{lent_from}
 use Rattle.bit_rows.specs.EightLaws.{three_layers}
-use Rattle.bit_rows.specs.SixteenLaws.{sixteen_put}
+use Rattle.bit_rows.proofs.SixteenLaws.{sixteen_put}
 use Rattle.bit_rows.proofs.put_sixteen.Goals as goal
 
 pub returns : goal.returns

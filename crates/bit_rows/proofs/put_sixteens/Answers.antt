@@ -2,7 +2,7 @@
 use native.Mathlib.Omega.{arith}
 use Rattle.words.specs.Word.{transform}
 use Rattle.bit_rows.specs.BlockLaws.{keeps_transform}
-use Rattle.bit_rows.specs.SixteenLaws.{first_put, put_asked, next_put, last_put}
+use Rattle.bit_rows.proofs.SixteenLaws.{first_put, put_asked, next_put, last_put}
 use Rattle.bit_rows.proofs.put_sixteens.Goals as goal
 
 pub loop-at-init : goal.loop-at-init

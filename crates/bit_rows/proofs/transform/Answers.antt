@@ -8,7 +8,7 @@ use Rattle.words.specs.Bits.{Bits}
 use Rattle.words.specs.Word.{transform}
 use Rattle.bit_rows.specs.Layers.{layers}
 use Rattle.bit_rows.specs.BlockLaws.{keeps_transform, length-blocks, bits_blocks}
-use Rattle.bit_rows.specs.LayerLaws.{layers_double, layers-transform}
+use Rattle.bit_rows.proofs.LayerLaws.{layers_double, layers-transform}
 use Rattle.bit_rows.proofs.transform.Goals as goal
 
 pub returns-then-m-lt3 : goal.returns-then-m-lt3

@@ -13,7 +13,7 @@ use Rattle.words.specs.Word.{transform}
 use Rattle.words.specs.TransformLaws.{bits_transform, bits_take, bits_drop}
 use Rattle.bit_rows.specs.Layers.{blocks}
 use Rattle.bit_rows.specs.BlockLaws.{Keeps, blocks_end, blocks_more}
-use Rattle.bit_rows.specs.LayerLaws.{joined_words}
+use Rattle.bit_rows.proofs.LayerLaws.{joined_words}
 use Rattle.bit_rows.specs.Eight.{unpacked}
 use Rattle.bit_rows.specs.EightLaws.{three_layers, eight_word}
 
