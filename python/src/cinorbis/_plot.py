@@ -15,7 +15,7 @@ from matplotlib import pyplot  # noqa: E402
 
 def _side(height: float, _: object = None) -> str:
     towards = "to port" if height < 0 else "to starboard"
-    return f"{abs(height):g} {towards}" if height else "level"
+    return f"{abs(height):g} {towards}" if height else "0"
 
 
 def _drawn(
