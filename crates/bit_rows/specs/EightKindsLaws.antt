@@ -19,8 +19,8 @@ use Rattle.numbers.specs.Lent.{lent_from}
 use Rattle.words.specs.Bits.{Bits, digit, ones}
 use Rattle.words.specs.BitLaws.{ones-counted}
 use Rattle.words.specs.Kinds.{kind, kinds, fill}
-use Rattle.words.specs.KindLaws.{length-kinds}
-use Rattle.words.specs.FillLaws.{length-fill}
+use Rattle.words.proofs.KindLaws.{length-kinds}
+use Rattle.words.proofs.FillLaws.{length-fill}
 use Rattle.bit_rows.specs.EightKinds.{eight_kinds, Fillable}
 
 -- ---- the ones of an index, of which the lowest three digits are j

@@ -15,7 +15,7 @@ use Rattle.numbers.specs.Lent.{lent_from, back_from}
 use Rattle.words.specs.Bits.{Bits}
 use Rattle.words.specs.TransformLaws.{bits_take, bits_drop}
 use Rattle.words.specs.Kinds.{pick}
-use Rattle.words.specs.FillLaws.{length-pick}
+use Rattle.words.proofs.FillLaws.{length-pick}
 use Rattle.bit_rows.specs.Pick.{pick_front, Pickable}
 
 -- ---- a part p of the kinds, and then q

@@ -6,7 +6,7 @@ use borrow.Author.Tests.{le-leb, lt-leb}
 use Rattle.numbers.specs.Choice.{lt_or_le}
 use Rattle.words.specs.BitLaws.{ones-counted}
 use Rattle.words.specs.Kinds.{kind, dimension}
-use Rattle.words.specs.KindLaws.{dimension_most}
+use Rattle.words.proofs.KindLaws.{dimension_most}
 use Rattle.code.specs.declared.Code.{Code}
 use Rattle.code.specs.declared.Made.TheVariants.{Good, Bad}
 use Rattle.code.specs.Sound.{Sound, made, largest_m, rm}

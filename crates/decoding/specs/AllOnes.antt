@@ -12,8 +12,8 @@ use Rattle.words.specs.Bits.{Bits}
 use Rattle.words.specs.Word.{transform}
 use Rattle.words.specs.Kinds.{Word, all_ones}
 use Rattle.words.specs.TransformLaws.{bits_more, length-transform, bits_transform, transform-twice}
-use Rattle.words.specs.AllOnesLaws.{zero-early}
-use Rattle.words.specs.InverseLaws.{word-length, word_bits, word_frozen}
+use Rattle.words.proofs.AllOnesLaws.{zero-early}
+use Rattle.words.proofs.InverseLaws.{word-length, word_bits, word_frozen}
 use Rattle.decoding.specs.Readings.{loss, turn, turns}
 use Rattle.decoding.specs.Quick.{hard}
 use Rattle.decoding.specs.Walk.{value, State, start, dropped, visited, finished, extend, walk, walked, needed}

@@ -14,7 +14,7 @@ use Rattle.numbers.specs.LeastLaws.{upto, least_two, least_le_next}
 use Rattle.numbers.specs.EntryLaws.{least-below, least-entry, first_with_lem, counted_once, once_counted}
 use Rattle.words.specs.Bits.{Bits}
 use Rattle.words.specs.Kinds.{all_bits, InformationBits}
-use Rattle.words.specs.FillLaws.{length-all_bits, in_all_bits, of_all_bits, distinct_all_bits}
+use Rattle.words.proofs.FillLaws.{length-all_bits, in_all_bits, of_all_bits, distinct_all_bits}
 use Rattle.decoding.specs.Best.{penalty_of, penalties, least_penalty, gap, best_bits}
 
 module _ (m : ℕ) (ks : List ℕ) (l : List ℤ) where

@@ -1,15 +1,9 @@
 -- Examples that show why the rules are as they are, computed from the definitions, as one statement.
-use Rattle.std.specs.Prelude.{◌≡◌, refl, List, [], ◌∷◌, ℕ, zero, suc, ◌^◌, ℤ, pos, negsuc, length}
-use Rattle.std.proofs.Common.{sym, ◌∙◌, arith}
-use Rattle.numbers.specs.Sums.{total, tabulate, sum}
-use Rattle.numbers.specs.Least.{least, without, next, first_with}
-use Rattle.words.specs.Bits.{Bits, digit, ones}
-use Rattle.words.specs.Word.{transform}
-use Rattle.words.specs.Kinds.{kind, kinds, encoded, all_bits, Word}
-use Rattle.decoding.specs.Readings.{penalty, turns}
-use Rattle.decoding.specs.Best.{penalties, least_penalty, gap, best_bits, best_word}
+use Rattle.std.specs.Prelude.{◌≡◌, List, [], ◌∷◌, ℕ, ◌^◌, ℤ, pos, negsuc, length}
+use Rattle.words.specs.Kinds.{kinds, encoded, Word}
+use Rattle.decoding.specs.Readings.{turns}
 use Rattle.decoding.specs.Quick.{lower, upper, quick_word, quick_bits, quick_penalty}
-use Rattle.decoding.specs.Walk.{value, Full, two, start, walk, walked, needed}
+use Rattle.decoding.specs.Walk.{Full, value, two, start, walk, walked, needed}
 use Rattle.decoding.specs.Answer.{found, out_of_visits, answer}
 
 -- 5, -2, 3, 1
@@ -62,50 +56,6 @@ pub record Examples : Type 0 where
   pub quick_penalty_lem : quick_penalty 3 (kinds 1 3) quick_misses ≡ 1
   pub best_missed : answer 3 (kinds 1 3) quick_misses 21 ≡ found (1 ∷ 0 ∷ 0 ∷ 0 ∷ []) (1 ∷ 1 ∷ 1 ∷ 1 ∷ 0 ∷ 0 ∷ 0 ∷ 0 ∷ []) 0 1 21
 
-pub examples : Examples
-unfolding kinds kind ones digit tabulate total sum transform all_bits penalty penalties least_penalty gap best_bits best_word
-    least without next first_with value walk walked answer quick_word quick_bits quick_penalty
-examples =
-    record {
-      lower_differ = refl;
-      lower_same = refl;
-      lower-zero = refl;
-      upper_added = refl;
-      upper_taken = refl;
-      out_12 = refl;
-      halves_11 = refl;
-      quick_11 = refl;
-      before-second = refl;
-      second_12 = refl;
-      word-turned = refl;
-      visits_25 = refl;
-      visits_21 = refl;
-      value-zero = refl;
-      equal_pair = refl;
-      then_better = refl;
-      answer_better = refl;
-      quick_bits_lem = refl;
-      quick-word = refl;
-      quick_penalty_lem = refl;
-      best_missed = refl;
-    }
-
 -- ---- a slip that is refuted: equal visits without demand 3's premise
 abbrev pub EqualVisits : Type 0
 EqualVisits = (r m : ℕ) (l : List ℤ) (c : List ℕ) → length l ≡ 2 ^ m → Word m (kinds r m) c → needed m (kinds r m) (turns c l) ≡ needed m (kinds r m) l
-
-bits_0100 : Bits (0 ∷ 1 ∷ 0 ∷ 0 ∷ [])
-bits_0100 zero = omega arith
-bits_0100 (suc zero) = omega arith
-bits_0100 (suc (suc zero)) = omega arith
-bits_0100 (suc (suc (suc zero))) = omega arith
-bits_0100 (suc (suc (suc (suc i)))) = omega arith
-
-word_11001100 : Word 3 (kinds 1 3) (1 ∷ 1 ∷ 0 ∷ 0 ∷ 1 ∷ 1 ∷ 0 ∷ 0 ∷ [])
-unfolding kinds kind ones digit tabulate sum
-word_11001100 = record { bits = 0 ∷ 1 ∷ 0 ∷ 0 ∷ []; long = refl; are_bits = bits_0100; gives = examples.word-turned }
-
--- 21 visits are not 25
-pub visits_differ : EqualVisits → ⊥
-visits_differ equal =
-    omega (arith, sym examples.visits_21 ∙ equal 1 3 zero_met (1 ∷ 1 ∷ 0 ∷ 0 ∷ 1 ∷ 1 ∷ 0 ∷ 0 ∷ []) refl word_11001100 ∙ examples.visits_25)

@@ -22,7 +22,6 @@ pub mod TreeLaws
 -- Blocks of indices, and runs of frozen ones
 pub mod Blocks
 pub mod BlockLaws
-pub mod RunLaws
 -- The walk under an allowance, and the search's answer
 pub mod Allowance
 pub mod Answer
@@ -40,10 +39,7 @@ pub mod AllOnes
 pub mod PolarityLaws
 -- What the gap is good for, and readings without noise
 pub mod GapLaws
-pub mod GapReachedLaws
 pub mod CleanLaws
 -- The demands, that they are met, and examples
 pub mod Demands
-pub mod DemandsMet
 pub mod Examples
-pub mod NeverZeroExamples

@@ -8,10 +8,10 @@ use Rattle.std.proofs.Math.IntN.{neg_ℤ}
 use Rattle.words.specs.Bits.{Bits, xors}
 use Rattle.words.specs.Kinds.{kinds, encoded, Frozen, Word, all_ones}
 use Rattle.words.specs.TransformLaws.{length-xors, bits_xors, xors-twice, xors_undo}
-use Rattle.words.specs.KindLaws.{length-kinds, bits_kinds, sum_kinds_pos}
-use Rattle.words.specs.InverseLaws.{word-length, word_bits, word_frozen, frozen_word, word-xors}
-use Rattle.words.specs.HalfLaws.{below-ones, word_ones}
-use Rattle.words.specs.AllOnesLaws.{not-zero-last}
+use Rattle.words.proofs.KindLaws.{length-kinds, bits_kinds, sum_kinds_pos}
+use Rattle.words.proofs.InverseLaws.{word-length, word_bits, word_frozen, frozen_word, word-xors}
+use Rattle.words.proofs.HalfLaws.{below-ones, word_ones}
+use Rattle.words.proofs.AllOnesLaws.{not-zero-last}
 use Rattle.decoding.specs.Readings.{penalty, turns}
 use Rattle.decoding.specs.Best.{least_penalty, gap, best_bits, best_word}
 use Rattle.decoding.specs.BestLaws.{none_less, best_bits_are, best_attains, others_more}

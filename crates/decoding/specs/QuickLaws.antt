@@ -12,7 +12,7 @@ use Rattle.words.specs.Bits.{Bits, xors}
 use Rattle.words.specs.Word.{transform}
 use Rattle.words.specs.Kinds.{encoded, Frozen, Word}
 use Rattle.words.specs.TransformLaws.{length-xors, xors-twice, bits_xors, bits_append, length-transform, bits_transform, transform-xors, transform-twice}
-use Rattle.words.specs.FillLaws.{length-pick, bits_pick, fill-pick}
+use Rattle.words.proofs.FillLaws.{length-pick, bits_pick, fill-pick}
 use Rattle.decoding.specs.Quick.{lower_row, upper_row, decide, quick_word, quick_bits, quick_penalty}
 use Rattle.decoding.specs.Walk.{value}
 use Rattle.decoding.specs.Best.{least_penalty}

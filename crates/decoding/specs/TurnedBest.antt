@@ -16,8 +16,8 @@ use Rattle.numbers.specs.EntryLaws.{map_same}
 use Rattle.words.specs.Bits.{Bits, xors}
 use Rattle.words.specs.Kinds.{encoded, all_bits, Word}
 use Rattle.words.specs.TransformLaws.{length-xors, bits_xors}
-use Rattle.words.specs.FillLaws.{of_all_bits}
-use Rattle.words.specs.InverseLaws.{encoded-xors, word-length, word_bits}
+use Rattle.words.proofs.FillLaws.{of_all_bits}
+use Rattle.words.proofs.InverseLaws.{encoded-xors, word-length, word_bits}
 use Rattle.decoding.specs.Readings.{penalty, turns}
 use Rattle.decoding.specs.Best.{penalty_of, penalties, least_penalty, gap, best_bits, best_word}
 use Rattle.decoding.specs.BestLaws.{length_best, bits_best, best_attains, best_only}

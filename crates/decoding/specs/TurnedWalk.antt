@@ -13,7 +13,7 @@ use Rattle.words.specs.Bits.{Bits, xors}
 use Rattle.words.specs.Word.{transform}
 use Rattle.words.specs.Kinds.{fill, Word}
 use Rattle.words.specs.TransformLaws.{bits_more}
-use Rattle.words.specs.FillLaws.{length-fill, bits_fill, frozen_fill}
+use Rattle.words.proofs.FillLaws.{length-fill, bits_fill, frozen_fill}
 use Rattle.decoding.specs.Readings.{loss, turn, turns}
 use Rattle.decoding.specs.Quick.{hard}
 use Rattle.decoding.specs.Walk.{value, State, start, dropped, visited, finished, extend, walk, walked, NeverZero}

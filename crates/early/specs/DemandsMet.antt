@@ -4,7 +4,7 @@ use Rattle.std.proofs.Common.{ap, sym, ◌∙◌, ⊎_elim, arith, le_refl, eq-e
 use Rattle.std.proofs.Math.Decide.{ℕ_discrete}
 use Rattle.numbers.specs.Choice.{lt_or_le, cond_by}
 use Rattle.words.specs.Kinds.{kinds, dimension, Word}
-use Rattle.words.specs.KindLaws.{sum_kinds_pos}
+use Rattle.words.proofs.KindLaws.{sum_kinds_pos}
 use Rattle.decoding.specs.Readings.{turns}
 use Rattle.decoding.specs.Quick.{quick_word, quick_bits, quick_penalty}
 use Rattle.decoding.specs.Best.{least_penalty, gap, best_bits, best_word}
@@ -12,7 +12,7 @@ use Rattle.decoding.specs.Walk.{start, needed, tree, NeverZero}
 use Rattle.decoding.specs.Answer.{Answer, found, tied, out_of_visits, answer}
 use Rattle.decoding.specs.AnswerLaws.{answer_out, answer_tied, answer-found}
 use Rattle.decoding.specs.Demands.{BestFound}
-use Rattle.decoding.specs.DemandsMet.{demands_code}
+use Rattle.decoding.proofs.DemandsMet.{demands_code}
 use Rattle.sure.specs.Sure.{largest, SurelyRight}
 use Rattle.sure.specs.Test.{passes}
 use Rattle.sure.specs.SureLaws.{inside_code}

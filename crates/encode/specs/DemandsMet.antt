@@ -6,9 +6,9 @@ use Rattle.numbers.specs.Choice.{lt_or_le}
 use Rattle.words.specs.Bits.{Bits}
 use Rattle.words.specs.Word.{transform}
 use Rattle.words.specs.Kinds.{kinds, dimension, pick, encoded}
-use Rattle.words.specs.KindLaws.{length-kinds, bits_kinds}
+use Rattle.words.proofs.KindLaws.{length-kinds, bits_kinds}
 use Rattle.words.specs.Inverse.{taken, frozen_one, first_frozen_one, taken_back}
-use Rattle.words.specs.InverseLaws.{refused_lowest, lowest_refused}
+use Rattle.words.proofs.InverseLaws.{refused_lowest, lowest_refused}
 use Rattle.code.specs.declared.Made.TheVariants.{Good}
 use Rattle.code.specs.Sound.{Sound, made, rm}
 use Rattle.code.specs.SoundLaws.{made_good}

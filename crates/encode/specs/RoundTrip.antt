@@ -5,7 +5,7 @@ use Rattle.words.specs.Bits.{Bits}
 use Rattle.words.specs.Word.{transform}
 use Rattle.words.specs.Kinds.{kinds, dimension, Word}
 use Rattle.words.specs.Inverse.{LowestFrozenOne}
-use Rattle.words.specs.KindLaws.{length-kinds, bits_kinds, sum-kinds}
+use Rattle.words.proofs.KindLaws.{length-kinds, bits_kinds, sum-kinds}
 use Rattle.code.specs.declared.Refusal.TheVariants.{NotAWord}
 use Rattle.code.specs.Sound.{rm}
 use Rattle.code.specs.SoundInput.{SoundInput}

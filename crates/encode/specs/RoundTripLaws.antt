@@ -7,8 +7,8 @@ use Rattle.words.specs.Word.{transform}
 use Rattle.words.specs.Kinds.{fill, encoded, Word}
 use Rattle.words.specs.Inverse.{TakenBack, taken, frozen_one, taken_back, LowestFrozenOne}
 use Rattle.words.specs.TransformLaws.{length-transform, bits_transform}
-use Rattle.words.specs.FillLaws.{length-fill, bits_fill}
-use Rattle.words.specs.InverseLaws.{taken_encoded, taken_gives, lowest_refused, refused_no_word, no_word_refused}
+use Rattle.words.proofs.FillLaws.{length-fill, bits_fill}
+use Rattle.words.proofs.InverseLaws.{taken_encoded, taken_gives, lowest_refused, refused_no_word, no_word_refused}
 use Rattle.code.specs.declared.Refusal.TheVariants.{NotAWord}
 use Rattle.code.specs.Sound.{Sound, rm}
 use Rattle.code.specs.SoundInput.{SoundFor}

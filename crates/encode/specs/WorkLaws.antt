@@ -9,8 +9,8 @@ use Rattle.words.specs.Word.{transform}
 use Rattle.words.specs.Kinds.{kinds, dimension, fill}
 use Rattle.words.specs.Inverse.{taken_back}
 use Rattle.words.specs.TransformLaws.{length-transform}
-use Rattle.words.specs.KindLaws.{length-kinds, sum-kinds, bits_kinds}
-use Rattle.words.specs.FillLaws.{length-fill, bits_fill}
+use Rattle.words.proofs.KindLaws.{length-kinds, sum-kinds, bits_kinds}
+use Rattle.words.proofs.FillLaws.{length-fill, bits_fill}
 use Rattle.encode.specs.Outcome.{Outcome, taking_back}
 use Rattle.encode.specs.Work.{taking_row}
 use Rattle.encode.specs.OutcomeLaws.{taking_word}

@@ -4,14 +4,14 @@ use Rattle.std.proofs.Common.{ap, sym, ◌∙◌, subst, inl, inr, ⊎_elim, ari
 use Rattle.std.proofs.Math.Decide.{ℕ_discrete}
 use Rattle.numbers.specs.Choice.{lt_or_le}
 use Rattle.words.specs.Kinds.{kinds}
-use Rattle.words.specs.KindLaws.{bits_kinds}
+use Rattle.words.proofs.KindLaws.{bits_kinds}
 use Rattle.decoding.specs.Readings.{turns}
 use Rattle.decoding.specs.Best.{least_penalty, gap, best_bits, best_word}
 use Rattle.decoding.specs.Walk.{needed, tree}
 use Rattle.decoding.specs.TreeLaws.{needed_most}
 use Rattle.decoding.specs.Answer.{Answer, answer}
 use Rattle.decoding.specs.AnswerLaws.{answer_tied, answer-found}
-use Rattle.decoding.specs.DemandsMet.{demands_code}
+use Rattle.decoding.proofs.DemandsMet.{demands_code}
 use Rattle.code.specs.declared.Code.{Code}
 use Rattle.code.specs.declared.Refusal.TheVariants.{Tied}
 use Rattle.hadamard.specs.TheoremsMet.{transform_theorems}

@@ -7,7 +7,7 @@ use Rattle.memory.specs.Memory.{remade, Arrays, Made, RowsFor, Top, ValueReady, 
 use Rattle.memory.specs.CodeLaws.{low_asked, low-made, first-ready, same_arrays, value_arrays, value_made, single_value}
 use Rattle.memory.specs.LowLaws.{low-room}
 use Rattle.float_numbers.specs.Whole.{whole_of, wholes}
-use Rattle.float_numbers.specs.WholesLaws.{length-wholes, wholes-take, wholes-entry}
+use Rattle.float_numbers.proofs.WholesLaws.{length-wholes, wholes-take, wholes-entry}
 
 pub same_floats : (s s' : List Float) {y : List ℕ} → Arrays (wholes s) y → length s' ≡ length s → Arrays (wholes s') y
 same_floats s s' a e = same_arrays a (length-wholes s' ∙ e ∙ sym (length-wholes s))

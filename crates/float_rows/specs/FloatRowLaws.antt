@@ -7,7 +7,7 @@ use Rattle.decoding.specs.Quick.{lower, upper, lower_row, upper_row}
 use Rattle.rows.specs.Rows.{row_of}
 use Rattle.rows.specs.RowLaws.{Pair, length-row_of, row-entry, lower-turn, upper-turn}
 use Rattle.float_numbers.specs.Whole.{whole_of, wholes}
-use Rattle.float_numbers.specs.WholesLaws.{length-wholes, wholes-set, wholes-entry}
+use Rattle.float_numbers.proofs.WholesLaws.{length-wholes, wholes-set, wholes-entry}
 
 -- ---- a row from the row above it: the array d before the loop, and s with j sums of the row x
 module _ (d s : List Float) (x : List ℤ) (h j : ℕ) (room : h + h + (h + h) ≤ length d) (long : length x ≡ h)

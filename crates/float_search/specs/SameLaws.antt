@@ -11,8 +11,8 @@ use Rattle.search.specs.Demand1Met.{search_demand_1}
 use Rattle.search.specs.DemandsMet.{larger_allowance, outcome_demands}
 use Rattle.search.specs.RunnerUpMet.{runner_up_demand}
 use Rattle.float_numbers.specs.Whole.{RowRepresents, whole_of, wholes}
-use Rattle.float_numbers.specs.WholeLaws.{represents_small, whole_of-is, neg_represents}
-use Rattle.float_numbers.specs.WholesLaws.{wholes_represented}
+use Rattle.float_numbers.proofs.WholeLaws.{represents_small, whole_of-is, neg_represents}
+use Rattle.float_numbers.proofs.WholesLaws.{wholes_represented}
 use Rattle.float_search.specs.Same.{FloatReading, RefusedEntry, turned_floats, SameAnswers, FloatDemand3, FloatDemands}
 
 -- ---- an entry

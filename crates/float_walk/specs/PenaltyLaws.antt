@@ -6,7 +6,7 @@ use Rattle.std.specs.Float.{binary32}
 use Rattle.std.specs.Float.Ieee.Back.{unsigned_back}
 use Rattle.decoding.specs.Readings.{sum_limit}
 use Rattle.float_numbers.specs.Whole.{Represents, whole_of, float}
-use Rattle.float_numbers.specs.WholeLaws.{represents_small, whole_zero, whole_float, float_add, float_sub, lt_float, le_float}
+use Rattle.float_numbers.proofs.WholeLaws.{represents_small, whole_zero, whole_float, float_add, float_sub, lt_float, le_float}
 use Rattle.float_walk.specs.declared.Penalties.{Penalties}
 use Rattle.float_walk.specs.declared.Extension.TheVariants.{Kept}
 use Rattle.float_walk.specs.Held.{count, second_of, Penalty, Extends}

@@ -3,10 +3,10 @@ use Rattle.std.specs.Prelude.{◌≡◌, refl, List, ℕ, ◌-◌, ◌^◌, ◌�
 use Rattle.std.proofs.Common.{ap, sym, ◌∙◌, subst, arith}
 use Rattle.numbers.specs.Sums.{sum}
 use Rattle.words.specs.Kinds.{kinds, Word}
-use Rattle.words.specs.KindLaws.{length-kinds, bits_kinds, sum-kinds}
-use Rattle.words.specs.HalfLaws.{word_ones}
-use Rattle.words.specs.InverseLaws.{word-length, word_bits, word_frozen, frozen_word}
-use Rattle.words.specs.DistanceLaws.{distance_least}
+use Rattle.words.proofs.KindLaws.{length-kinds, bits_kinds, sum-kinds}
+use Rattle.words.proofs.HalfLaws.{word_ones}
+use Rattle.words.proofs.InverseLaws.{word-length, word_bits, word_frozen, frozen_word}
+use Rattle.words.proofs.DistanceLaws.{distance_least}
 use Rattle.decoding.specs.Answer.{Answer, found, tied, out_of_visits, answer}
 use Rattle.code.specs.declared.Code.{Code}
 use Rattle.code.specs.declared.Refusal.{Refusal}

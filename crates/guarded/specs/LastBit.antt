@@ -7,7 +7,7 @@ use Rattle.words.specs.Bits.{Bits, xors}
 use Rattle.words.specs.Word.{transform}
 use Rattle.words.specs.Kinds.{fill, pick, encoded, InformationBits, Word, all_ones}
 use Rattle.words.specs.TransformLaws.{length-xors, length-transform}
-use Rattle.words.specs.FillLaws.{length-fill, pick-fill}
+use Rattle.words.proofs.FillLaws.{length-fill, pick-fill}
 use Rattle.guarded.specs.Guard.{with_marker, last_bit}
 use Rattle.guarded.specs.MarkerLaws.{marker_with, before, kinds_split}
 

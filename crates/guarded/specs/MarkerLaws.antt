@@ -10,10 +10,10 @@ use Rattle.words.specs.Bits.{Bits, xors}
 use Rattle.words.specs.Word.{transform}
 use Rattle.words.specs.Kinds.{fill, pick, Word, all_ones}
 use Rattle.words.specs.TransformLaws.{length-transform, bits_transform, bits_take}
-use Rattle.words.specs.FillLaws.{pick-fill}
-use Rattle.words.specs.HalfLaws.{below-ones}
-use Rattle.words.specs.AllOnesLaws.{zero_but_last, not-zero-last}
-use Rattle.words.specs.InverseLaws.{word_row, word_frozen}
+use Rattle.words.proofs.FillLaws.{pick-fill}
+use Rattle.words.proofs.HalfLaws.{below-ones}
+use Rattle.words.proofs.AllOnesLaws.{zero_but_last, not-zero-last}
+use Rattle.words.proofs.InverseLaws.{word_row, word_frozen}
 use Rattle.guarded.specs.Guard.{with_marker, last_bit, message_of}
 
 -- ---- a list by its last entry

@@ -4,15 +4,16 @@ use Rattle.std.proofs.Common.{ap, sym, ◌∙◌, arith}
 use Rattle.std.proofs.lemmas.List.{length-map, length-replicate}
 use Rattle.numbers.specs.Sums.{sum}
 use Rattle.words.specs.Kinds.{encoded, Word}
-use Rattle.words.specs.InverseLaws.{word-length}
+use Rattle.words.proofs.InverseLaws.{word-length}
 use Rattle.words.specs.TransformLaws.{bits_more}
 use Rattle.decoding.specs.Readings.{turn}
 use Rattle.decoding.specs.Best.{gap}
 use Rattle.decoding.specs.Answer.{answer}
 use Rattle.decoding.specs.AnswerLaws.{answer-found}
-use Rattle.decoding.specs.DemandsMet.{demands}
-use Rattle.decoding.specs.GapLaws.{undrifted}
-use Rattle.decoding.specs.CleanLaws.{clean, clean_best, clean_apart}
+use Rattle.decoding.proofs.DemandsMet.{demands}
+use Rattle.decoding.proofs.GapLaws.{undrifted}
+use Rattle.decoding.specs.CleanLaws.{clean}
+use Rattle.decoding.proofs.CleanLaws.{clean_best, clean_apart}
 use Rattle.search.specs.Outcome as Search
 use Rattle.search.specs.Outcome.{by_answer}
 use Rattle.search.specs.Demands.{Searching}

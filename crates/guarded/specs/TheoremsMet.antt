@@ -8,12 +8,12 @@ use Rattle.numbers.specs.Sums.{sum}
 use Rattle.words.specs.Bits.{Bits}
 use Rattle.words.specs.Kinds.{encoded, InformationBits, all_ones}
 use Rattle.words.specs.Inverse.{TakenBack, taken, frozen_one, taken_back}
-use Rattle.words.specs.InverseLaws.{taken_encoded}
+use Rattle.words.proofs.InverseLaws.{taken_encoded}
 use Rattle.words.specs.TransformLaws.{bits_more, bits_take}
 use Rattle.decoding.specs.Walk.{needed}
 use Rattle.decoding.specs.Answer.{Answer, found, tied, out_of_visits, answer}
 use Rattle.decoding.specs.Demands.{Demand2, BestFound}
-use Rattle.decoding.specs.DemandsMet.{demands}
+use Rattle.decoding.proofs.DemandsMet.{demands}
 use Rattle.code.specs.declared.Refusal.TheVariants.{OutOfVisits}
 use Rattle.search.specs.Outcome as Search
 use Rattle.search.specs.Outcome.{by_answer}

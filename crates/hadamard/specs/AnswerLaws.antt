@@ -11,7 +11,7 @@ use Rattle.numbers.specs.PartsLaws.{parts, negated, sum_parts}
 use Rattle.numbers.specs.Sums.{sum}
 use Rattle.numbers.specs.Least.{next}
 use Rattle.words.specs.Kinds.{kinds, encoded, InformationBits, Word}
-use Rattle.words.specs.KindLaws.{length-kinds, bits_kinds, sum_kinds_pos}
+use Rattle.words.proofs.KindLaws.{length-kinds, bits_kinds, sum_kinds_pos}
 use Rattle.decoding.specs.Readings.{turn, turns, penalty, correlation, sizes}
 use Rattle.decoding.specs.Quick.{hard}
 use Rattle.decoding.specs.Best.{penalty_of, penalties, least_penalty, gap, best_bits, best_word}
@@ -19,11 +19,11 @@ use Rattle.decoding.specs.Walk.{needed, tree}
 use Rattle.decoding.specs.Answer.{found, tied, answer}
 use Rattle.decoding.specs.CorrelationLaws.{correlation_law}
 use Rattle.decoding.specs.BestLaws.{none_less, best_bits_are, best_attains, best_only, others_more, next-penalty}
-use Rattle.decoding.specs.WalkLaws.{best_two}
+use Rattle.decoding.proofs.WalkLaws.{best_two}
 use Rattle.decoding.specs.TreeLaws.{needed_most}
 use Rattle.decoding.specs.AnswerLaws.{answer_tied, answer-found}
 use Rattle.decoding.specs.Demands.{Demand2, Together, Demands}
-use Rattle.decoding.specs.DemandsMet.{demands}
+use Rattle.decoding.proofs.DemandsMet.{demands}
 use Rattle.hadamard.specs.Hadamard.{hadamard, entry, by_place, first_order, bits_of, place_named, LargestTwo}
 use Rattle.hadamard.specs.HadamardLaws.{length-hadamard}
 use Rattle.hadamard.specs.FirstOrderLaws.{length-first_order, correlation-word}

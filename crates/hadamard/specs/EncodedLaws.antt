@@ -13,11 +13,11 @@ use Rattle.words.specs.Word.{transform}
 use Rattle.words.specs.Kinds.{kinds, fill, encoded, InformationBits, Word}
 use Rattle.words.specs.BitLaws.{digit_bit, digit-first, digit-second, second_alike, by_halves_lem, ones-first, ones-second}
 use Rattle.words.specs.BitLaws.{digits_alike, length_digits, bits_digits, digits_at}
-use Rattle.words.specs.KindLaws.{length-kinds, bits_kinds, kinds-one, kinds-zero, kinds-suc, sum-kinds, dimension-zero, dimension-one, dimension-suc}
+use Rattle.words.proofs.KindLaws.{length-kinds, bits_kinds, kinds-one, kinds-zero, kinds-suc, sum-kinds, dimension-zero, dimension-one, dimension-suc}
 use Rattle.words.specs.TransformLaws.{xors_comm, xors-zeros, bits_append, bits_zeros, transform-zeros}
 use Rattle.words.specs.Inverse.{taken, taken_back}
-use Rattle.words.specs.InverseLaws.{word_taken}
-use Rattle.words.specs.FillLaws.{length-fill, fill-zeros}
+use Rattle.words.proofs.InverseLaws.{word_taken}
+use Rattle.words.proofs.FillLaws.{length-fill, fill-zeros}
 use Rattle.hadamard.specs.Hadamard.{common, first_order, bits_of, place_named}
 use Rattle.hadamard.specs.FirstOrderLaws.{word_first, word-second}
 

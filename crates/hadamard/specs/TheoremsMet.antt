@@ -4,7 +4,7 @@ use Rattle.std.proofs.Common.{ap, sym, ◌∙◌, arith, le_refl, le_trans, mul-
 use Rattle.std.proofs.lemmas.List.{length-map}
 use Rattle.numbers.specs.Sums.{sum}
 use Rattle.words.specs.Kinds.{kinds, encoded, all_bits}
-use Rattle.words.specs.FillLaws.{length-all_bits}
+use Rattle.words.proofs.FillLaws.{length-all_bits}
 use Rattle.decoding.specs.Readings.{correlation, sizes, Within}
 use Rattle.decoding.specs.StepLaws.{sizes_within}
 use Rattle.hadamard.specs.Hadamard.{hadamard, correlations, place_named}

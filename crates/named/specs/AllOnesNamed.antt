@@ -5,11 +5,11 @@ use Rattle.std.proofs.Common.{ap, subst, sym, ◌∙◌}
 use Rattle.std.proofs.Math.Decide.{ℕ_discrete}
 use Rattle.words.specs.Bits.{xors}
 use Rattle.words.specs.Kinds.{kinds, Word, all_ones}
-use Rattle.words.specs.KindLaws.{length-kinds, bits_kinds}
+use Rattle.words.proofs.KindLaws.{length-kinds, bits_kinds}
 use Rattle.words.specs.TransformLaws.{xors_comm, xors-twice}
-use Rattle.words.specs.InverseLaws.{word-length, word_frozen, frozen_word, word-xors}
-use Rattle.words.specs.HalfLaws.{below-ones, word_ones}
-use Rattle.words.specs.AllOnesLaws.{zero_but_last, not-zero-last}
+use Rattle.words.proofs.InverseLaws.{word-length, word_frozen, frozen_word, word-xors}
+use Rattle.words.proofs.HalfLaws.{below-ones, word_ones}
+use Rattle.words.proofs.AllOnesLaws.{zero_but_last, not-zero-last}
 use Rattle.named.specs.Named.{left}
 use Rattle.named.specs.NamedLaws.{kind_left_named, left_at, length-left, bits_left, left_other}
 

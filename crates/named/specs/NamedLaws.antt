@@ -15,7 +15,7 @@ use borrow.Author.Tests.{eq-eqb, ne_eqb, eqb-true, lt-ltb, le-ltb, ltb-true, ltb
 use Rattle.numbers.specs.Sums.{sum}
 use Rattle.words.specs.Bits.{Bits}
 use Rattle.words.specs.Kinds.{kinds, Frozen}
-use Rattle.words.specs.KindLaws.{length-kinds, bits_kinds, sum_kinds_pos}
+use Rattle.words.proofs.KindLaws.{length-kinds, bits_kinds, sum_kinds_pos}
 use Rattle.words.specs.TransformLaws.{bits_zeros}
 use Rattle.code.specs.declared.Code.{Code}
 use Rattle.code.specs.declared.Made.{Made}

@@ -7,7 +7,7 @@ use Rattle.numbers.specs.Sums.{sum}
 use Rattle.words.specs.Bits.{Bits}
 use Rattle.words.specs.Word.{transform}
 use Rattle.words.specs.Kinds.{kinds, pick}
-use Rattle.words.specs.KindLaws.{length-kinds, sum-kinds, bits_kinds}
+use Rattle.words.proofs.KindLaws.{length-kinds, sum-kinds, bits_kinds}
 use Rattle.decoding.specs.Readings.{penalty, sizes, sum_limit}
 use Rattle.decoding.specs.Quick.{quick_word, quick_bits, quick_penalty}
 use Rattle.decoding.specs.QuickLaws.{length_quick, bits_quick}

@@ -4,7 +4,7 @@ use Rattle.std.specs.Prelude.{◌≡◌, refl, List, ℕ, ◌^◌, ◌≤◌, �
 use Rattle.std.proofs.Common.{ap, sym, arith}
 use Rattle.words.specs.Bits.{Bits}
 use Rattle.words.specs.Kinds.{kinds, encoded, Word}
-use Rattle.words.specs.KindLaws.{length-kinds, bits_kinds}
+use Rattle.words.proofs.KindLaws.{length-kinds, bits_kinds}
 use Rattle.decoding.specs.Readings.{penalty}
 use Rattle.decoding.specs.Best.{least_penalty}
 use Rattle.decoding.specs.Quick.{quick_word, quick_bits, quick_penalty}

@@ -8,7 +8,7 @@ use Rattle.std.proofs.lemmas.List.{length-replicate}
 use Rattle.words.specs.Bits.{Bits, digits, ones}
 use Rattle.words.specs.BitLaws.{length_digits, bits_digits}
 use Rattle.words.specs.Kinds.{kinds, encoded, Word}
-use Rattle.words.specs.KindLaws.{bits_kinds}
+use Rattle.words.proofs.KindLaws.{bits_kinds}
 use Rattle.words.specs.TransformLaws.{bits_more}
 use Rattle.decoding.specs.Best.{gap, best_word}
 use Rattle.decoding.specs.Walk.{needed, tree}

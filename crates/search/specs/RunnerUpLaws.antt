@@ -4,7 +4,7 @@ use Rattle.std.proofs.Common.{ap, sym, ◌∙◌, arith, drop_at, length-take-le
 use Rattle.std.proofs.Math.Nat.{sub-zero}
 use Rattle.std.proofs.lemmas.List.{length-replicate, replicate-append-replicate}
 use Rattle.words.specs.Kinds.{kinds, pick}
-use Rattle.words.specs.FillLaws.{length-pick}
+use Rattle.words.proofs.FillLaws.{length-pick}
 use Rattle.decoding.specs.Answer.{found, tied, out_of_visits, answer}
 use Rattle.code.specs.declared.Code.{Code}
 use Rattle.code.specs.declared.Refusal.{Refusal}

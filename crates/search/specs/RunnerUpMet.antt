@@ -9,13 +9,13 @@ use Rattle.numbers.specs.Sums.{sum}
 use Rattle.words.specs.Bits.{Bits}
 use Rattle.words.specs.Word.{transform}
 use Rattle.words.specs.Kinds.{kinds, fill, pick}
-use Rattle.words.specs.KindLaws.{length-kinds, bits_kinds, sum_kinds_pos}
-use Rattle.words.specs.FillLaws.{length-pick, bits_pick, fill-pick}
+use Rattle.words.proofs.KindLaws.{length-kinds, bits_kinds, sum_kinds_pos}
+use Rattle.words.proofs.FillLaws.{length-pick, bits_pick, fill-pick}
 use Rattle.decoding.specs.Readings.{penalty}
 use Rattle.decoding.specs.Best.{penalty_of, least_penalty, gap, best_word}
 use Rattle.decoding.specs.BestLaws.{best_attains}
 use Rattle.decoding.specs.Walk.{needed}
-use Rattle.decoding.specs.WalkLaws.{walked_two, walked_end}
+use Rattle.decoding.proofs.WalkLaws.{walked_two, walked_end}
 use Rattle.decoding.specs.Answer.{Answer, answer}
 use Rattle.decoding.specs.AnswerLaws.{answer_out, answer_tied, answer-found}
 use Rattle.code.specs.RefusalLaws.{number_above}

@@ -5,7 +5,7 @@ use Rattle.std.proofs.Common.{◌∙◌}
 use mathlib.Core.List.{List}
 use Rattle.numbers.specs.Sums.{sum}
 use Rattle.words.specs.Kinds.{kinds, dimension, encoded}
-use Rattle.words.specs.KindLaws.{sum-kinds}
+use Rattle.words.proofs.KindLaws.{sum-kinds}
 use Rattle.words.specs.Inverse.{taken_back}
 use Rattle.code.specs.declared.Code.{Code}
 use Rattle.code.specs.declared.Refusal.TheVariants.{Parameters}

@@ -3,7 +3,7 @@ use Rattle.std.specs.Prelude.{◌≡◌, List, ℕ, ℤ, length}
 use Rattle.std.proofs.Common.{subst, ◌∙◌}
 use Rattle.numbers.specs.Sums.{sum}
 use Rattle.words.specs.Kinds.{kinds}
-use Rattle.words.specs.KindLaws.{bits_kinds}
+use Rattle.words.proofs.KindLaws.{bits_kinds}
 use Rattle.code.specs.declared.Code.{Code}
 use Rattle.code.specs.declared.Refusal.{Refusal}
 use Rattle.code.specs.declared.Admitted.TheVariants.{Allowed, Refused}

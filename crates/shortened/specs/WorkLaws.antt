@@ -8,8 +8,8 @@ use Rattle.words.specs.Word.{transform}
 use Rattle.words.specs.Kinds.{fill}
 use Rattle.words.specs.Inverse.{taken_back}
 use Rattle.words.specs.TransformLaws.{length-transform}
-use Rattle.words.specs.KindLaws.{length-kinds, bits_kinds}
-use Rattle.words.specs.FillLaws.{length-fill, bits_fill}
+use Rattle.words.proofs.KindLaws.{length-kinds, bits_kinds}
+use Rattle.words.proofs.FillLaws.{length-fill, bits_fill}
 use Rattle.code.specs.declared.Code.{Code}
 use Rattle.code.specs.Sound.{Sound, largest_m}
 use Rattle.code.specs.SoundLaws.{length_most}

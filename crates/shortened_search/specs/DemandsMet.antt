@@ -4,7 +4,7 @@ use Rattle.std.proofs.Common.{ap, sym, ◌∙◌, arith, ne_eqb}
 use Rattle.numbers.specs.Sums.{sum}
 use Rattle.words.specs.Kinds.{kinds}
 use Rattle.decoding.specs.Answer.{answer}
-use Rattle.decoding.specs.DemandsMet.{demands}
+use Rattle.decoding.proofs.DemandsMet.{demands}
 use Rattle.code.specs.declared.Code.{Code}
 use Rattle.code.specs.declared.Refusal.{Refusal}
 use Rattle.code.specs.declared.Refusal.TheVariants.{Parameters, Named}

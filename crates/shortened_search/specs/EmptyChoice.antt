@@ -3,7 +3,7 @@ use Rattle.std.specs.Prelude.{◌≡◌, List, ℕ, ◌^◌, ℤ, length, replic
 use Rattle.std.proofs.Common.{ap, sym, ◌∙◌}
 use Rattle.numbers.specs.Sums.{sum}
 use Rattle.words.specs.Kinds.{kinds}
-use Rattle.words.specs.KindLaws.{sum-kinds}
+use Rattle.words.proofs.KindLaws.{sum-kinds}
 use Rattle.code.specs.declared.Code.{Code}
 use Rattle.code.specs.declared.Refusal.TheVariants.{Parameters}
 use Rattle.code.specs.Sound.{Sound, rm}

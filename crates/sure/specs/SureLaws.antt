@@ -13,10 +13,10 @@ use Rattle.words.specs.Bits.{Bits}
 use Rattle.words.specs.Word.{transform}
 use Rattle.words.specs.Kinds.{kinds, fill, pick, encoded, InformationBits, Word}
 use Rattle.words.specs.Distance.{distance}
-use Rattle.words.specs.KindLaws.{length-kinds, bits_kinds, kinds_at, kind_frozen, sum_kinds_pos}
-use Rattle.words.specs.FillLaws.{length-fill, bits_fill, frozen_fill, pick-fill}
-use Rattle.words.specs.InverseLaws.{word-length, word_bits, word_row, word_frozen, frozen_word}
-use Rattle.words.specs.DistanceLaws.{distance_least}
+use Rattle.words.proofs.KindLaws.{length-kinds, bits_kinds, kinds_at, kind_frozen, sum_kinds_pos}
+use Rattle.words.proofs.FillLaws.{length-fill, bits_fill, frozen_fill, pick-fill}
+use Rattle.words.proofs.InverseLaws.{word-length, word_bits, word_row, word_frozen, frozen_word}
+use Rattle.words.proofs.DistanceLaws.{distance_least}
 use Rattle.decoding.specs.Readings.{penalty}
 use Rattle.decoding.specs.Quick.{hard, quick_word, quick_bits}
 use Rattle.decoding.specs.Best.{penalty_of, least_penalty, gap, best_bits, best_word}

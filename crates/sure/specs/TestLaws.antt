@@ -7,7 +7,7 @@ use borrow.Author.Tests.{lt-ltb, ltb-true}
 use Rattle.words.specs.Bits.{xors}
 use Rattle.words.specs.Kinds.{Word}
 use Rattle.words.specs.TransformLaws.{length-xors, bits_xors}
-use Rattle.words.specs.InverseLaws.{word-length, word_bits, encoded-xors}
+use Rattle.words.proofs.InverseLaws.{word-length, word_bits, encoded-xors}
 use Rattle.decoding.specs.Readings.{penalty, turns}
 use Rattle.decoding.specs.Quick.{quick_word, quick_bits, quick_penalty}
 use Rattle.decoding.specs.QuickLaws.{length_quick, bits_quick, length-quick_bits, encoded_quick, quick-word}

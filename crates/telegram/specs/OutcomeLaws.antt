@@ -6,7 +6,7 @@ use borrow.Author.Tests.{eq-eqb, ne_eqb, lt-ltb, le-ltb}
 use Rattle.numbers.specs.Sums.{total, sum}
 use Rattle.words.specs.Bits.{Bits, digits}
 use Rattle.words.specs.Kinds.{kinds, choose, dimension}
-use Rattle.words.specs.KindLaws.{sum-kinds}
+use Rattle.words.proofs.KindLaws.{sum-kinds}
 use Rattle.decoding.specs.Answer.{Answer, found, tied, out_of_visits, answer}
 use Rattle.decoding.specs.Walk.{needed}
 use Rattle.decoding.specs.Demands.{BestFound}

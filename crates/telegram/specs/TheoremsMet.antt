@@ -9,11 +9,11 @@ use Rattle.words.specs.Bits.{Bits, xors, digit, digits, ones}
 use Rattle.words.specs.Word.{transform}
 use Rattle.words.specs.Kinds.{kind, kinds, encoded, InformationBits, Word, all_ones}
 use Rattle.words.specs.Inverse.{TakenBack, taken, frozen_one, taken_back}
-use Rattle.words.specs.InverseLaws.{taken_encoded}
-use Rattle.words.specs.KindLaws.{length-kinds, bits_kinds}
+use Rattle.words.proofs.InverseLaws.{taken_encoded}
+use Rattle.words.proofs.KindLaws.{length-kinds, bits_kinds}
 use Rattle.words.specs.TransformLaws.{get_or-xors, bits_more, bits_zeros}
 use Rattle.decoding.specs.Walk.{needed, tree}
-use Rattle.decoding.specs.DemandsMet.{demands_code}
+use Rattle.decoding.proofs.DemandsMet.{demands_code}
 use Rattle.code.specs.declared.Refusal.TheVariants.{OutOfVisits}
 use Rattle.code.specs.Sound.{default_allowance}
 use Rattle.code.specs.Entries.{first_bad_bit}

@@ -7,7 +7,7 @@ use Rattle.decoding.specs.Readings.{loss}
 use Rattle.decoding.specs.Quick.{hard}
 use Rattle.decoding.specs.Walk.{State, value, finished}
 use Rattle.decoding.specs.OfferLaws.{Sorted}
-use Rattle.decoding.specs.InformationLaws.{sorted_hold}
+use Rattle.decoding.proofs.InformationLaws.{sorted_hold}
 use Rattle.decoding.specs.Allowance.{ended}
 use Rattle.decoding.specs.PathLaws.{loss-hard}
 use Rattle.memory.specs.Memory.{RowsFor, ValueReady}

@@ -12,8 +12,10 @@ use Rattle.decoding.specs.Allowance.{Limited, out, walk_within}
 use Rattle.decoding.specs.PathLaws.{hard_bit, loss-hard, path_more}
 use Rattle.decoding.specs.Blocks.{block_row, Starts, hard_row, visited_by}
 use Rattle.decoding.specs.BlockLaws.{starts}
-use Rattle.decoding.specs.InformationLaws.{bits_hard_row, Speaks, Along, loss_other, undropped_below, chosen_kinds, long_word, block-least}
-use Rattle.decoding.specs.InformationLaws.{block_path, block_along_all, infos, run_first_within, run_first_out}
+use Rattle.decoding.specs.InformationLaws.{Speaks, Along}
+use Rattle.decoding.proofs.InformationLaws.{bits_hard_row, loss_other, undropped_below, chosen_kinds, long_word, block-least}
+use Rattle.decoding.specs.InformationLaws.{infos}
+use Rattle.decoding.proofs.InformationLaws.{block_path, block_along_all, run_first_within, run_first_out}
 use Rattle.rows.specs.Rows.{row_of}
 use Rattle.memory.specs.Memory.{RowsFor}
 use Rattle.memory.specs.RowLaws.{start_le, row_block}

@@ -8,17 +8,12 @@ pub mod Distance
 -- Laws: encoding and taking back, for any row of kinds
 pub mod TransformLaws
 pub mod BitLaws
-pub mod KindLaws
 pub mod FillLaws
-pub mod InverseLaws
 -- Laws: the published forms agree, and the least distance of RM(r,m)
 pub mod TableLaws
 pub mod PublishedLaws
 pub mod ParityLaws
 pub mod HalfLaws
-pub mod AllOnesLaws
-pub mod PlotkinLaws
-pub mod PolynomialLaws
 pub mod BasisLaws
 pub mod DistanceLaws
 pub mod DualLaws

@@ -6,7 +6,7 @@ use native.Mathlib.Numerals.{add-one}
 use lib.ListN.{length, get_or, length-set, drop_of_length-le}
 use Rattle.numbers.specs.Front.{front, front-suc, front-done}
 use Rattle.words.specs.Kinds.{kinds}
-use Rattle.words.specs.KindLaws.{length-kinds, kinds_at}
+use Rattle.words.proofs.KindLaws.{length-kinds, kinds_at}
 use Rattle.code.proofs.put_kinds.Goals as goal
 
 pub loop-i-init : goal.loop-i-init

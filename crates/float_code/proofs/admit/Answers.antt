@@ -11,7 +11,7 @@ use Rattle.code.specs.SoundLaws.{made_of}
 use Rattle.code.specs.SoundInput.{dimension_of}
 use Rattle.code.specs.AdmittedLaws.{refused_input, refused_bits, refused-word, refused-entry, allowed, refused_parameters, tested-made}
 use Rattle.float_numbers.specs.Whole.{wholes}
-use Rattle.float_numbers.specs.WholesLaws.{length-wholes}
+use Rattle.float_numbers.proofs.WholesLaws.{length-wholes}
 use Rattle.float_code.proofs.admit.Goals as goal
 use Rattle.float_code.proofs.admit.Goals.{In-Good}
 

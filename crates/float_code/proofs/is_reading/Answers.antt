@@ -3,7 +3,7 @@ use mathlib.Core.Path.{sym}
 use native.Mathlib.Omega.{arith}
 use lib.Ieee.{of_bits}
 use Rattle.code.specs.Sound.{largest_reading}
-use Rattle.float_numbers.specs.NearLaws.{reading-low, reading_high, reading_inside}
+use Rattle.float_numbers.proofs.NearLaws.{reading-low, reading_high, reading_inside}
 use Rattle.float_code.proofs.is_reading.Goals as goal
 
 pub returns-then-x : goal.returns-then-x

@@ -4,7 +4,7 @@ use Prim.Native.Nat.{◌+◌}
 use native.Mathlib.Omega.{arith}
 use lib.ListN.{get_or}
 use Rattle.words.specs.Kinds.{kinds}
-use Rattle.words.specs.KindLaws.{length-kinds, bits_kinds, kinds_at}
+use Rattle.words.proofs.KindLaws.{length-kinds, bits_kinds, kinds_at}
 use Rattle.named.specs.Named.{kind_left}
 use Rattle.named.specs.NamedLaws.{CountedBefore, counted_none, count-more, counted-all}
 use Rattle.named.proofs.count_left.Goals as goal

@@ -3,7 +3,7 @@ use mathlib.Core.Path.{ap, sym, ◌∙◌}
 use native.Mathlib.Omega.{arith}
 use lib.Dec.{ltb}
 use Rattle.words.specs.Kinds.{kinds}
-use Rattle.words.specs.KindLaws.{length-kinds, bits_kinds}
+use Rattle.words.proofs.KindLaws.{length-kinds, bits_kinds}
 use Rattle.named.specs.NamedLaws.{wrong_length, wrong_byte, frozen_named, none_wrong}
 use Rattle.named.proofs.good_row.Goals as goal
 

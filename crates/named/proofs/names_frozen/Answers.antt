@@ -3,7 +3,7 @@ use mathlib.Core.Path.{◌≡◌, refl, ap, sym, ◌∙◌}
 use native.Mathlib.Omega.{arith}
 use lib.ListN.{length, get_or}
 use Rattle.words.specs.Kinds.{kinds}
-use Rattle.words.specs.KindLaws.{length-kinds, kinds_at}
+use Rattle.words.proofs.KindLaws.{length-kinds, kinds_at}
 use Rattle.named.specs.Named.{named_frozen}
 use Rattle.named.specs.NamedLaws.{named_here, not-here, none_named}
 use Rattle.named.proofs.names_frozen.Goals as goal

@@ -5,7 +5,7 @@ use native.Mathlib.Numerals.{add-one}
 use lib.ListN.{length, get_or, length-set, drop_of_length-le}
 use Rattle.numbers.specs.Front.{front-suc, front-done}
 use Rattle.words.specs.Kinds.{kinds}
-use Rattle.words.specs.KindLaws.{length-kinds, kinds_at}
+use Rattle.words.proofs.KindLaws.{length-kinds, kinds_at}
 use Rattle.named.specs.Named.{kind_left, left}
 use Rattle.named.specs.NamedLaws.{left_at, length-left}
 use Rattle.named.proofs.put_left.Goals as goal

@@ -9,11 +9,12 @@ use Rattle.numbers.specs.PartsLaws.{parts, sum_parts, negated}
 use Rattle.numbers.specs.Sums.{sum}
 use Rattle.words.specs.Bits.{Bits}
 use Rattle.words.specs.Kinds.{encoded, InformationBits, Word}
-use Rattle.words.specs.InverseLaws.{word-length, word_bits, taken_encoded}
+use Rattle.words.proofs.InverseLaws.{word-length, word_bits, taken_encoded}
 use Rattle.decoding.specs.Readings.{loss, turn, penalty}
 use Rattle.decoding.specs.Best.{penalty_of, gap, best_bits}
 use Rattle.decoding.specs.BestLaws.{best_bits_are, best_attains, others_more}
-use Rattle.decoding.specs.GapLaws.{drift, differ_drift, some_next}
+use Rattle.decoding.specs.GapLaws.{drift}
+use Rattle.decoding.proofs.GapLaws.{differ_drift, some_next}
 
 -- the readings, with the first at which x and y differ made less by g for x
 abbrev leant : ℕ → List ℤ → List ℕ → List ℕ → List ℤ

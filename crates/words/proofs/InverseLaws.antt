@@ -15,7 +15,7 @@ use Rattle.words.specs.Kinds.{fill, pick, encoded, Frozen, Word}
 use Rattle.words.specs.Inverse.{LowestFrozenOne, taken, frozen_one, first_frozen_one, taken_back}
 use Rattle.words.specs.TransformLaws.{length-xors, bits_xors, bits_zeros}
 use Rattle.words.specs.TransformLaws.{length-transform, bits_transform, transform-xors, transform-twice, transform-zeros}
-use Rattle.words.specs.FillLaws.{length-fill, bits_fill, frozen_fill, length-pick, bits_pick, pick-fill, fill-pick, fill-xors, fill-zeros}
+use Rattle.words.proofs.FillLaws.{length-fill, bits_fill, frozen_fill, length-pick, bits_pick, pick-fill, fill-pick, fill-xors, fill-zeros}
 
 -- ---- the lowest frozen index where a row is 1: there is only one
 lowest_only : (ks u : List ℕ) (i j : ℕ) → LowestFrozenOne ks u i → LowestFrozenOne ks u j → i ≤ j

@@ -9,7 +9,7 @@ use Rattle.words.specs.Word.{transform}
 use Rattle.words.specs.Kinds.{all_ones}
 use Rattle.words.specs.BitLaws.{ones-early}
 use Rattle.words.specs.TransformLaws.{length-transform}
-use Rattle.words.specs.HalfLaws.{below-zero, below-ones}
+use Rattle.words.proofs.HalfLaws.{below-zero, below-ones}
 
 module _ (m : ℕ) where
   abbrev last_row : List ℕ

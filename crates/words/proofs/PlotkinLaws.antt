@@ -5,7 +5,8 @@ use Rattle.std.proofs.Common.{ap, ap₂, sym, subst, ◌∙◌, arith, take_at, 
 use Rattle.words.specs.Bits.{Bits, xors}
 use Rattle.words.specs.Kinds.{kinds, Word}
 use Rattle.words.specs.TransformLaws.{xors-twice, xors_comm, xors_self, xors-zeros}
-use Rattle.words.specs.HalfLaws.{Below, word_below, below_word, below-first, below-second, below_joined, below-zero, below-zeros}
+use Rattle.words.specs.HalfLaws.{Below}
+use Rattle.words.proofs.HalfLaws.{word_below, below_word, below-first, below-second, below_joined, below-zero, below-zeros}
 
 module _ (m : ℕ) (a b : List ℕ) (e : length a ≡ 2 ^ m) (h : Bits a) where
   -- in terms of d = r + 1, as in HalfLaws

@@ -13,7 +13,8 @@ use Rattle.words.specs.Polynomial.{monomial, value_table, Polynomial}
 use Rattle.words.specs.BitLaws.{Alike, second_alike, by_halves_lem, digit-first, digit-second, ones-first, ones-second}
 use Rattle.words.specs.TransformLaws.{xors_comm, xors-twice, xors_undo, bits_take, bits_drop, bits_append}
 use Rattle.words.specs.TableLaws.{table, table-upper}
-use Rattle.words.specs.HalfLaws.{Below, word_below, below_word, below-xors, below_more, below-first, below-second, below_joined}
+use Rattle.words.specs.HalfLaws.{Below}
+use Rattle.words.proofs.HalfLaws.{word_below, below_word, below-xors, below_more, below-first, below-second, below_joined}
 
 -- ---- value tables by halves: f = g + x_m·h has g's values where x_m is 0 and those of g + h where it is 1
 monomial_alike : (m i j s t : ℕ) → Alike m i s → Alike m j t → monomial m i j ≡ monomial m s t

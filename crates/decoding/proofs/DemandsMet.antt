@@ -7,20 +7,20 @@ use Rattle.numbers.specs.Sums.{sum}
 use Rattle.words.specs.Bits.{Bits, xors}
 use Rattle.words.specs.Kinds.{kinds, fill, encoded, InformationBits, Word, all_ones}
 use Rattle.words.specs.Inverse.{taken, taken_back}
-use Rattle.words.specs.KindLaws.{length-kinds, bits_kinds, sum-kinds, sum_kinds_pos}
-use Rattle.words.specs.FillLaws.{length-fill, bits_fill}
+use Rattle.words.proofs.KindLaws.{length-kinds, bits_kinds, sum-kinds, sum_kinds_pos}
+use Rattle.words.proofs.FillLaws.{length-fill, bits_fill}
 use Rattle.words.specs.PublishedLaws.{word_by_index_lem, word_by_matrix_lem}
-use Rattle.words.specs.PolynomialLaws.{word_polynomial, polynomial_word}
-use Rattle.words.specs.HalfLaws.{word_ones}
-use Rattle.words.specs.InverseLaws.{word-length, taken_encoded, taken_gives, refused_lowest, lowest_refused, refused_no_word, no_word_refused}
+use Rattle.words.proofs.PolynomialLaws.{word_polynomial, polynomial_word}
+use Rattle.words.proofs.HalfLaws.{word_ones}
+use Rattle.words.proofs.InverseLaws.{word-length, taken_encoded, taken_gives, refused_lowest, lowest_refused, refused_no_word, no_word_refused}
 use Rattle.decoding.specs.Readings.{penalty, turns}
 use Rattle.decoding.specs.Best.{penalty_of, least_penalty, gap, best_bits, best_word, TwoWords}
 use Rattle.decoding.specs.Walk.{State, start, needed, NeverZero}
 use Rattle.decoding.specs.Answer.{Answer, found, tied, out_of_visits, answer}
 use Rattle.decoding.specs.BestLaws.{none_less, best_bits_are, best_attains, best_only, others_more}
-use Rattle.decoding.specs.WalkLaws.{best_two}
+use Rattle.decoding.proofs.WalkLaws.{best_two}
 use Rattle.decoding.specs.AnswerLaws.{answer_out, answer_tied, answer-found}
-use Rattle.decoding.specs.SearchLaws.{tree_enough}
+use Rattle.decoding.proofs.SearchLaws.{tree_enough}
 use Rattle.decoding.specs.TurnLaws.{length-turns, within_turns}
 use Rattle.decoding.specs.TurnedBest.{least-turned, gap-turned, best_bits-turned, best_word-turned}
 use Rattle.decoding.specs.TurnedWalk.{walked-turned}
