@@ -15,7 +15,7 @@ use Rattle.decoding.specs.Walk.{needed, tree}
 use Rattle.decoding.specs.TreeLaws.{needed_most}
 use Rattle.decoding.specs.AnswerLaws.{answer-found}
 use Rattle.decoding.specs.CleanLaws.{clean}
-use Rattle.decoding.specs.CleanLaws as cleanly
+use Rattle.decoding.proofs.CleanLaws as cleanly
 use Rattle.decoding.specs.GapLaws.{drift}
 use Rattle.hadamard.specs.Hadamard.{first_order, bits_of}
 use Rattle.hadamard.specs.EncodedLaws.{encoded-bits_of, word_once}

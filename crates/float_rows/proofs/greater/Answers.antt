@@ -2,7 +2,7 @@
 use mathlib.Core.Path.{sym, ◌∙◌}
 use Rattle.rows.specs.OrderLaws.{greater-second, greater-first}
 use Rattle.float_numbers.specs.Whole.{whole_of}
-use Rattle.float_numbers.specs.WholeLaws.{whole_lt}
+use Rattle.float_numbers.proofs.WholeLaws.{whole_lt}
 use Rattle.float_rows.proofs.greater.Goals as goal
 
 pub returns-then-x-y : goal.returns-then-x-y

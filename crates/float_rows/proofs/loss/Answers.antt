@@ -5,7 +5,7 @@ use lib.IntN.{pos}
 use Rattle.numbers.specs.PartsLaws.{parts, negated, by_parts, less_parts, not_less_parts}
 use Rattle.rows.specs.RowLaws.{loss_of_one}
 use Rattle.float_numbers.specs.Whole.{whole_of}
-use Rattle.float_numbers.specs.WholeLaws.{whole_zero, whole_neg, whole_negative}
+use Rattle.float_numbers.proofs.WholeLaws.{whole_zero, whole_neg, whole_negative}
 use Rattle.float_rows.proofs.loss.Goals as goal
 
 pub returns-then-value : goal.returns-then-value

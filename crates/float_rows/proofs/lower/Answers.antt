@@ -7,7 +7,7 @@ use Rattle.decoding.specs.Readings.{sum_limit}
 use Rattle.rows.specs.Order.{greater}
 use Rattle.rows.specs.OrderLaws.{size-lesser, size-greater, size-turned, lower_by_order}
 use Rattle.float_numbers.specs.Whole.{whole_of}
-use Rattle.float_numbers.specs.WholeLaws.{whole_neg}
+use Rattle.float_numbers.proofs.WholeLaws.{whole_neg}
 use Rattle.float_rows.proofs.lower.Goals as goal
 use Rattle.float_rows.proofs.lower.Goals.{After-greater-turned}
 

@@ -8,7 +8,7 @@ use lib.Ieee.{nan}
 use Rattle.decoding.specs.Quick.{lower_row}
 use Rattle.rows.specs.RowLaws.{Pair, pair-sizes}
 use Rattle.float_numbers.specs.Whole.{whole_of, wholes}
-use Rattle.float_numbers.specs.WholesLaws.{length-wholes}
+use Rattle.float_numbers.proofs.WholesLaws.{length-wholes}
 use Rattle.float_rows.specs.FloatRowLaws.{top_pair, lower-stored}
 use Rattle.float_rows.proofs.lower_top.Goals as goal
 use Rattle.float_rows.proofs.lower_top.Goals.{After-shared_slice_known-in-loop-j-2-1}

@@ -8,7 +8,7 @@ use lib.Ieee.{nan}
 use Rattle.decoding.specs.Quick.{upper_row}
 use Rattle.rows.specs.RowLaws.{Pair, pair-sizes}
 use Rattle.float_numbers.specs.Whole.{whole_of, wholes}
-use Rattle.float_numbers.specs.WholesLaws.{length-wholes}
+use Rattle.float_numbers.proofs.WholesLaws.{length-wholes}
 use Rattle.float_rows.specs.FloatRowLaws.{top_pair, upper-stored}
 use Rattle.float_rows.proofs.upper_top.Goals as goal
 use Rattle.float_rows.proofs.upper_top.Goals.{After-shared_slice_known-in-loop-j-3-1}
