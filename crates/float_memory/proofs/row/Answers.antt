@@ -1,0 +1,72 @@
+-- `float_memory::row`: the upper row, with the word of the block before it; or the lower row.
+use mathlib.Core.Path.{ap, ◌∙◌}
+use Prim.Native.Nat.{ℕ, ◌+◌, ◌^◌}
+use native.Mathlib.Omega.{arith}
+use lib.ListN.{take}
+use lib.Pow.{pow_pos}
+use Rattle.decoding.specs.Quick.{lower_row, upper_row}
+use Rattle.rows.specs.Rows.{row_of, with_row}
+use Rattle.memory.specs.CodeLaws.{start_inside, left_some, upper-made, lower-made}
+use Rattle.float_numbers.specs.Whole.{wholes}
+use Rattle.float_numbers.specs.WholesLaws.{length-wholes}
+use Rattle.float_memory.proofs.row.Goals as goal
+
+pub nonzero_div-b : goal.nonzero_div-b
+nonzero_div-b c = omega (arith, c.power-h.ensures, pow_pos c.args.t)
+
+pub overflow_mul-b : goal.overflow_mul-b
+overflow_mul-b c =
+    let s = c.args in
+    let h = c.power-h in
+    let d = wholes s.rows.now in
+    record { fits = omega (arith, start_inside s.t h.result s.i s.path.now (row_of (2 ^ s.t + 2 ^ s.t) d) d h.ensures) }
+
+pub left_word-requires : goal.left_word-requires
+left_word-requires c =
+    let start = c in
+    let s = start.args in
+    let h = c.power-h in
+    let d = wholes s.rows.now in
+    let above = row_of (2 ^ s.t + 2 ^ s.t) d in (
+      left_some s.t h.result s.i s.path.now above d h.ensures c.if-b-eq1.true,
+      omega (arith, start_inside s.t h.result s.i s.path.now above d h.ensures, start.requires.2),
+      omega (arith, h.ensures, start.requires.0, start.requires.3),
+      h.ensures,
+      start.requires.2.bits,
+    )
+
+pub upper_row-requires : goal.upper_row-requires
+upper_row-requires c =
+    let g = c in
+    let h = c.power-h in (
+      omega (arith, h.ensures, g.requires.0, g.requires.2, length-wholes g.args.rows.now),
+      omega (arith, h.ensures, g.requires.0, g.requires.3, c.left_word.auto),
+      rw h.ensures g.requires.4,
+    )
+
+pub returns-then-b-eq1 : goal.returns-then-b-eq1
+returns-then-b-eq1 c =
+    let if1 = c in
+    let h = if1.power-h in
+    let s = if1.args in
+    let d = wholes s.rows.now in
+    let w = c.left_word in
+    upper-made s.t h.result s.i s.path.now (row_of (2 ^ s.t + 2 ^ s.t) d) d h.ensures
+    w.new.word if1.if-b-eq1.true w.ensures
+    (c.upper_row.ensures
+    ∙ ap (λ (k : ℕ). with_row h.result d (upper_row h.result (row_of (k + k) d) (take h.result w.new.word))) h.ensures)
+
+pub lower_row-requires : goal.lower_row-requires
+lower_row-requires c =
+    let g = c in
+    let h = c.power-h in
+    (omega (arith, h.ensures, g.requires.0, g.requires.2, length-wholes g.args.rows.now), rw h.ensures g.requires.4)
+
+pub returns : goal.returns
+returns c =
+    let if1 = c in
+    let h = if1.power-h in
+    let s = if1.args in
+    let d = wholes s.rows.now in
+    lower-made s.t h.result s.i s.path.now (row_of (2 ^ s.t + 2 ^ s.t) d) d h.ensures if1.if-b-eq1.false
+    (c.lower_row.ensures ∙ ap (λ (k : ℕ). with_row h.result d (lower_row h.result (row_of (k + k) d))) h.ensures)
