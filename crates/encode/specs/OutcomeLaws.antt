@@ -77,7 +77,7 @@ module _ (r m : ℕ) (input : List ℕ) (long : ℕ) (output : List ℕ) (room :
       ⊎ ((0 < (tested r m input long output room rest).number) × ((tested r m input long output room rest).number < 5))
   decided =
       ⊎_elim
-      (λ g. elim (ℕ_discrete (length input) long) [
+      (λ (g : (c : Code) × (made r m ≡ Good c)). elim (ℕ_discrete (length input) long) [
         | yes i ↦ elim (ℕ_discrete (length output) room) [
           | yes o ↦ ⊎_elim
               (λ h. refuses (Entry (first_bad_bit input)) (omega arith) (tested-entry r m input long output room rest g.1 refl i refl o refl h))
