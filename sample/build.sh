@@ -9,7 +9,7 @@ with_kit() { command -v rt >/dev/null; }
 outdated() {
     local made=$1
     shift
-    [ ! -x "$made" ] || [ -n "$(find "$@" -newer "$made" -name '*.[rach]*' -print -quit)" ]
+    [ ! -x "$made" ] || [ -n "$(find "$@" -newer "$made" -name '*.[rach]*' ! -path '*/out/*' -print -quit)" ]
 }
 
 # compile WHO OUT WORD..: a program by the C compiler, put there whole
