@@ -17,7 +17,7 @@ TOP = os.path.join(os.path.dirname(os.path.abspath(__file__)), "..")
 
 # The program has no public function: these say how it runs, what it writes if no read and no write failed, and what it complains of.
 PROGRAM = [("spec", "crates/cinorbis/specs/Runs.antt", name) for name in ("Ran", "HandsOver", "AllWent")]
-PROGRAM.append(("spec", "crates/rounds/specs/Situation.antt", "complaintOf"))
+PROGRAM.append(("spec", "crates/rounds/specs/Situation.antt", "complaint_of"))
 
 
 def read(path):
@@ -28,17 +28,17 @@ def read(path):
 def imports(text, ghost=""):
     """What the names and the short module names of a file mean: modules."""
     names, modules = {}, {}
-    for module, listed, short in re.findall(rf"^{ghost}use (\S+?)(?:\.{{(.*)}}| as (\S+?));?$", text, re.M):
+    for module, listed, short in re.findall(rf"^{ghost}use (\S+?)(?:\.{{([^}}]*)}}| as (\S+?));?$", text, re.M):
         if short:
             modules[short] = module
         for name in listed.split(","):
-            names[name.strip()] = module
+            names[name.strip().split(" as ")[-1]] = module
     return names, modules
 
 
 def operators(names):
-    """What stands in a text for an operator among the names: `≡` for `_≡_`."""
-    return {part: name for name in names if "«" not in name for part in name.split("_") if part and part != name}
+    """What stands in a text for an operator among the names: `≡` for `◌≡◌`."""
+    return {part: name for name in names if "«" not in name for part in name.split("◌") if part and part != name}
 
 
 class Item:
@@ -103,11 +103,11 @@ class Types:
 
 def meant(name, module):
     """A definition of this project, or nothing for one of the toolchain's."""
-    found = re.match(r"Rattle·(\w+?)(?:·specs\.specs|\.specs)\.(.*)$", module or "")
-    if not found:
+    found = re.match(r"Rattle\.(\w+)\.specs\.(.*)$", module or "")
+    if not found or not os.path.isdir(os.path.join(TOP, "crates", found[1])):
         return None
     crate, rest = found.groups()
-    parts = [part for part in rest.split(".") if part != "the-variants"]
+    parts = [part for part in rest.split(".") if part != "TheVariants"]
     if parts[0] == "declared":
         return ("type", crate, parts[-1])
     return ("spec", f"crates/{crate}/specs/{'/'.join(parts)}.antt", name)
@@ -170,7 +170,7 @@ def cited(file, name):
             root = meant(word, module)
             if not root:
                 return True
-            return "the-variants" in module or (root[0] == "spec" and Reach.specs(root[1]).constructs(word))
+            return "TheVariants" in module or (root[0] == "spec" and Reach.specs(root[1]).constructs(word))
         return file.constructs(word)
 
     item = file.items[name]
@@ -178,16 +178,16 @@ def cited(file, name):
         own = [part for part, owner in file.owner.items() if owner == name and part != name]
         return free("\n".join(item.lines), own)
     chunks = []
-    begins = re.compile(r"\S" if "_" in name else rf"{re.escape(name)}(\s|$)")
+    begins = re.compile(r"\S" if "◌" in name else rf"{re.escape(name)}(\s|$)")
     for at, line in enumerate(item.lines):
-        if begins.match(line) and (at or "_" not in name):
+        if begins.match(line) and (at or "◌" not in name):
             chunks.append([line])
         elif chunks:
             chunks[-1].append(line)
     signature = item.lines[: len(item.lines) - sum(len(chunk) for chunk in chunks)]
     found = free("\n".join(signature))
     for chunk in chunks:
-        found += free("\n".join(chunk)[0 if "_" in name else len(name) :], (), constructor)
+        found += free("\n".join(chunk)[0 if "◌" in name else len(name) :], (), constructor)
     return found
 
 
@@ -242,7 +242,7 @@ class Reach:
 
     def order(self):
         """The files, each after those whose definitions its own cite, in the order of crates.txt where that leaves a choice."""
-        crates = {name: i for i, name in enumerate(re.findall(r"^(\w+):", read("crates.txt"), re.M))}
+        crates = {name: i for i, name in enumerate(re.findall(r"^(\w+)(?: staticlib)?:", read("crates.txt"), re.M))}
         paths = sorted({path for path, _ in self.items}, key=lambda path: (crates[path.split("/")[1]], "/src/" not in path, path))
         done = []
 
@@ -272,7 +272,7 @@ def public():
     """The source files of the libraries under those heads of crates.txt that speak of calls or of the outside."""
     head = ""
     for line in read("crates.txt").split("\n"):
-        source = os.path.join(TOP, "crates", line.split(":")[0], "src")
+        source = os.path.join(TOP, "crates", re.split("[ :]", line)[0], "src")
         if line.startswith("#"):
             head = line
         elif ":" in line and re.search("call|outside", head) and not os.path.exists(f"{source}/main.rt"):
@@ -292,7 +292,9 @@ def contracts(path):
             continue
         arguments = re.findall(r"(\w+): ", contract.split("ensures")[0])
         stands = operators(names)
-        cites = [(short, word if short else stands.get(word, word)) for short, word in free(contract, arguments)]
+        # a definition may have the name of the function
+        said = contract.replace(f"fn {name}", "fn", 1)
+        cites = [(short, word if short else stands.get(word, word)) for short, word in free(said, arguments)]
         roots = [meant(word, modules.get(short) if short else names.get(word)) for short, word in cites]
         yield f"{crate}::{name}", contract.rstrip(), [root for root in roots if root]
 
@@ -341,7 +343,7 @@ def show(names):
     for path in reach.order():
         print(f"==== {path}\n\n{reach.text(path)}\n")
     for call in wanted:
-        print(f"==== {call}\n\n{known[call][0] or 'Ran, of what one run leaves; HandsOver and AllWent; complaintOf'}\n")
+        print(f"==== {call}\n\n{known[call][0] or 'Ran, of what one run leaves; HandsOver and AllWent; complaint_of'}\n")
     print(amount({key: item.lines for key, item in reach.items.items()}))
 
 

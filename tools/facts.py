@@ -72,12 +72,13 @@ def edit(label):
     return None
 
 
-def linked(text, where, files=(), crates=()):
+def linked(text, where, files=(), crates=(), ending=".antt"):
     """The text with each name in code marks as a link. A name that is defined in several files is a field of the record named before it, or one in the
-    files given, in those of the other names, or in the crates given."""
+    files given, in those of the other names, or in the crates given. A function may have the name of a definition: the ending tells which is meant."""
     marked = re.findall(r"`([^`]+)`", text)
     names = [name for name in marked if "/" not in name and name != "requires" and not paths(f"crates/{name}")]
-    known = {place.path for name in names for place in candidates(name) if len(candidates(name)) == 1}
+    meant = [[place for place in candidates(name) if place.path.endswith(ending)] or candidates(name) for name in names]
+    known = {places[0].path for places in meant if len(places) == 1}
     known |= {f"crates/{path}" for path in marked if "/" in path}
     first, within, owner = [f"crates/{file}" for file in files], tuple(f"crates/{crate}/" for crate in crates), None
     targets = {}
@@ -87,10 +88,11 @@ def linked(text, where, files=(), crates=()):
         for narrower in (
             lambda place: owner and place.owner == owner,
             lambda place: place.path == listed,
+            lambda place: ending == ".rt" and place.path.endswith(ending),
             lambda place: place.path in known,
             lambda place: place.path.startswith(within),
             lambda place: place.owner is None,
-            lambda place: place.path.endswith(".antt"),
+            lambda place: place.path.endswith(ending),
         ):
             if len(places) > 1:
                 places = [place for place in places if narrower(place)] or places
@@ -149,7 +151,7 @@ def run_by(heads, exported, where):
 def public_calls():
     """The public functions of the crates under those heads of crates.txt that speak of calls or of the outside."""
     for head, listed in re.findall(r"^(# .*)\n((?:\w.*\n)+)", read("crates.txt"), re.M):
-        for crate in re.findall(r"^(\w+):", listed, re.M) if re.search("call|outside", head) else ():
+        for crate in re.findall(r"^(\w+)(?: staticlib)?:", listed, re.M) if re.search("call|outside", head) else ():
             for path in [] if paths(f"crates/{crate}/src/main.rt") else paths(f"crates/{crate}/src/*.rt"):
                 yield from (f"{crate}::{name}" for name in re.findall(r"^pub (?:extern \"C\" )?fn (\w+)", read(path), re.M))
 
@@ -175,7 +177,8 @@ def promises():
             block = f"{first}:" + linked(rest, where, crates=[heads[0].split("::")[0] if "::" in heads[0] else "pumpbox"])
         elif "\n  - " in block:  # inner functions, and those of the program
             crates = re.findall(r"`(\w+)(?:::\w+)?`", first)
-            block = f"{first}\n" + "\n".join(linked(part, where, crates=crates) for part in re.split(r"\n(?=  - )", rest))
+            parts = [(part, ".rt" if part.startswith("  - functions") else ".antt") for part in re.split(r"\n(?=  - )", rest)]
+            block = f"{first}\n" + "\n".join(linked(part, where, crates=crates, ending=ending) for part, ending in parts)
         out.append(block)
     said = set(re.findall(r"[\w:]+", " ".join(re.findall(r"^### .*|^- `.*|  - functions:.*(?:\n    .*)*", read("docs/promises.txt"), re.M))))
     missing = [name for name in {*public_calls(), *exported} if not {name, name.split("::")[1]} & {*said, *calls}]
