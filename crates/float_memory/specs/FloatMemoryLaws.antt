@@ -4,8 +4,8 @@ use Rattle.std.proofs.Common.{ap, sym, ◌∙◌, subst, arith, length-take, pow
 use Rattle.std.specs.Float.{nan}
 use Rattle.decoding.specs.Walk.{value}
 use Rattle.memory.specs.Memory.{remade, Arrays, Made, RowsFor, Top, ValueReady, LowReady}
-use Rattle.memory.specs.CodeLaws.{low_asked, low-made, first-ready, same_arrays, value_arrays, value_made, single_value}
-use Rattle.memory.specs.LowLaws.{low-room}
+use Rattle.memory.proofs.CodeLaws.{low_asked, low-made, first-ready, same_arrays, value_arrays, value_made, single_value}
+use Rattle.memory.proofs.LowLaws.{low-room}
 use Rattle.float_numbers.specs.Whole.{whole_of, wholes}
 use Rattle.float_numbers.proofs.WholesLaws.{length-wholes, wholes-take, wholes-entry}
 

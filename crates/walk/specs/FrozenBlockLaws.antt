@@ -13,8 +13,8 @@ use Rattle.decoding.specs.Blocks.{zeros, block_row, Starts}
 use Rattle.decoding.specs.BlockLaws.{starts, length-block}
 use Rattle.rows.specs.Rows.{row_of}
 use Rattle.memory.specs.Memory.{RowsFor}
-use Rattle.memory.specs.RowLaws.{start_le, row_block, row-sizes}
-use Rattle.memory.specs.RowsForLaws.{rows_for_path}
+use Rattle.memory.proofs.RowLaws.{start_le, row_block, row-sizes}
+use Rattle.memory.proofs.RowsForLaws.{rows_for_path}
 use Rattle.blocks.specs.Frozen.{frozen_run, run_adds}
 use Rattle.blocks.specs.InformationLaws.{and_both}
 use Rattle.blocks.specs.FrozenLaws.{run-sizes, run_frozen, run_added, adds_size}

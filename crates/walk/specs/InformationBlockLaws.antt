@@ -18,8 +18,8 @@ use Rattle.decoding.specs.InformationLaws.{infos}
 use Rattle.decoding.proofs.InformationLaws.{block_path, block_along_all, run_first_within, run_first_out}
 use Rattle.rows.specs.Rows.{row_of}
 use Rattle.memory.specs.Memory.{RowsFor}
-use Rattle.memory.specs.RowLaws.{start_le, row_block}
-use Rattle.memory.specs.RowsForLaws.{rows_for_path}
+use Rattle.memory.proofs.RowLaws.{start_le, row_block}
+use Rattle.memory.proofs.RowsForLaws.{rows_for_path}
 use Rattle.blocks.specs.Information.{all_chosen, with_hard}
 use Rattle.blocks.specs.InformationLaws.{and_both, each_chosen}
 use Rattle.walk.specs.Progress.{Progress, seen, front, state_of, visiting, more, allows_more, counted_by, made_for, drops, none_yet}

@@ -6,7 +6,7 @@ use Rattle.std.proofs.Math.Pow.{pow_pos}
 use Rattle.words.specs.Bits.{Bits}
 use Rattle.decoding.specs.Walk.{added_by}
 use Rattle.memory.specs.Memory.{RowsFor}
-use Rattle.memory.specs.RowsForLaws.{rows_for_none}
+use Rattle.memory.proofs.RowsForLaws.{rows_for_none}
 use Rattle.walk.specs.Progress.{seen, none_yet, AreBits, StepAsked, StepGiven, Walkable, Walked}
 
 -- 2^m as the machine shifts it

@@ -17,7 +17,7 @@ use Rattle.decoding.specs.Walk.{State, Full, dropped, finished, value}
 use Rattle.decoding.specs.Allowance.{Limited, ended, out, and_then, extend_within, walk_within}
 use Rattle.decoding.specs.PathLaws.{value-sizes, path_more, path_sizes}
 use Rattle.memory.specs.Memory.{RowsFor, ValueReady}
-use Rattle.memory.specs.RowsForLaws.{rows_for_less, rows_for_path}
+use Rattle.memory.proofs.RowsForLaws.{rows_for_less, rows_for_path}
 use Rattle.walk.specs.Progress.{Progress, seen, full_of, held_by, state_of, limited_of, allows, more, stopped, counted, made_for, drops, none_yet}
 use Rattle.walk.specs.Progress.{Kept, Ready, Stepped, extension, Extended, Going, Onward}
 

@@ -9,7 +9,7 @@ use lib.ListN.{length, take}
 use Rattle.decoding.specs.Readings.{sizes, sum_limit}
 use Rattle.rows.specs.Rows.{with_row}
 use Rattle.memory.specs.Memory.{below}
-use Rattle.memory.specs.CodeLaws.{short, top_long, top_fits, top_made, row_fits, row_small, row_made}
+use Rattle.memory.proofs.CodeLaws.{short, top_long, top_fits, top_made, row_fits, row_small, row_made}
 use Rattle.float_numbers.specs.Whole.{wholes}
 use Rattle.float_numbers.specs.WholesLaws.{length-wholes}
 use Rattle.float_memory.specs.FloatMemoryLaws.{wholes-front}

@@ -4,7 +4,7 @@ use Prim.Native.Nat.{ℕ, ◌-◌, ◌^◌, ◌<◌, suc}
 use native.Mathlib.Omega.{arith}
 use lib.ListN.{take}
 use Rattle.memory.specs.Memory.{Made}
-use Rattle.memory.specs.CodeLaws.{short, row_fits, row_small, row_made, pass_ready}
+use Rattle.memory.proofs.CodeLaws.{short, row_fits, row_small, row_made, pass_ready}
 use Rattle.float_numbers.specs.Whole.{wholes}
 use Rattle.float_numbers.specs.WholesLaws.{length-wholes}
 use Rattle.float_memory.specs.FloatMemoryLaws.{same_floats}

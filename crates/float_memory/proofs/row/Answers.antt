@@ -6,7 +6,7 @@ use lib.ListN.{take}
 use lib.Pow.{pow_pos}
 use Rattle.decoding.specs.Quick.{lower_row, upper_row}
 use Rattle.rows.specs.Rows.{row_of, with_row}
-use Rattle.memory.specs.CodeLaws.{start_inside, left_some, upper-made, lower-made}
+use Rattle.memory.proofs.CodeLaws.{start_inside, left_some, upper-made, lower-made}
 use Rattle.float_numbers.specs.Whole.{wholes}
 use Rattle.float_numbers.specs.WholesLaws.{length-wholes}
 use Rattle.float_memory.proofs.row.Goals as goal

@@ -5,8 +5,8 @@ use Prim.Native.Nat.{◌-◌}
 use native.Mathlib.Omega.{arith}
 use borrow.Rule.Slice.PartMut.{mid_of}
 use Rattle.rows.specs.Rows.{row_of}
-use Rattle.memory.specs.LowLaws.{low_small, remade-one, start_odd, start-here}
-use Rattle.memory.specs.CodeLaws.{bit_word, upper-here}
+use Rattle.memory.proofs.LowLaws.{low_small, remade-one, start_odd, start-here}
+use Rattle.memory.proofs.CodeLaws.{bit_word, upper-here}
 use Rattle.float_numbers.specs.Whole.{wholes}
 use Rattle.float_memory.specs.FloatMemoryLaws.{floats_room}
 use Rattle.float_memory.proofs.start_of_1.Goals as goal

@@ -2,8 +2,8 @@
 use mathlib.Core.Path.{◌≡◌, refl}
 use native.Mathlib.Omega.{arith}
 use Rattle.rows.specs.Rows.{row_of}
-use Rattle.memory.specs.LowLaws.{low_small, low-next, remade-one, remade-more, start_odd, start-here, lower-new}
-use Rattle.memory.specs.CodeLaws.{upper-here}
+use Rattle.memory.proofs.LowLaws.{low_small, low-next, remade-one, remade-more, start_odd, start-here, lower-new}
+use Rattle.memory.proofs.CodeLaws.{upper-here}
 use Rattle.memory.specs.Memory.{new_row}
 use Rattle.float_numbers.specs.Whole.{wholes}
 use Rattle.float_memory.specs.FloatMemoryLaws.{floats_room}

@@ -1,7 +1,7 @@
 -- `float_memory::top_row`: the upper row, with the word of the block before it; or the lower row.
 use native.Mathlib.Omega.{arith}
 use lib.Pow.{pow_pos}
-use Rattle.memory.specs.CodeLaws.{start_inside, left_some, upper-made, lower-made}
+use Rattle.memory.proofs.CodeLaws.{start_inside, left_some, upper-made, lower-made}
 use Rattle.float_numbers.specs.Whole.{wholes}
 use Rattle.float_numbers.specs.WholesLaws.{length-wholes}
 use Rattle.float_memory.proofs.top_row.Goals as goal

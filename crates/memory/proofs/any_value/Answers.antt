@@ -1,5 +1,5 @@
 -- `any_value`: the highest row that changes, and all below it, the lowest three by straight code where m is at least 4.
-use Rattle.memory.specs.CodeLaws.{low_asked, low-made, first-ready, pass_ready, same_arrays, value_arrays, value-given, single}
+use Rattle.memory.proofs.CodeLaws.{low_asked, low-made, first-ready, pass_ready, same_arrays, value_arrays, value-given, single}
 use Rattle.memory.specs.Memory.{remade}
 use Rattle.rows.specs.RowLaws.{reading_fits}
 use lib.ListN.{get_or}

@@ -1,5 +1,5 @@
 -- `few_rows`: by straight code, after the highest row of all where that is one of them.
-use Rattle.memory.specs.CodeLaws.{low_asked, low-made, pass_ready, made_above, same_arrays}
+use Rattle.memory.proofs.CodeLaws.{low_asked, low-made, pass_ready, made_above, same_arrays}
 use Rattle.memory.specs.Memory.{remade, Arrays, LowReady, RowsReady}
 use native.Mathlib.Numerals.{add-one}
 use native.Mathlib.Omega.{arith}

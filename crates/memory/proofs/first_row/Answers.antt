@@ -1,6 +1,6 @@
 -- `first_row`: from the readings where it is the highest of all, else from the row above it.
 use Prim.Native.Nat.{◌<◌}
-use Rattle.memory.specs.CodeLaws.{short, top_long, top_fits, top_made, row_fits, row_small, row_made}
+use Rattle.memory.proofs.CodeLaws.{short, top_long, top_fits, top_made, row_fits, row_small, row_made}
 use native.Mathlib.Omega.{arith}
 use Rattle.memory.specs.Memory.{below}
 use Rattle.rows.specs.Rows.{with_row}

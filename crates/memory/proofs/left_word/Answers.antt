@@ -1,5 +1,5 @@
 -- `left_word`: the transform of the lent bits, put into the front of the other bytes.
-use Rattle.memory.specs.CodeLaws.{lent_long, lent_bits, word_made}
+use Rattle.memory.proofs.CodeLaws.{lent_long, lent_bits, word_made}
 use lib.Seq.{length-take-le}
 use native.Mathlib.Nat.{sub-zero}
 use mathlib.Core.Path.{◌∙◌}

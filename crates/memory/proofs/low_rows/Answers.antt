@@ -1,5 +1,5 @@
 -- `low_rows`: one row after the other.
-use Rattle.memory.specs.LowLaws.{low-next, remade-one, remade-more}
+use Rattle.memory.proofs.LowLaws.{low-next, remade-one, remade-more}
 use Rattle.memory.specs.Memory.{remade, LowReady}
 use native.Mathlib.Omega.{arith}
 use Prim.Native.Nat.{ℕ}

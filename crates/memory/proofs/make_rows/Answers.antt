@@ -1,5 +1,5 @@
 -- `make_rows`: from the row of 2^t sums on the rows are made for i.
-use Rattle.memory.specs.CodeLaws.{short, row_fits, row_small, row_made, pass_ready, made_above, same_arrays}
+use Rattle.memory.proofs.CodeLaws.{short, row_fits, row_small, row_made, pass_ready, made_above, same_arrays}
 use native.Mathlib.Omega.{arith}
 use Prim.Native.Nat.{◌-◌, ◌<◌, suc}
 use mathlib.Core.Path.{sym, ◌∙◌}

@@ -1,7 +1,7 @@
 -- `pair`: the sum of both bits, and the second.
 use Prim.Native.Nat.{◌-◌}
 use native.Mathlib.Omega.{arith}
-use Rattle.memory.specs.LowLaws.{pair_is}
+use Rattle.memory.proofs.LowLaws.{pair_is}
 use Rattle.memory.proofs.pair.Goals as goal
 
 pub overflow_add-a : goal.overflow_add-a

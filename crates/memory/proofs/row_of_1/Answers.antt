@@ -1,6 +1,6 @@
 -- `row_of_1`: as `row`, where the word is one bit.
-use Rattle.memory.specs.LowLaws.{start_odd, start-here}
-use Rattle.memory.specs.CodeLaws.{bit_word, upper-here, lower-made}
+use Rattle.memory.proofs.LowLaws.{start_odd, start-here}
+use Rattle.memory.proofs.CodeLaws.{bit_word, upper-here, lower-made}
 use native.Mathlib.Nat.{div-one}
 use Rattle.rows.specs.Rows.{row_of}
 use borrow.Rule.Slice.PartMut.{mid_of}

@@ -4,8 +4,8 @@ use Prim.Native.Nat.{◌-◌, ◌*◌, ◌/◌}
 use native.Mathlib.Omega.{arith}
 use lib.ListN.{drop, length-drop}
 use Rattle.rows.specs.Rows.{row_of}
-use Rattle.memory.specs.LowLaws.{whole_pair}
-use Rattle.memory.specs.CodeLaws.{upper-made, lower-made}
+use Rattle.memory.proofs.LowLaws.{whole_pair}
+use Rattle.memory.proofs.CodeLaws.{upper-made, lower-made}
 use Rattle.memory.proofs.row_of_2.Goals as goal
 
 pub returns-then-b-eq1 : goal.returns-then-b-eq1

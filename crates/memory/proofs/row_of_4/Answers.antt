@@ -1,5 +1,5 @@
 -- `row_of_4`: as `row`, with the word by straight code.
-use Rattle.memory.specs.CodeLaws.{upper-made, lower-made}
+use Rattle.memory.proofs.CodeLaws.{upper-made, lower-made}
 use Rattle.rows.specs.Rows.{row_of}
 use mathlib.Core.Path.{refl}
 use Rattle.memory.proofs.row_of_4.Goals as goal

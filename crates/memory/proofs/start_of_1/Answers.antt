@@ -1,6 +1,6 @@
 -- `start_of_1`: the upper row alone.
-use Rattle.memory.specs.LowLaws.{remade-one, start_odd, start-here}
-use Rattle.memory.specs.CodeLaws.{bit_word, upper-here}
+use Rattle.memory.proofs.LowLaws.{remade-one, start_odd, start-here}
+use Rattle.memory.proofs.CodeLaws.{bit_word, upper-here}
 use Rattle.rows.specs.Rows.{row_of}
 use borrow.Rule.Slice.PartMut.{mid_of}
 use native.Mathlib.Omega.{arith}

@@ -5,8 +5,8 @@ use native.Mathlib.Omega.{arith}
 use lib.ListN.{drop, length-drop}
 use Rattle.rows.specs.Rows.{row_of}
 use Rattle.memory.specs.Memory.{new_row}
-use Rattle.memory.specs.LowLaws.{whole_pair, low-room, low_small, low-next, remade-one, remade-more, start_odd, start-here, lower-new}
-use Rattle.memory.specs.CodeLaws.{upper-here}
+use Rattle.memory.proofs.LowLaws.{whole_pair, low-room, low_small, low-next, remade-one, remade-more, start_odd, start-here, lower-new}
+use Rattle.memory.proofs.CodeLaws.{upper-here}
 use Rattle.memory.proofs.start_of_2.Goals as goal
 use Rattle.memory.proofs.start_of_2.Goals.{After-upper_row}
 

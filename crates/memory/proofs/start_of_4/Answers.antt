@@ -1,6 +1,6 @@
 -- `start_of_4`: the upper row of four sums, and the lower ones of two and one.
-use Rattle.memory.specs.LowLaws.{low-room, low_small, low-next, remade-one, remade-more, start_odd, start-here, lower-new}
-use Rattle.memory.specs.CodeLaws.{upper-here}
+use Rattle.memory.proofs.LowLaws.{low-room, low_small, low-next, remade-one, remade-more, start_odd, start-here, lower-new}
+use Rattle.memory.proofs.CodeLaws.{upper-here}
 use Rattle.memory.specs.Memory.{new_row}
 use Rattle.rows.specs.Rows.{row_of}
 use native.Mathlib.Omega.{arith}

@@ -1,5 +1,5 @@
 -- `start_of_more`: from the row of 2^u sums on the rows are made for i; the last three by their lengths as constants.
-use Rattle.memory.specs.CodeLaws.{made_above, same_arrays, start_asked, start-made}
+use Rattle.memory.proofs.CodeLaws.{made_above, same_arrays, start_asked, start-made}
 use Rattle.memory.specs.Memory.{Arrays, Made}
 use Rattle.decoding.specs.Quick.{lower_row}
 use Rattle.decoding.specs.Readings.{sizes, sum_limit}

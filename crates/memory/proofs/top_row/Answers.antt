@@ -1,5 +1,5 @@
 -- `top_row`: the upper row, with the word of the block before it; or the lower row.
-use Rattle.memory.specs.CodeLaws.{start_inside, left_some, upper-made, lower-made}
+use Rattle.memory.proofs.CodeLaws.{start_inside, left_some, upper-made, lower-made}
 use lib.Pow.{pow_pos}
 use native.Mathlib.Omega.{arith}
 use Rattle.memory.proofs.top_row.Goals as goal

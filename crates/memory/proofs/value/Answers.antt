@@ -1,5 +1,5 @@
 -- `value`: where only the rows of blocks that start at i change, from the row of the largest of them.
-use Rattle.memory.specs.CodeLaws.{low_asked, low-made, first-ready, value_arrays, value-given}
+use Rattle.memory.proofs.CodeLaws.{low_asked, low-made, first-ready, value_arrays, value-given}
 use Rattle.memory.specs.TopLaws.{top_follows, follows_some, starts_more}
 use Rattle.numbers.specs.LowestLaws.{lowest_within}
 use mathlib.Core.Path.{sym, ◌∙◌}

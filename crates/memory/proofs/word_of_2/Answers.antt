@@ -2,7 +2,7 @@
 use Prim.Native.Nat.{◌-◌}
 use native.Mathlib.Omega.{arith}
 use lib.ListN.{drop, length-drop}
-use Rattle.memory.specs.LowLaws.{put_pair}
+use Rattle.memory.proofs.LowLaws.{put_pair}
 use Rattle.memory.proofs.word_of_2.Goals as goal
 
 pub pair-both-requires : goal.pair-both-requires

@@ -1,5 +1,5 @@
 -- `word_of_4`: the sums that the transform of four bits makes.
-use Rattle.memory.specs.LowLaws.{made_word_4}
+use Rattle.memory.proofs.LowLaws.{made_word_4}
 use lib.ListN.{get_or, set, length-set}
 use Prim.Native.Nat.{◌+◌, ◌-◌, ◌%◌}
 use mathlib.Core.Path.{refl}

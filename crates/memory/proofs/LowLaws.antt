@@ -12,7 +12,7 @@ use Rattle.rows.specs.Rows.{row_of, with_row}
 use Rattle.rows.specs.RowLaws.{length-row_of}
 use Rattle.rows.specs.PlaceLaws.{length-with_row, row_of-with_row}
 use Rattle.memory.specs.Memory.{below, new_row, remade, LowReady}
-use Rattle.memory.specs.RowLaws.{digit_cases, below-lower, sizes-below, length-below}
+use Rattle.memory.proofs.RowLaws.{digit_cases, below-lower, sizes-below, length-below}
 
 -- ---- the words
 word_2 : (x : List ℕ) → 2 ≤ length x → transform 1 (take 2 x) ≡ (get_or x 0 0 + get_or x 1 0) % 2 ∷ get_or x 1 0 ∷ []

@@ -14,9 +14,9 @@ use Rattle.decoding.specs.Walk.{value}
 use Rattle.rows.specs.Rows.{row_of, with_row}
 use Rattle.rows.specs.RowLaws.{reading-read}
 use Rattle.memory.specs.Memory.{below, new_row, remade, Arrays, Made, RowsFor, Top, ValueReady, RowsReady, LowReady}
-use Rattle.memory.specs.RowLaws.{digit_cases, below-upper, below-lower, start_odd}
-use Rattle.memory.specs.LowLaws.{lower-new}
-use Rattle.memory.specs.MadeLaws.{above_small, made_top, made_row, made-remade, made_all, last_entry, last_row_lem, still_made}
+use Rattle.memory.proofs.RowLaws.{digit_cases, below-upper, below-lower, start_odd}
+use Rattle.memory.proofs.LowLaws.{lower-new}
+use Rattle.memory.proofs.MadeLaws.{above_small, made_top, made_row, made-remade, made_all, last_entry, last_row_lem, still_made}
 
 -- ---- the word of the block before
 module _ (e h t : ℕ) (y : List ℕ) (some : h ≤ e) (room : e ≤ length y) (is : h ≡ 2 ^ t) where

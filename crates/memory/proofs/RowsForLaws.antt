@@ -4,7 +4,7 @@ use Rattle.std.proofs.Common.{ap, sym, ◌∙◌, arith, mod-lt, take-take, pow_
 use Rattle.std.proofs.Math.Nat.{two-pow-succ}
 use Rattle.std.proofs.Math.Pow.{split}
 use Rattle.memory.specs.Memory.{start_of, RowsFor}
-use Rattle.memory.specs.RowLaws.{row_path}
+use Rattle.memory.proofs.RowLaws.{row_path}
 
 module _ (m : ℕ) (l : List ℤ) (j b : ℕ) (s : List ℤ) where
   pub rows_for_less : (y : List ℕ) (a : ℕ) → a ≤ b → RowsFor m l y j b s → RowsFor m l y j a s

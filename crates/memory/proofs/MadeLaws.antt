@@ -12,7 +12,7 @@ use Rattle.decoding.specs.PathLaws.{value-sizes}
 use Rattle.rows.specs.Rows.{row_of, with_row}
 use Rattle.rows.specs.PlaceLaws.{length-with_row, row_of-with_row, behind_with_row, behind_more}
 use Rattle.memory.specs.Memory.{start_of, below, row_at, new_row, remade, Made, RowsFor, Top}
-use Rattle.memory.specs.RowLaws.{length-below, row_index, row_next, row_top, row-sizes, value_row}
+use Rattle.memory.proofs.RowLaws.{length-below, row_index, row_next, row_top, row-sizes, value_row}
 
 -- ---- lengths of all rows
 length-row : (m i : ℕ) (y : List ℕ) (l : List ℤ) → length l ≡ 2 ^ m → i ≤ length y → (d t : ℕ) → d + t ≡ m → length (row_at m i y l d) ≡ 2 ^ t
