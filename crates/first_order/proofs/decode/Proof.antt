@@ -5,7 +5,7 @@ use native.Mathlib.Omega.{arith}
 use lib.IntN.{pos}
 use lib.ListN.{length, replicate, length-replicate}
 use lib.Seq.{length-take-le}
-use Rattle.words.specs.KindLaws.{sum-kinds}
+use Rattle.words.proofs.KindLaws.{sum-kinds}
 use Rattle.hadamard.specs.Hadamard.{entry}
 use Rattle.hadamard.specs.HadamardLaws.{length-hadamard}
 use Rattle.hadamard.specs.EncodedLaws.{sum-first_order}

@@ -1,6 +1,6 @@
 -- `float_memory::any_value`: one reading is its own value; else the rows are made, starting with the highest that changes.
 use native.Mathlib.Omega.{arith}
-use Rattle.float_numbers.specs.WholesLaws.{length-wholes}
+use Rattle.float_numbers.proofs.WholesLaws.{length-wholes}
 use Rattle.memory.proofs.CodeLaws.{first-ready, value_arrays}
 use Rattle.float_memory.specs.FloatMemoryLaws.{value_read, single_read}
 use Rattle.float_memory.proofs.any_value.Goals as goal

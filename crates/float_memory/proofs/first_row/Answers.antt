@@ -11,7 +11,7 @@ use Rattle.rows.specs.Rows.{with_row}
 use Rattle.memory.specs.Memory.{below}
 use Rattle.memory.proofs.CodeLaws.{short, top_long, top_fits, top_made, row_fits, row_small, row_made}
 use Rattle.float_numbers.specs.Whole.{wholes}
-use Rattle.float_numbers.specs.WholesLaws.{length-wholes}
+use Rattle.float_numbers.proofs.WholesLaws.{length-wholes}
 use Rattle.float_memory.specs.FloatMemoryLaws.{wholes-front}
 use Rattle.float_memory.proofs.first_row.Goals as goal
 

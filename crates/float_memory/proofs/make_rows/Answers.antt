@@ -6,7 +6,7 @@ use lib.ListN.{take}
 use Rattle.memory.specs.Memory.{Made}
 use Rattle.memory.proofs.CodeLaws.{short, row_fits, row_small, row_made, pass_ready}
 use Rattle.float_numbers.specs.Whole.{wholes}
-use Rattle.float_numbers.specs.WholesLaws.{length-wholes}
+use Rattle.float_numbers.proofs.WholesLaws.{length-wholes}
 use Rattle.float_memory.specs.FloatMemoryLaws.{same_floats}
 use Rattle.float_memory.proofs.make_rows.Goals as goal
 

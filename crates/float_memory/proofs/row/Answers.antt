@@ -8,7 +8,7 @@ use Rattle.decoding.specs.Quick.{lower_row, upper_row}
 use Rattle.rows.specs.Rows.{row_of, with_row}
 use Rattle.memory.proofs.CodeLaws.{start_inside, left_some, upper-made, lower-made}
 use Rattle.float_numbers.specs.Whole.{wholes}
-use Rattle.float_numbers.specs.WholesLaws.{length-wholes}
+use Rattle.float_numbers.proofs.WholesLaws.{length-wholes}
 use Rattle.float_memory.proofs.row.Goals as goal
 
 pub nonzero_div-b : goal.nonzero_div-b

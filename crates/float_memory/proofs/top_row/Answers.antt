@@ -3,7 +3,7 @@ use native.Mathlib.Omega.{arith}
 use lib.Pow.{pow_pos}
 use Rattle.memory.proofs.CodeLaws.{start_inside, left_some, upper-made, lower-made}
 use Rattle.float_numbers.specs.Whole.{wholes}
-use Rattle.float_numbers.specs.WholesLaws.{length-wholes}
+use Rattle.float_numbers.proofs.WholesLaws.{length-wholes}
 use Rattle.float_memory.proofs.top_row.Goals as goal
 
 pub nonzero_div-b : goal.nonzero_div-b

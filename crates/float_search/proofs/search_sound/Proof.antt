@@ -10,12 +10,12 @@ use lib.ListN.{length, take, replicate}
 use lib.Seq.{length-take-le}
 use lib.Ieee.{Float, binary32, of_bits}
 use Rattle.words.specs.Kinds.{kinds}
-use Rattle.words.specs.KindLaws.{length-kinds}
+use Rattle.words.proofs.KindLaws.{length-kinds}
 use Rattle.code.specs.SoundLaws.{length_most}
 use Rattle.search.specs.RunnerUp.{runner_up_outcome_by}
 use Rattle.search.specs.WorkLaws.{front-is, same_readings, searchable}
 use Rattle.float_numbers.specs.Whole.{wholes}
-use Rattle.float_numbers.specs.WholesLaws.{length-wholes, wholes-take}
+use Rattle.float_numbers.proofs.WholesLaws.{length-wholes, wholes-take}
 use Rattle.float_search.proofs.search_sound.Statement.{statement}
 use Rattle.float_search.proofs.search_sound.Tie as tie
 

@@ -3,7 +3,7 @@ use mathlib.Core.Path.{ap, sym, ◌∙◌}
 use Prim.Native.Nat.{ℕ}
 use lib.ListN.{length}
 use Rattle.numbers.specs.Sums.{sum}
-use Rattle.words.specs.KindLaws.{length-kinds}
+use Rattle.words.proofs.KindLaws.{length-kinds}
 use Rattle.code.specs.declared.Code.{Code}
 use Rattle.code.specs.Admitted.{admitted_by}
 use Rattle.search.specs.declared.WithRunnerUp.{WithRunnerUp}

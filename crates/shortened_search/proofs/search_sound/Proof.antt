@@ -4,7 +4,7 @@ use mathlib.Core.List.{List}
 use Prim.Native.Nat.{ℕ, ◌^◌}
 use native.Mathlib.Omega.{arith}
 use lib.IntN.{ℤ}
-use Rattle.words.specs.KindLaws.{length-kinds}
+use Rattle.words.proofs.KindLaws.{length-kinds}
 use Rattle.code.specs.SoundLaws.{length_most}
 use Rattle.search.specs.RunnerUp.{runner_up_outcome_by}
 use Rattle.shortened.specs.Outcome.{left_of}
