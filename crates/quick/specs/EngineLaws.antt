@@ -212,7 +212,7 @@ module _ (m : ℕ) (rows : List ℤ) (kinds word : List ℕ) (r : Ready m rows k
   one_value z =
       let e : get_or (row_of (2 ^ m) rows) 0 (pos 0) ≡ get_or rows 1 (pos 0) =
       ap (λ (k : ℕ). get_or (row_of (2 ^ k) rows) 0 (pos 0)) z ∙ get_or-take 1 (drop 1 rows) 0 (pos 0) (omega arith) ∙ get_or-drop 1 rows 0 (pos 0) in
-      rw (← e) (to_z-of_z (fits_size (get_or (row_of (2 ^ m) rows) 0 (pos 0)) (omega (arith, entry-sizes (row_of (2 ^ m) rows) 0, r.sized.small))))
+      rw (← e) (to_z-of_z {w = w32} (fits_size (get_or (row_of (2 ^ m) rows) 0 (pos 0)) (omega (arith, entry-sizes (row_of (2 ^ m) rows) 0, r.sized.small))))
 
   module _ (more : m ≡ 0 → ⊥) where
     whole : mid word + mid word ≡ 2 ^ m
