@@ -5,6 +5,7 @@ between two names of functions (`length-transform`). Types, modules, names of th
 Files of proofs, code, edits and the tables of names in docs/ are turned alike. With --list it prints old and new names, and writes nothing."""
 import collections
 import glob
+import os
 import re
 import subprocess
 import sys
@@ -105,6 +106,7 @@ def main():
     if "--list" in sys.argv:
         return
     proof_of = re.compile(r"crates/\w+/proofs/.*/")
+    code = set(re.findall(r"\bfn (\w+)", "\n".join(texts[p] for p in files if p.endswith(".rt")))) # functions keep their names
     fields = set()
     for t in texts.values():
         for record in re.finditer(r"^( *)(?:pub )?record [^\n]*where\n((?:\1 +[^\n]*\n|\n)+)", t, re.M):
@@ -115,7 +117,7 @@ def main():
 
         def one(m):
             name = m[0]
-            if name not in names:
+            if name not in names or name in code and not path.endswith(".antt"):
                 return name
             if made and text[m.start() - 1] == "." and not re.search(r"[A-Z]", name) and name not in fields:
                 return name
@@ -139,7 +141,7 @@ def main():
         if t != texts[p]:
             open(p, "w", encoding="utf-8").write(t)
     names = ported
-    for p in extra:
+    for p in filter(os.path.exists, extra):
         text = open(p, encoding="utf-8").read()
         t = turn(text, "")
         if t != text:
