@@ -15,8 +15,8 @@ use Rattle.decoding.specs.Demands.{BestFound}
 use Rattle.decoding.proofs.DemandsMet.{demands_code}
 use Rattle.sure.specs.Sure.{largest, SurelyRight}
 use Rattle.sure.specs.Test.{passes}
-use Rattle.sure.specs.SureLaws.{inside_code}
-use Rattle.sure.specs.TestLaws.{passes_right, passes-turned, quick_word-turned, quick_bits-turned, quick_penalty-turned}
+use Rattle.sure.proofs.SureLaws.{inside_code}
+use Rattle.sure.proofs.TestLaws.{passes_right, passes-turned, quick_word-turned, quick_bits-turned, quick_penalty-turned}
 use Rattle.code.specs.Sound.{rm}
 use Rattle.code.specs.AdmittedLaws.{allows, refuses, decided}
 use Rattle.code.specs.RefusalLaws.{number_above}

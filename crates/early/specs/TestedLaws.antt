@@ -4,7 +4,7 @@ use Rattle.std.proofs.Common.{sym, ◌∙◌, zero-le, arith, add-one, not-suc-l
 use Rattle.numbers.specs.PartsLaws.{parts}
 use Rattle.decoding.specs.Readings.{Within}
 use Rattle.sure.specs.Sure.{largest, doubt_at, doubt}
-use Rattle.sure.specs.LargestLaws.{within_largest, largest-least}
+use Rattle.sure.proofs.LargestLaws.{within_largest, largest-least}
 use Rattle.code.specs.declared.Code.{Code}
 use Rattle.code.specs.Sound.{largest_reading}
 use Rattle.code.specs.SoundLaws.{length_most}

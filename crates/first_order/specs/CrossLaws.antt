@@ -9,7 +9,7 @@ use Rattle.numbers.specs.Halves.{length_first_half, length_second_half, equal_ha
 use Rattle.decoding.specs.Readings.{turn, sizes}
 use Rattle.decoding.specs.StepLaws.{entry-sizes, sizes-append}
 use Rattle.hadamard.specs.Hadamard.{combined, hadamard}
-use Rattle.hadamard.specs.HadamardLaws.{get_or-combined, length-combined, sizes-combined}
+use Rattle.hadamard.proofs.HadamardLaws.{get_or-combined, length-combined, sizes-combined}
 use Rattle.first_order.specs.Work.{crossed}
 
 -- a store after the first n entries

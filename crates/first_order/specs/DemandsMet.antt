@@ -14,7 +14,7 @@ use Rattle.decoding.specs.AnswerLaws.{answer_tied, answer-found}
 use Rattle.decoding.proofs.DemandsMet.{demands_code}
 use Rattle.code.specs.declared.Code.{Code}
 use Rattle.code.specs.declared.Refusal.TheVariants.{Tied}
-use Rattle.hadamard.specs.TheoremsMet.{transform_theorems}
+use Rattle.hadamard.proofs.TheoremsMet.{transform_theorems}
 use Rattle.code.specs.Sound.{largest_m, largest_reading}
 use Rattle.code.specs.SoundInput.{SoundReadings}
 use Rattle.code.specs.AdmittedLaws.{allows, refuses, decided}

@@ -9,7 +9,7 @@ use Rattle.decoding.specs.Answer.{Answer, answer}
 use Rattle.decoding.specs.StepLaws.{sizes_within}
 use Rattle.decoding.specs.Quick.{hard}
 use Rattle.hadamard.specs.Hadamard.{hadamard, entry, first_order, bits_of, LargestTwo}
-use Rattle.hadamard.specs.AnswerLaws.{least-by_place, answer-by_place}
+use Rattle.hadamard.proofs.AnswerLaws.{least-by_place, answer-by_place}
 use Rattle.code.specs.declared.Code.{Code}
 use Rattle.code.specs.declared.Refusal.{Refusal}
 use Rattle.code.specs.declared.Refusal.TheVariants.{Parameters, Tied}

@@ -6,7 +6,7 @@ use Rattle.std.proofs.Math.ListN.{get_or-eq_default}
 use Rattle.numbers.specs.Choice.{lt_or_le}
 use Rattle.decoding.specs.Readings.{Within}
 use Rattle.hadamard.specs.Hadamard.{LargestTwo}
-use Rattle.hadamard.specs.LargestLaws.{largest_two}
+use Rattle.hadamard.proofs.LargestLaws.{largest_two}
 use Rattle.first_order.specs.Work.{size_at, key_at, Top}
 
 pub top_none : (f : ℕ → ℕ) → Top f 0 0

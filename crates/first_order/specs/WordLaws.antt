@@ -14,8 +14,8 @@ use Rattle.words.specs.Bits.{Bits, digit}
 use Rattle.words.specs.BitLaws.{ones-counted}
 use Rattle.decoding.specs.Readings.{sizes}
 use Rattle.hadamard.specs.Hadamard.{common, first_order, bits_of}
-use Rattle.hadamard.specs.FirstOrderLaws.{word-doubled}
-use Rattle.hadamard.specs.EncodedLaws.{bits_of_at, bits_of-last, bits_of_are, sum-first_order}
+use Rattle.hadamard.proofs.FirstOrderLaws.{word-doubled}
+use Rattle.hadamard.proofs.EncodedLaws.{bits_of_at, bits_of-last, bits_of_are, sum-first_order}
 use Rattle.first_order.specs.Work.{doubled}
 use Rattle.first_order.specs.CrossLaws.{set-second}
 

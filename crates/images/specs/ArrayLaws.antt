@@ -10,7 +10,7 @@ use Rattle.numbers.specs.Sums.{tabulate}
 use Rattle.numbers.specs.SumsLaws.{length-tabulate, get_d_tabulate, tabulate_same}
 use Rattle.words.specs.Bits.{Bits, digit}
 use Rattle.maps.specs.Maps.{number, image, where_is, all_apart}
-use Rattle.maps.specs.TestLaws.{tested}
+use Rattle.maps.proofs.TestLaws.{tested}
 use Rattle.images.specs.Images.{Shows, Doubled, Placed, spread_of}
 use Rattle.images.specs.ImagesLaws.{image_column, image-zero}
 

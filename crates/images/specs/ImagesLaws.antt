@@ -12,8 +12,9 @@ use Rattle.words.specs.BitLaws.{second_alike, digit-first, digit-second}
 use Rattle.maps.specs.Maps.{number, image_bit, image}
 use Rattle.maps.specs.NumberLaws.{by_bits, number-below, digit-number, number_same, number_digits, digits_determine}
 use Rattle.maps.specs.ImageLaws.{image-below, digit-image}
-use Rattle.maps.specs.CountLaws.{is, is_same, is_other, picked}
-use Rattle.maps.specs.UndoLaws.{image_added}
+use Rattle.maps.specs.CountLaws.{is}
+use Rattle.maps.proofs.CountLaws.{is_same, is_other, picked}
+use Rattle.maps.proofs.UndoLaws.{image_added}
 
 -- ---- sums modulo 2, bit by bit
 pub digit_xor : (p a b : ℕ) → digit p (bit_xor a b) ≡ (digit p a + digit p b) % 2

@@ -18,9 +18,9 @@ use Rattle.code.specs.EntriesLaws.{good_bits}
 use Rattle.maps.specs.Maps.{number, image_bit, image, reordered, product_table, product_row, Apart, where_is, all_apart, can_undo, undo_table, undo_row}
 use Rattle.maps.specs.NumberLaws.{number-below, digit-number, number_same}
 use Rattle.maps.specs.ImageLaws.{image_bit_lem, image-below, digit-image, image_same}
-use Rattle.maps.specs.CountLaws.{where_met}
-use Rattle.maps.specs.UndoLaws.{image_added, undoable_apart, undo_after}
-use Rattle.maps.specs.TestLaws.{tested, can_undo_lem}
+use Rattle.maps.proofs.CountLaws.{where_met}
+use Rattle.maps.proofs.UndoLaws.{image_added, undoable_apart, undo_after}
+use Rattle.maps.proofs.TestLaws.{tested, can_undo_lem}
 use Rattle.images.specs.Images.{is_map, Shows, Placed, Taken, MapTested, Moves, moved, UndoPut, ProductPut}
 use Rattle.images.specs.ImagesLaws.{number_small, image-row}
 use Rattle.images.specs.ArrayLaws.{some_side}

@@ -18,8 +18,8 @@ use Rattle.code.specs.Demand1.{Checks, passed, check_at, LowestBad}
 use Rattle.code.specs.Demand1Laws.{Decides, demand_1, decides_entry}
 use Rattle.maps.specs.Maps as Maps
 use Rattle.maps.specs.Maps.{reordered, product_table, product_row, Undoes, Apart, undo_table, undo_row}
-use Rattle.maps.specs.UndoLaws.{undoable_apart, undo_before, undo_after}
-use Rattle.maps.specs.TestLaws.{can_undo_lem}
+use Rattle.maps.proofs.UndoLaws.{undoable_apart, undo_before, undo_after}
+use Rattle.maps.proofs.TestLaws.{can_undo_lem}
 use Rattle.images.specs.Images.{is_map, Mapped}
 use Rattle.images.specs.WorkLaws.{both_good, bits_map}
 use Rattle.reorder.specs.Outcome.{Outcome, done, refused, is_long, sized, map_tested, entry_tested, reordering, reordering_word, undoing, multiplying}

@@ -9,7 +9,7 @@ use Rattle.code.specs.Entries.{first_bad_bit, first_bad_reading}
 use Rattle.code.specs.EntriesLaws.{good_bits, good_readings}
 use Rattle.maps.specs.Maps.{reordered, Alongside, both_tied, both_found}
 use Rattle.maps.specs.ImageLaws.{length-reordered}
-use Rattle.maps.specs.ReorderedBest.{within_reordered, answers_alongside}
+use Rattle.maps.proofs.ReorderedBest.{within_reordered, answers_alongside}
 use Rattle.images.specs.Images.{is_map, Mapped}
 use Rattle.search.specs.Outcome as Search
 use Rattle.search.specs.Demands.{SoundSearch}

@@ -11,8 +11,8 @@ use Rattle.maps.specs.Maps.{Undoable, image, reordered, product_table, product_r
 use Rattle.maps.specs.PositionOrders.{Orders}
 use Rattle.maps.specs.DegreeLaws.{bits_values}
 use Rattle.maps.specs.ImageLaws.{length-reordered, word-reordered}
-use Rattle.maps.specs.ReorderedBest.{within_reordered}
-use Rattle.maps.specs.PositionOrdersMet.{position_orders}
+use Rattle.maps.proofs.ReorderedBest.{within_reordered}
+use Rattle.maps.proofs.PositionOrdersMet.{position_orders}
 use Rattle.images.specs.Images.{is_map, Mapped}
 use Rattle.reorder.specs.Outcome.{Outcome, done, reordering, reordering_word, undoing, multiplying}
 use Rattle.reorder.specs.Demands.{Good, LongMap, Call, OneThenAnother, Restored, SameCode}

@@ -5,7 +5,7 @@ use Rattle.std.proofs.Common.{ap₂, ◌∙◌, subst, arith, take_at, pow_mono,
 use Rattle.words.specs.Bits.{Bits}
 use Rattle.words.specs.Kinds.{kinds}
 use Rattle.decoding.specs.Walk.{tree}
-use Rattle.hadamard.specs.EncodedLaws.{sum-first_order}
+use Rattle.hadamard.proofs.EncodedLaws.{sum-first_order}
 use Rattle.code.specs.declared.Refusal.{Refusal}
 use Rattle.code.specs.declared.Refusal.TheVariants.{Parameters}
 use Rattle.code.specs.Sound.{carrying, carried, largest_m}

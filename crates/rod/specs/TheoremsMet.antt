@@ -18,7 +18,7 @@ use Rattle.decoding.specs.CleanLaws.{clean}
 use Rattle.decoding.proofs.CleanLaws as cleanly
 use Rattle.decoding.specs.GapLaws.{drift}
 use Rattle.hadamard.specs.Hadamard.{first_order, bits_of}
-use Rattle.hadamard.specs.EncodedLaws.{encoded-bits_of, word_once}
+use Rattle.hadamard.proofs.EncodedLaws.{encoded-bits_of, word_once}
 use Rattle.code.specs.Sound.{carrying}
 use Rattle.search.specs.Outcome as Search
 use Rattle.search.specs.Outcome.{by_answer, searching}

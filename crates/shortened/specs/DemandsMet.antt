@@ -6,7 +6,7 @@ use Rattle.numbers.specs.Sums.{sum}
 use Rattle.words.specs.Kinds.{kinds, encoded, Word}
 use Rattle.words.specs.Inverse.{taken_back}
 use Rattle.sure.specs.Sure.{Sure, Inside, SurelyRight}
-use Rattle.sure.specs.SureLaws.{surely-right}
+use Rattle.sure.proofs.SureLaws.{surely-right}
 use Rattle.code.specs.declared.Made.TheVariants.{Bad}
 use Rattle.code.specs.declared.Code.{Code}
 use Rattle.code.specs.declared.Refusal.{Refusal}

@@ -1,23 +1,13 @@
 -- Examples, computed from the definitions, as one statement; and one real case, where the theorem covers all 65,536 words of RM(2,5)
 -- without trying them one by one.
-use Rattle.std.specs.Prelude.{◌≡◌, refl, true, false, List, [], ◌∷◌, map, ℕ, ◌*◌, ◌^◌, ℤ, pos, negsuc}
-use Rattle.std.proofs.Common.{arith}
-use Rattle.numbers.specs.Sums.{total, tabulate, sum}
-use Rattle.numbers.specs.Least.{least, without, next, first_with}
-use Rattle.words.specs.Bits.{digit, ones}
-use Rattle.words.specs.Word.{transform}
-use Rattle.words.specs.Kinds.{kind, kinds, all_bits}
+use Rattle.std.specs.Prelude.{◌≡◌, true, false, List, [], ◌∷◌, map, ℕ, ◌*◌, ◌^◌, ℤ, pos, negsuc}
+use Rattle.words.specs.Kinds.{kinds}
 use Rattle.words.specs.Distance.{distance}
-use Rattle.decoding.specs.Readings.{penalty}
 use Rattle.decoding.specs.Quick.{hard, quick_word, quick_bits}
-use Rattle.decoding.specs.Best.{penalties, least_penalty, gap, best_bits, best_word}
-use Rattle.decoding.specs.Walk.{value, walk, walked}
 use Rattle.decoding.specs.Answer.{found, tied, answer}
 use Rattle.decoding.specs.Examples.{sample}
 use Rattle.sure.specs.Sure.{largest, doubt, SurelyRight}
 use Rattle.sure.specs.Test.{is_sure}
-use Rattle.sure.specs.LargestLaws.{within_largest}
-use Rattle.sure.specs.SureLaws.{inside_code, quick_sure}
 
 -- 7 9 -6 -8 -9 2 8 -1
 abbrev pub noisy : List ℤ
@@ -48,26 +38,6 @@ pub record Examples : Type 0 where
   pub bound_quick : quick_word 2 (kinds 1 2) one_error ≡ 0 ∷ 0 ∷ 0 ∷ 0 ∷ []
   pub bound_tied : answer 2 (kinds 1 2) one_error 15 ≡ tied 1 9
 
-pub examples : Examples
-unfolding kinds kind ones digit tabulate total sum transform all_bits penalty penalties least_penalty gap best_bits best_word
-    least without next first_with value walk walked answer quick_word quick_bits distance doubt largest is_sure
-examples =
-    record {
-      noisy_errors = refl;
-      noisy-sum = refl;
-      noisy_sure = refl;
-      noisy_quick = refl;
-      noisy_bits = refl;
-      noisy-answer = refl;
-      sample-sum = refl;
-      sample_unsure = refl;
-      sample_quick = refl;
-      bound_sum = refl;
-      bound_unsure = refl;
-      bound_quick = refl;
-      bound_tied = refl;
-    }
-
 -- ---- a real case: a word of RM(2,5) in noise of 0.62 times its size, clipped at that size
 abbrev pub hull : List ℤ
 hull =
@@ -90,14 +60,3 @@ pub record Hull : Type 0 where
   pub largest-is : largest hull ≡ 100
   pub sum_is : doubt 100 hull hull_word ≡ 769
   pub right : SurelyRight 100 2 5 (kinds 2 5) hull hull_word hull_bits
-
-pub hull-is : Hull
-unfolding kinds kind ones digit tabulate total transform quick_word quick_bits distance doubt largest
-hull-is =
-    record {
-      errors = refl;
-      largest-is = refl;
-      sum_is = refl;
-      right = quick_sure 100 2 5 (kinds 2 5) hull (omega arith) (inside_code 2 5)
-          (record { at_least_one = omega arith; within = within_largest hull; long = refl; below = omega arith });
-    }

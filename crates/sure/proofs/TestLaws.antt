@@ -14,9 +14,9 @@ use Rattle.decoding.specs.QuickLaws.{length_quick, bits_quick, length-quick_bits
 use Rattle.decoding.specs.TurnLaws.{length-turns, penalty-turns}
 use Rattle.sure.specs.Sure.{largest, doubt, Sure, Inside, SurelyRight}
 use Rattle.sure.specs.Test.{is_sure, passes, SomeSure}
-use Rattle.sure.specs.LargestLaws.{within_largest, largest_sure}
-use Rattle.sure.specs.TurnedLaws.{sure_turned, turns-twice}
-use Rattle.sure.specs.SureLaws.{surely-right, quick_sure}
+use Rattle.sure.proofs.LargestLaws.{within_largest, largest_sure}
+use Rattle.sure.proofs.TurnedLaws.{sure_turned, turns-twice}
+use Rattle.sure.proofs.SureLaws.{surely-right, quick_sure}
 
 not-below-zero : (M n d : ℕ) → n < M * d → 1 ≤ M
 not-below-zero zero n d h = absurd (omega arith)

@@ -25,8 +25,10 @@ use Rattle.decoding.specs.QuickLaws.{quick-word}
 use Rattle.decoding.specs.TreeLaws.{needed_most}
 use Rattle.decoding.specs.AnswerLaws.{answer-found}
 use Rattle.sure.specs.Sure.{doubt_at, doubt, Sure, Inside, SurelyRight, FewErrors}
-use Rattle.sure.specs.MarginLaws.{doubt-penalty, apart_penalty, Clear}
-use Rattle.sure.specs.QuickSure.{FrozenBelow, quick_right}
+use Rattle.sure.specs.MarginLaws.{Clear}
+use Rattle.sure.proofs.MarginLaws.{doubt-penalty, apart_penalty}
+use Rattle.sure.specs.QuickSure.{FrozenBelow}
+use Rattle.sure.proofs.QuickSure.{quick_right}
 
 -- ---- two words of RM(r,m)
 sure_clear : (M r m : ℕ) (l : List ℤ) (c : List ℕ) → length c ≡ 2 ^ m → Sure M r m l c → Clear M (2 ^ (m - r)) l c

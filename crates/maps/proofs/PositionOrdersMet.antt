@@ -2,10 +2,10 @@
 use Rattle.std.specs.Prelude.{List, ℕ, pos}
 use Rattle.maps.specs.Maps.{undo_table, undo_row}
 use Rattle.maps.specs.ImageLaws.{word-reordered}
-use Rattle.maps.specs.ProductLaws.{product-map, reordered_product}
-use Rattle.maps.specs.UndoLaws.{reordered_undone, undo_before, undo_after, undo-map, undoable_apart, product_undoable}
-use Rattle.maps.specs.TestLaws.{can_undo_lem}
-use Rattle.maps.specs.ReorderedBest.{penalty-reordered, within_reordered, least_kept, gap_kept, best_word-reordered, answers_alongside}
+use Rattle.maps.proofs.ProductLaws.{product-map, reordered_product}
+use Rattle.maps.proofs.UndoLaws.{reordered_undone, undo_before, undo_after, undo-map, undoable_apart, product_undoable}
+use Rattle.maps.proofs.TestLaws.{can_undo_lem}
+use Rattle.maps.proofs.ReorderedBest.{penalty-reordered, within_reordered, least_kept, gap_kept, best_word-reordered, answers_alongside}
 use Rattle.maps.specs.PositionOrders.{Orders, PositionOrders}
 
 orders : {T : Type 0} (d : T) (m : ℕ) (A b : List ℕ) (l : List T) → Orders d m A b l

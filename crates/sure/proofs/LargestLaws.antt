@@ -4,7 +4,7 @@ use Rattle.std.proofs.Common.{ap, sym, ◌∙◌, arith, add-mul, mul_comm, mul-
 use Rattle.decoding.specs.Readings.{penalty, sizes, Within}
 use Rattle.decoding.specs.StepLaws.{sizes_within}
 use Rattle.sure.specs.Sure.{largest, Sure}
-use Rattle.sure.specs.MarginLaws.{doubt-penalty}
+use Rattle.sure.proofs.MarginLaws.{doubt-penalty}
 
 pub within_largest : (l : List ℤ) → Within (largest l) l
 unfolding largest

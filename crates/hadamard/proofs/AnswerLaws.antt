@@ -25,9 +25,9 @@ use Rattle.decoding.specs.AnswerLaws.{answer_tied, answer-found}
 use Rattle.decoding.specs.Demands.{Demand2, Together, Demands}
 use Rattle.decoding.proofs.DemandsMet.{demands}
 use Rattle.hadamard.specs.Hadamard.{hadamard, entry, by_place, first_order, bits_of, place_named, LargestTwo}
-use Rattle.hadamard.specs.HadamardLaws.{length-hadamard}
-use Rattle.hadamard.specs.FirstOrderLaws.{length-first_order, correlation-word}
-use Rattle.hadamard.specs.EncodedLaws.{sum-first_order, bits_of_are, place_bits_of, place_within, bits_of_place, encoded-bits_of}
+use Rattle.hadamard.proofs.HadamardLaws.{length-hadamard}
+use Rattle.hadamard.proofs.FirstOrderLaws.{length-first_order, correlation-word}
+use Rattle.hadamard.proofs.EncodedLaws.{sum-first_order, bits_of_are, place_bits_of, place_within, bits_of_place, encoded-bits_of}
 
 -- ---- one word's penalty
 word-penalty : (m : ℕ) (l : List ℤ) → length l ≡ 2 ^ m → (s e : ℕ) → s < 2 ^ m → e < 2

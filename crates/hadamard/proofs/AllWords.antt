@@ -11,9 +11,9 @@ use Rattle.words.specs.Kinds.{kinds, encoded, all_bits}
 use Rattle.decoding.specs.Readings.{turn, correlation}
 use Rattle.decoding.specs.TurnedBest.{all_by_first}
 use Rattle.hadamard.specs.Hadamard.{hadamard, entry, bits_of, correlations, SameEntries}
-use Rattle.hadamard.specs.HadamardLaws.{length-hadamard}
-use Rattle.hadamard.specs.FirstOrderLaws.{correlation-word}
-use Rattle.hadamard.specs.EncodedLaws.{bits_first, bits_second, sum-first_order, encoded-bits_of}
+use Rattle.hadamard.proofs.HadamardLaws.{length-hadamard}
+use Rattle.hadamard.proofs.FirstOrderLaws.{correlation-word}
+use Rattle.hadamard.proofs.EncodedLaws.{bits_first, bits_second, sum-first_order, encoded-bits_of}
 
 -- ---- all information bits
 pub all_places : (f : List ℕ → ℕ) (m : ℕ) → sum (map f (all_bits (suc m))) ≡ total (λ s. f (bits_of m s 0) + f (bits_of m s 1)) (2 ^ m)

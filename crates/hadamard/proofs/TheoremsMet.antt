@@ -1,5 +1,5 @@
 -- The theorems on the transform hold.
-use Rattle.std.specs.Prelude.{◌≡◌, refl, List, ℕ, ◌*◌, ◌^◌, ◌%◌, ◌≤◌, ◌<◌, ℤ, length}
+use Rattle.std.specs.Prelude.{◌≡◌, List, ℕ, ◌*◌, ◌^◌, ◌%◌, ◌≤◌, ◌<◌, ℤ, length}
 use Rattle.std.proofs.Common.{ap, sym, ◌∙◌, arith, le_refl, le_trans, mul-le-mul_left}
 use Rattle.std.proofs.lemmas.List.{length-map}
 use Rattle.numbers.specs.Sums.{sum}
@@ -8,10 +8,10 @@ use Rattle.words.proofs.FillLaws.{length-all_bits}
 use Rattle.decoding.specs.Readings.{correlation, sizes, Within}
 use Rattle.decoding.specs.StepLaws.{sizes_within}
 use Rattle.hadamard.specs.Hadamard.{hadamard, correlations, place_named}
-use Rattle.hadamard.specs.HadamardLaws.{length-hadamard, hadamard-combined, hadamard-twice, hadamard_within, sizes-combined}
-use Rattle.hadamard.specs.FirstOrderLaws.{correlation-word}
-use Rattle.hadamard.specs.EncodedLaws.{sum-first_order, place_within, place_word, word_place, word_once}
-use Rattle.hadamard.specs.AllWords.{all-correlations}
+use Rattle.hadamard.proofs.HadamardLaws.{length-hadamard, hadamard-combined, hadamard-twice, hadamard_within, sizes-combined}
+use Rattle.hadamard.proofs.FirstOrderLaws.{correlation-word}
+use Rattle.hadamard.proofs.EncodedLaws.{sum-first_order, place_within, place_word, word_place, word_once}
+use Rattle.hadamard.proofs.AllWords.{all-correlations}
 use Rattle.hadamard.specs.Theorems.{WordsAndEntries, TransformTheorems}
 
 pub words_and_entries : (m : ℕ) (l : List ℤ) → length l ≡ 2 ^ m → WordsAndEntries m l

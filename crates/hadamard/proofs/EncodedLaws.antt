@@ -1,9 +1,9 @@
 -- The words of place s and bit e are the words of RM(1,m), each once: the information bits are the digits of s, the highest first, and then
 -- e plus the number of ones of s, modulo 2; conversely, e is the sum of all information bits modulo 2.
 use Rattle.std.specs.Prelude.{◌≡◌, refl, List, [], ◌∷◌, ◌++◌, ℕ, zero, suc, ◌+◌, ◌-◌, ◌*◌, ◌^◌, ◌%◌, ◌<◌, length, get_or, replicate}
-use Rattle.std.proofs.Common.{ap, ap₂, sym, ◌∙◌, suc-ne-zero, le_refl, length-append, take_at, drop_at}
+use Rattle.std.proofs.Common.{ap, ap₂, sym, ◌∙◌, suc-ne-zero, length-append, take_at, drop_at}
 use native.Mathlib.Omega.{arith}
-use Rattle.std.proofs.Math.Nat.{suc_inj, two-pow-succ, suc-sub-suc}
+use Rattle.std.proofs.Math.Nat.{suc_inj, two-pow-succ}
 use Rattle.std.proofs.Math.ListN.{get_or-append}
 use Rattle.std.proofs.lemmas.List.{length-replicate, replicate-append-replicate, get_or_at}
 use Rattle.numbers.specs.Sums.{sum, tabulate}
@@ -11,7 +11,7 @@ use Rattle.numbers.specs.SumsLaws.{sum-append, sum_zeros, tabulate_same}
 use Rattle.words.specs.Bits.{Bits, xors, digit, digits, ones}
 use Rattle.words.specs.Word.{transform}
 use Rattle.words.specs.Kinds.{kinds, fill, encoded, InformationBits, Word}
-use Rattle.words.specs.BitLaws.{digit_bit, digit-first, digit-second, second_alike, by_halves_lem, ones-first, ones-second}
+use Rattle.words.specs.BitLaws.{digit-first, digit-second, second_alike, by_halves_lem, ones-first, ones-second}
 use Rattle.words.specs.BitLaws.{digits_alike, length_digits, bits_digits, digits_at}
 use Rattle.words.proofs.KindLaws.{length-kinds, bits_kinds, kinds-one, kinds-zero, kinds-suc, sum-kinds, dimension-zero, dimension-one, dimension-suc}
 use Rattle.words.specs.TransformLaws.{xors_comm, xors-zeros, bits_append, bits_zeros, transform-zeros}
@@ -19,7 +19,7 @@ use Rattle.words.specs.Inverse.{taken, taken_back}
 use Rattle.words.proofs.InverseLaws.{word_taken}
 use Rattle.words.proofs.FillLaws.{length-fill, fill-zeros}
 use Rattle.hadamard.specs.Hadamard.{common, first_order, bits_of, place_named}
-use Rattle.hadamard.specs.FirstOrderLaws.{word_first, word-second}
+use Rattle.hadamard.proofs.FirstOrderLaws.{word_first, word-second}
 
 -- ---- the bits by halves
 module _ (m s e : ℕ) (h : s < 2 ^ m) where
