@@ -1,0 +1,31 @@
+-- `record::record_length` meets its contract.
+use mathlib.Core.Path.{◌∙◌, ap, sym}
+use Prim.Native.Nat.{ℕ, ◌+◌, ◌/◌, ◌%◌}
+use native.Mathlib.Omega.{arith}
+use native.Mathlib.Numerals.{one-add}
+use Rattle.code.specs.Sound.{Sound}
+use Rattle.record.specs.Reader.{length_by}
+use Rattle.code.specs.SoundLaws.{made_of}
+use Rattle.record.specs.ReaderLaws.{part_small}
+use Rattle.record.proofs.record_length.Goals as goal
+use Rattle.record.proofs.record_length.Goals.{In-Good}
+
+-- the code that was made is sound
+sound : (c : In-Good) → Sound c.in-Good.code
+sound c =
+    let first = c.args.first in
+    (made_of (first % 16) (first / 16) _ (sym c.code_of.ensures ∙ c.in-Good.is)).sound
+
+pub part_length-requires : goal.part_length-requires
+part_length-requires c = sound c
+
+pub overflow_add-result : goal.overflow_add-result
+overflow_add-result c = omega (arith, part_small _ (sound ((goal.at.overflow_add-result c).In-Good)))
+
+pub returns-in-Good : goal.returns-in-Good
+returns-in-Good c =
+    ap (λ (k : ℕ). 1 + k) c.part_length.ensures ∙ one-add _
+    ∙ ap length_by (sym (sym c.code_of.ensures ∙ c.in-Good.is))
+
+pub returns-in-Bad : goal.returns-in-Bad
+returns-in-Bad c = ap length_by (sym (sym c.code_of.ensures ∙ c.in-Bad.is))

@@ -1,0 +1,35 @@
+-- `record::search_record` meets its contract: the header decides, then the search.
+use mathlib.Core.Path.{◌∙◌, ap, sym}
+use mathlib.Core.List.{[]}
+use Rattle.search.specs.declared.WithRunnerUp.{WithRunnerUp}
+use Rattle.search.specs.RunnerUp.{runner_up_outcome_of}
+use Rattle.search.specs.RunnerUpLaws.{none-shown}
+use Rattle.record.specs.declared.Header.{Header}
+use Rattle.record.specs.Searching.{searching_with_runner_up_by, searching_record}
+use Rattle.record.specs.ReaderLaws.{header_record}
+use Rattle.record.proofs.search_record.Goals as goal
+
+pub search_headed-requires : goal.search_headed-requires
+search_headed-requires c =
+    let s = c.args.s.now in
+    let f = header_record s _ (sym c.read_header.ensures ∙ c.in-Record.is) in
+    (f.sound, f.whole)
+
+pub returns-in-Record : goal.returns-in-Record
+unfolding searching_record
+returns-in-Record c =
+    let f = c in
+    let g = f.args in
+    c.search_headed.ensures
+    ∙ ap (λ (h : Header). searching_with_runner_up_by h g.allowed g.s.now g.bits.now g.word.now)
+    (sym (sym f.read_header.ensures ∙ c.in-Record.is))
+
+pub returns-in-Refused : goal.returns-in-Refused
+unfolding searching_record
+returns-in-Refused c =
+    let known = c in
+    let g = known.args in
+    ap (λ (a : WithRunnerUp). runner_up_outcome_of a g.bits.now g.word.now) c.refused.ensures
+    ∙ sym (none-shown [] known.in-Refused.why g.bits.now g.word.now)
+    ∙ ap (λ (h : Header). searching_with_runner_up_by h g.allowed g.s.now g.bits.now g.word.now)
+    (sym (sym known.read_header.ensures ∙ known.in-Refused.is))
