@@ -1,0 +1,8 @@
+-- `count`: the sum is within the allowance.
+use mathlib.Core.Path.{ap}
+use lib.ListN.{set}
+use borrow.Author.Rules.{rules}
+use Rattle.walk.proofs.count.Goals as goal
+
+pub returns : goal.returns
+returns c = ap (set c.args.state.now 3) c.plus.ensures
