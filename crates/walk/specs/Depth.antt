@@ -1,7 +1,7 @@
 -- How deep the walk goes, over the measure by which the checker accepts that its two steps call each other: a step may call the other only with a smaller
 -- measure than its own (proofs/+frozen_step+info_step, here and in `float_walk`). So the measures of the steps that are open at the same time fall, and
 -- they are in turn those of information steps and of frozen steps. The bounds on the stack (tools/stack) rest on this.
-use Rattle.std.specs.Prelude.{◌≡◌, refl, List, [], ◌∷◌, ℕ, zero, suc, ◌+◌, ◌*◌, ◌^◌, ◌≤◌, ◌<◌, min, length, get_or, take, drop}
+use Rattle.std.specs.Prelude.{◌≡◌, refl, List, [], ◌∷◌, ℕ, zero, suc, ◌+◌, ◌*◌, ◌≤◌, ◌<◌, min, length, get_or, take, drop}
 use Rattle.std.proofs.Common.{sym, ◌∙◌, subst, arith, get_or-take}
 use Rattle.numbers.specs.Sums.{sum}
 use Rattle.words.specs.Kinds.{kinds, dimension}

@@ -8,7 +8,7 @@ use Rattle.words.specs.TransformLaws.{bits_take, bits_drop, bits_append}
 use Rattle.decoding.specs.Readings.{loss}
 use Rattle.decoding.specs.Quick.{hard}
 use Rattle.decoding.specs.Walk.{State, dropped, value, path_penalty}
-use Rattle.decoding.specs.Allowance.{Limited, out, walk_within}
+use Rattle.decoding.specs.Allowance.{Limited, walk_within}
 use Rattle.decoding.specs.PathLaws.{hard_bit, loss-hard, path_more}
 use Rattle.decoding.specs.Blocks.{block_row, Starts, hard_row, visited_by}
 use Rattle.decoding.specs.BlockLaws.{starts}

@@ -1,7 +1,6 @@
 -- `allows`: compared by the difference, where there is one.
 use Rattle.walk.specs.ProgressLaws.{too_few, compared}
 use lib.ListN.{get_or}
-use borrow.Author.Rules.{rules}
 use Rattle.walk.proofs.allows.Goals as goal
 
 pub returns-then-allowed-n : goal.returns-then-allowed-n

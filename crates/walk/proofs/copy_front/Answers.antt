@@ -3,7 +3,6 @@ use mathlib.Core.Path.{◌≡◌, ap, ◌∙◌}
 use lib.ListN.{length, take}
 use lib.Seq.{take_at, length-take-le}
 use Rattle.numbers.specs.Lent.{lent_to}
-use borrow.Author.Rules.{rules}
 use Rattle.walk.proofs.copy_front.Goals as goal
 
 pub returns : goal.returns

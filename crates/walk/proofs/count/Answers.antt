@@ -1,7 +1,6 @@
 -- `count`: the sum is within the allowance.
 use mathlib.Core.Path.{ap}
 use lib.ListN.{set}
-use borrow.Author.Rules.{rules}
 use Rattle.walk.proofs.count.Goals as goal
 
 pub returns : goal.returns

@@ -1,6 +1,5 @@
 -- `finish`: which of both rows is copied, and which numbers are written, is what holding a full path means.
 use Rattle.walk.specs.ProgressLaws.{hold-first, hold_as_best, hold_as_second}
-use borrow.Author.Rules.{rules}
 use Rattle.walk.proofs.finish.Goals as goal
 
 pub returns-then-state-eq0 : goal.returns-then-state-eq0

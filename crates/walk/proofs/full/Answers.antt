@@ -5,7 +5,6 @@ use native.Mathlib.Nat.{one-mul, mod-eq_of_lt}
 use lib.Dec.{eqb}
 use lib.ListN.{get_or}
 use Rattle.memory.specs.TopLaws.{exponent_small}
-use borrow.Author.Rules.{rules}
 use Rattle.walk.proofs.full.Goals as goal
 
 pub overflow_cast-result : goal.overflow_cast-result

@@ -4,7 +4,6 @@ use native.Mathlib.Omega.{arith}
 use lib.Pow.{pow_pos}
 use borrow.Author.Tests.{not-false}
 use Rattle.walk.specs.InformationTestLaws.{hard_within, not_start, no_row, not-all, all_pass}
-use borrow.Author.Rules.{rules}
 use Rattle.walk.proofs.hard_block.Goals as goal
 
 pub nonzero_rem-i : goal.nonzero_rem-i

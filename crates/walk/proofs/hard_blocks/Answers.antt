@@ -1,6 +1,5 @@
 -- `hard_blocks`: each is tried where no larger one was taken.
 use Rattle.walk.specs.InformationTestLaws.{given_16, given_8, given_4, given_2, given-none}
-use borrow.Author.Rules.{rules}
 use Rattle.walk.proofs.hard_blocks.Goals as goal
 
 pub returns-then-hard_block : goal.returns-then-hard_block

@@ -5,7 +5,6 @@ use native.Mathlib.Nat.{one-mul, mod-eq_of_lt}
 use lib.Dec.{ltb}
 use lib.ListN.{get_or}
 use Rattle.memory.specs.TopLaws.{exponent_small}
-use borrow.Author.Rules.{rules}
 use Rattle.walk.proofs.has_row.Goals as goal
 
 pub overflow_cast-result : goal.overflow_cast-result

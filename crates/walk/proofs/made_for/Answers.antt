@@ -1,6 +1,5 @@
 -- `made_for`: the index is stored, and the former one returned.
 use Rattle.walk.specs.ProgressLaws.{shows-made_for}
-use borrow.Author.Rules.{rules}
 use Rattle.walk.proofs.made_for.Goals as goal
 
 pub returns : goal.returns

@@ -1,7 +1,6 @@
 -- `starts_block`: by both tests.
 use mathlib.Core.Path.{refl}
 use Rattle.walk.specs.FrozenBlockLaws.{starts-not, starts_by}
-use borrow.Author.Rules.{rules}
 use Rattle.walk.proofs.starts_block.Goals as goal
 
 pub returns-then-i-ne0 : goal.returns-then-i-ne0

@@ -2,7 +2,6 @@
 use mathlib.Core.Path.{◌≡◌, refl, subst}
 use Prim.Native.Nat.{ℕ, ◌+◌, ◌*◌, ◌%◌}
 use native.Mathlib.Omega.{arith}
-use borrow.Author.Rules.{rules}
 use Rattle.walk.specs.InformationBlocks.{BlockGiven}
 use Rattle.walk.specs.InformationTestLaws.{block-length}
 use Rattle.walk.proofs.taken.Goals as goal

@@ -7,7 +7,6 @@ use mir.Syntax.{w32}
 use mir.Facts.{to_z-of_z}
 use Rattle.decoding.specs.Walk.{value}
 use Rattle.memory.specs.Memory.{RowsFor, ValueReady}
-use borrow.Author.Rules.{rules}
 use Rattle.walk.proofs.value_at.Goals as goal
 
 pub made_for-was-requires : goal.made_for-was-requires

@@ -1,6 +1,5 @@
 -- `walk::visit` meets its contract.
 use Rattle.walk.specs.ProgressLaws.{visited-more, visited-stopped}
-use borrow.Author.Rules.{rules}
 use Rattle.walk.proofs.visit.Goals as goal
 
 pub returns-then-visits-allowed : goal.returns-then-visits-allowed

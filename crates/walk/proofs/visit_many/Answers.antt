@@ -1,7 +1,6 @@
 -- `visit_many`: all of them, or as many as are allowed.
 use mathlib.Core.Path.{sym, ◌∙◌}
 use Rattle.walk.specs.ProgressLaws.{counted_more_lem, counted_out}
-use borrow.Author.Rules.{rules}
 use Rattle.walk.proofs.visit_many.Goals as goal
 
 pub count-requires : goal.count-requires

@@ -7,7 +7,6 @@ use lib.Pow.{pow_pos}
 use Rattle.memory.specs.TopLaws.{exponent_small}
 use Rattle.words.specs.TransformLaws.{bits_zeros}
 use Rattle.walk.specs.StartLaws.{power_is, start_asked, start-given}
-use borrow.Author.Rules.{rules}
 use Rattle.walk.proofs.walk.Goals as goal
 
 pub overflow_shl-state : goal.overflow_shl-state

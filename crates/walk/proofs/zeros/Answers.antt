@@ -1,5 +1,4 @@
 -- `walk::zeros` meets its contract, at each return by the law of its case.
-use borrow.Author.Rules.{rules}
 use mathlib.Core.Path.{◌≡◌, sym, ◌∙◌}
 use mathlib.Core.Logic.{⊎_elim}
 use Prim.Native.Nat.{◌+◌, ◌≤◌, ◌<◌}
