@@ -19,7 +19,8 @@ use Rattle.std.specs.Int.Signed.{lt_z}
 use Rattle.numbers.specs.PartsLaws.{parts, sum_parts, negated, by_parts, less_parts, not_less_parts}
 use Rattle.numbers.specs.Choice.{lt_or_le}
 use Rattle.float_numbers.specs.Whole.{Represents, whole_of}
-use Rattle.float_numbers.proofs.WholeLaws.{represents_small, whole_of-is, neg_represents, add_represents, sub_represents}
+use Rattle.float_numbers.proofs.WholeLaws.{represents_small, whole_of-is, neg_represents, add_represents}
+use Rattle.float_numbers.proofs.SumLaws.{sub_represents}
 use Rattle.float_numbers.proofs.WholeLaws.{lt_represents, eq_represents, represents_eq, value_equals, add_fin}
 use Rattle.float_numbers.specs.NearLaws.{Near, shift}
 

@@ -1,5 +1,5 @@
 -- Laws of floats that are whole numbers: each step on them is exact while the results stay below 2 ^ 24.
-use Rattle.std.specs.Prelude.{◌≡◌, refl, Bool, not, cond, ◌&&◌, ◌||◌, ℕ, zero, suc, ◌+◌, ◌-◌, ◌*◌, ◌/◌, ◌%◌, ◌^◌, ◌≤◌, ◌<◌, ℤ, pos, negsuc, neg_ℤ, nat_abs, ◌+ℤ◌, ◌-ℤ◌, ltb, leb, eqb, Float}
+use Rattle.std.specs.Prelude.{◌≡◌, refl, Bool, not, cond, ◌&&◌, ◌||◌, ℕ, zero, suc, ◌+◌, ◌-◌, ◌*◌, ◌/◌, ◌%◌, ◌^◌, ◌≤◌, ◌<◌, ℤ, pos, negsuc, neg_ℤ, nat_abs, ◌+ℤ◌, ltb, leb, eqb, Float}
 use Rattle.std.proofs.Common.{ap, ap₂, sym, ◌∙◌, ⊎_elim, mul-pos, mul_comm, mul_assoc, mul_right_comm, mul-one, add-mul, mul-div_cancel, mul-lt-mul_of_pos_right, mul-le-mul_right, div-add-mod', add-zero, zero-add, zero-mul, zero-lt-suc, arith, lt-ltb, le-ltb, le-leb, eq-eqb, ne_eqb, eqb-true}
 use Rattle.std.proofs.Math.Bool.{true, false}
 use Rattle.std.specs.Bool.{beq}
@@ -14,7 +14,7 @@ use Rattle.std.specs.Float.Ieee.Fits.{down_pos}
 use Rattle.std.specs.Float.Ieee.Exact.{HasValue}
 use Rattle.std.specs.Float.Ieee.Scale.{round_same}
 use Rattle.std.specs.Float.Ieee.Back.{round_whole}
-use Rattle.numbers.specs.PartsLaws.{parts, sum_parts, negated, by_parts}
+use Rattle.numbers.specs.PartsLaws.{sum_parts, negated, by_parts}
 use Rattle.numbers.specs.Choice.{cond_by, lt_or_le}
 use Rattle.float_numbers.specs.Whole.{signed, Equals, Represents, outside, whole_of, float}
 use Rattle.float_numbers.specs.WholeLaws.{Rounded}
@@ -329,10 +329,6 @@ added (fin s m e) (fin t n d) a b h k =
 pub add_represents : {x y : Float} {a b : ℤ} → Represents x a → Represents y b → nat_abs (a +ℤ b) ≤ 2 ^ 24 → Represents (Ieee.add binary32 x y) (a +ℤ b)
 add_represents h k small = rounded_represents (added _ _ _ _ h.equals k.equals) small
 
-pub sub_represents : {x y : Float} {a b : ℤ} → Represents x a → Represents y b → nat_abs (a -ℤ b) ≤ 2 ^ 24 → Represents (Ieee.sub binary32 x y) (a -ℤ b)
-unfolding Ieee.sub
-sub_represents h k small = add_represents h (neg_represents k) small
-
 -- ---- a whole number as a float
 pub of_int_represents : (z : ℤ) → nat_abs z ≤ 2 ^ 24 → Represents (Ieee.of_int binary32 z) z
 unfolding Ieee.of_int
@@ -419,21 +415,6 @@ whole_lt x y h k = lt_represents (represents_small x h) (represents_small y k)
 
 pub whole_negative : (x : Float) → nat_abs (whole_of x) < 2 ^ 24 → Ieee.lt x (Ieee.of_bits binary32 0) ≡ lt_z (whole_of x) (pos 0)
 whole_negative x h = lt_represents (represents_small x h) zero_represents
-
-pub whole_add : (x y : Float) → nat_abs (whole_of x) + nat_abs (whole_of y) < 2 ^ 24 → whole_of (Ieee.add binary32 x y) ≡ whole_of x +ℤ whole_of y
-whole_add x y h =
-    let a = whole_of x in
-    let b = whole_of y in
-    whole_of-is _ _
-    (add_represents (represents_small x (omega arith)) (represents_small y (omega arith)) (omega (arith, parts a, parts b, parts (a +ℤ b), sum_parts a b)))
-
-pub whole_sub : (x y : Float) → nat_abs (whole_of x) + nat_abs (whole_of y) < 2 ^ 24 → whole_of (Ieee.sub binary32 x y) ≡ whole_of x -ℤ whole_of y
-whole_sub x y h =
-    let a = whole_of x in
-    let b = whole_of y in
-    whole_of-is _ _
-    (sub_represents (represents_small x (omega arith)) (represents_small y (omega arith))
-    (omega (arith, parts a, parts b, parts (a -ℤ b), negated b, sum_parts a (neg_ℤ b))))
 
 pub whole_float : (n : ℕ) → n ≤ 2 ^ 24 → whole_of (float n) ≡ pos n
 whole_float n h = whole_of-is _ _ (float_represents n h)
