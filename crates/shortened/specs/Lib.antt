@@ -3,10 +3,8 @@ pub mod Outcome
 pub mod Demands
 -- What the inner functions require
 pub mod Work
--- Laws: each return; no second outcome; encoding and taking back again; an empty choice gives what the plain calls give; the demands are met
+-- Laws: each return; encoding and taking back again; an empty choice gives what the plain calls give
 pub mod WorkLaws
 pub mod OutcomeLaws
-pub mod OnlyOutcome
 pub mod RoundTrip
 pub mod EmptyChoice
-pub mod DemandsMet

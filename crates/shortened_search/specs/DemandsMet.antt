@@ -29,7 +29,7 @@ use Rattle.search.specs.Demand1Met.{answer_decides}
 use Rattle.shortened.specs.Outcome.{left_of}
 use Rattle.shortened.specs.WorkLaws.{long_left, are_left}
 use Rattle.shortened.specs.OutcomeLaws.{good_allowed}
-use Rattle.shortened.specs.DemandsMet.{decides_row, after_one}
+use Rattle.shortened.proofs.DemandsMet.{decides_row, after_one}
 use Rattle.shortened_search.specs.Outcome.{refused_with_none, searching_over, searching_shortened}
 use Rattle.shortened_search.specs.OutcomeLaws.{searching-refused, searching-left, over-refused, over_answered}
 use Rattle.shortened_search.specs.Demands.{search_shortened_checks, ShortenedDemand1, ShortenedLargerAllowance, smaller_set, ShortenedDemands, RunnerUpLeft}

@@ -18,7 +18,7 @@ use Rattle.search.specs.Outcome.{Outcome, by_answer}
 use Rattle.search.specs.Demands.{SoundSearch, Passes}
 use Rattle.search.specs.DemandsMet.{sound_answered}
 use Rattle.shortened.specs.Outcome.{left_of}
-use Rattle.shortened.specs.DemandsMet.{left_inside}
+use Rattle.shortened.proofs.DemandsMet.{left_inside}
 use Rattle.shortened_search.specs.Demands.{smaller_set, DearerTurnedOver}
 use Rattle.shortened_search.specs.DemandsMet.{answered}
 

@@ -4,7 +4,7 @@ use Prim.Native.Nat.{ℕ, ◌^◌, ◌≤◌}
 use native.Mathlib.Omega.{arith}
 use lib.ListN.{replicate}
 use lib.Pow.{pow_mono}
-use Rattle.words.specs.KindLaws.{sum-kinds}
+use Rattle.words.proofs.KindLaws.{sum-kinds}
 use Rattle.encode.specs.WorkLaws.{still_within, fill_asked, filled_row}
 use Rattle.encode.proofs.put_row.Goals as goal
 

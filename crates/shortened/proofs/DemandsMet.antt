@@ -24,7 +24,7 @@ use Rattle.named.specs.Named.{GoodRow, row_admitted}
 use Rattle.named.specs.NamedLaws.{left_frozen, bad_parameters, bad-row, sound_row, row_decided}
 use Rattle.encode.specs.Outcome as encoder
 use Rattle.encode.specs.Demands as encoders
-use Rattle.encode.specs.DemandsMet.{decides_tested, decides_frozen}
+use Rattle.encode.proofs.DemandsMet.{decides_tested, decides_frozen}
 use Rattle.quick.specs.Outcome as reader
 use Rattle.quick.specs.Demands as readers
 use Rattle.quick.specs.QuickOutcome.{done_by}
