@@ -8,9 +8,16 @@ const PART = 1 << 17;
 
 export const noCounts = () => Object.fromEntries(VERDICTS.map((name) => [name, 0]));
 
+/* what is listed and counted as refused: what is turned over and what is no telegram, too */
+const isRefused = (judged) => ['refused', 'turned over', 'no telegram'].includes(judged);
+
 /* the counts of the records from..to, added to those before */
 export function countInto(counts, state, from, to, limit) {
-    for (let w = from; w < to; w++) counts[verdictAt(state, w, limit)]++;
+    for (let w = from; w < to; w++) {
+        const judged = verdictAt(state, w, limit);
+        counts[judged]++;
+        if (judged !== 'refused' && isRefused(judged)) counts.refused++;
+    }
     return counts;
 }
 
@@ -36,7 +43,11 @@ const bySure = ({ swept: d, records }, w) => (w >= records || d.refusal[w] ? 0 :
 export function* listing(state, limit) {
     const { show, order } = state;
     if (show === 'all' && !order) return null;
-    const listed = (w) => show === 'all' || verdictAt(state, w, limit) === show;
+    const listed = (w) => {
+        if (show === 'all') return true;
+        const judged = verdictAt(state, w, limit);
+        return judged === show || (show === 'refused' && isRefused(judged));
+    };
     const rank = order ? (w) => bySure(state, w) : () => 0;
     const end = swept(state);
     const starts = new Uint32Array(1003);

@@ -30,8 +30,8 @@ function term(key) {
 
 /* ---- the verdict */
 
-/* The verdict in words, with the number of a refusal: what the panel shows, what a row of the list
- * is called and what a screen reader hears. `message` is null where a record is read as a word. */
+/* The verdict in words, with the number of a refusal: what a row of the list is called and what a
+ * screen reader hears. `message` is null where a record is read as a word. */
 export function headline({ refusal, message }, judged) {
     if (refusal) return `refused ${refusal}: ${REFUSALS[refusal].short}`;
     const doubt = judged === 'doubtful' ? 'doubtful: ' : '';
@@ -42,25 +42,34 @@ export function headline({ refusal, message }, judged) {
         : `${one} refused ${message.refusal}: ${REFUSALS[message.refusal].short}`;
 }
 
+/* the same as the panel's heading */
+export function heading({ refusal, message }, judged) {
+    if (refusal) return `Refused: ${REFUSALS[refusal].short}`;
+    if (!message) return 'Word found';
+    if (!message.refusal) return capital(messageText(message));
+    if (judged === 'doubtful') return `${capital(CARRIED[message.carried].none)}: noise`;
+    return `Refused: ${REFUSALS[message.refusal].short}`;
+}
+
 /* an answer with the verdict on it; `as` tells by first bytes what is read as a message */
 function judge(answer, { as, limit }) {
     const message = answer.message && as[16 * answer.m + answer.r] ? answer.message : null;
     const sure = sureOf(answer);
     const judged = verdict(answer.refusal, message ? message.refusal : NO_MESSAGE, sure, limit);
-    return { sure, message, judged, head: headline({ ...answer, message }, judged) };
+    return { sure, message, judged };
 }
 
 /* for a screen reader: the same verdict in one line; the bits where they are few */
 export function spoken(answer, options) {
-    const { message, head } = judge(answer, options);
+    const { message, judged } = judge(answer, options);
     const bits = answer.bits && !message && answer.k <= 32 ? `, bits ${bitText(answer.bits)}` : '';
-    return `${head}${bits}.`;
+    return `${headline({ ...answer, message }, judged)}${bits}.`;
 }
 
 const box = (kind, title, ...lines) => make('div', { class: `verdict ${kind}` },
-    make('b', {}, capital(title)), ...lines.filter(Boolean).map((line) => make('p', {}, line)));
+    make('b', {}, title), ...lines.filter(Boolean).map((line) => make('p', {}, line)));
 
-function refusedBox({ refusal, penalty, readings, n, bytes, length }, head) {
+function refusedBox({ refusal, penalty, readings, n, bytes, length }) {
     const { means, do: advice } = REFUSALS[refusal];
     let more = null;
     if (refusal === REFUSAL.TIED) more = `Both words have the penalty ${group(penalty)}.`;
@@ -69,7 +78,7 @@ function refusedBox({ refusal, penalty, readings, n, bytes, length }, head) {
             + `${readings.length} of its ${plural(n, 'reading')}.`;
     }
     if (refusal === REFUSAL.PARAMETERS) more = `The first byte is ${hex(bytes[0])} (hexadecimal).`;
-    return box('no', head, means, more, advice);
+    return box('no', heading({ refusal }), means, more, advice);
 }
 
 /* how well the word fits, in a sentence */
@@ -78,10 +87,11 @@ function fit(answer, doubtful) {
     const first = wrong === 0 ? 'All readings agree with the word found.'
         : `${plural(wrong, 'reading')} of ${answer.n} disagree${wrong === 1 ? 's' : ''} `
             + 'with the word found.';
-    return doubtful ? `${first} Another word fits nearly as well.` : first;
+    return doubtful ? `${first} Doubtful: another word fits nearly as well.` : first;
 }
 
-function answeredBox(answer, { message, judged, head }) {
+function answeredBox(answer, { message, judged }) {
+    const head = heading({ ...answer, message }, judged);
     const doubtful = judged === 'doubtful';
     if (!message || message.refusal === REFUSAL.DONE) {
         return box(doubtful ? 'low' : 'good', head, fit(answer, doubtful));
@@ -136,7 +146,7 @@ export function shown(answer, { as, limit, wide }) {
     const found = judge(answer, { as, limit });
     const drawn = answer.readings && answer.readings.length > 0
         ? [picture(answer, wide), legend(answer.word)] : [];
-    if (answer.refusal) return [refusedBox(answer, found.head), ...drawn];
+    if (answer.refusal) return [refusedBox(answer), ...drawn];
     return [answeredBox(answer, found), numbers(answer, found.sure), ...drawn,
         facts(answer, found.message)];
 }

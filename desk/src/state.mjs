@@ -78,9 +78,8 @@ export function countText(state) {
     const { done, records, phase } = state;
     const read = phase === 'read' ? plural(records, 'record')
         : `${group(done)} of ${group(records)} read`;
-    const always = ['refused', 'doubtful'];
-    const said = ['refused', 'turned over', 'no telegram', 'doubtful']
-        .filter((name) => always.includes(name) || countOf(state, name))
-        .map((name) => `${group(countOf(state, name))} ${name}`);
-    return `${read}: ${said.join(', ')}`;
+    const [refused, turned, doubtful] = ['refused', 'turned over', 'doubtful']
+        .map((name) => group(countOf(state, name)));
+    const over = countOf(state, 'turned over') ? ` (${turned} turned over)` : '';
+    return `${read}: ${refused} refused${over}, ${doubtful} doubtful`;
 }

@@ -11,7 +11,7 @@ import { hundredthsOf, readingsOf } from '../../desk/src/hand.mjs';
 import { REFUSAL, VERSION } from '../../desk/src/header.mjs';
 import { ALLOWANCE, Library } from '../../desk/src/library.mjs';
 import { against, bar, lettering } from '../../desk/src/picture.mjs';
-import { headline } from '../../desk/src/record.mjs';
+import { heading, headline } from '../../desk/src/record.mjs';
 import { VERDICTS, guess, sureness, verdict } from '../../desk/src/sure.mjs';
 import { programText, sweep, table } from '../../desk/src/sweep.mjs';
 import { upwards } from '../../desk/src/messages.mjs';
@@ -206,7 +206,8 @@ const doubtful = all.filter((w) => sure(w) >= 0 && sure(w) < 200);
 fact('doubtful', Array.from(listed({ ...state, show: 'doubtful', order: false }, 200)), doubtful);
 fact('doubtful, sorted', Array.from(listed({ ...state, show: 'doubtful', order: true }, 200)),
     sorted.filter((w) => doubtful.includes(w)));
-const refused = all.filter((w) => sure(w) < 0);
+const refused = all.filter((w) => sure(w) < 0 || (state.swept.message[w] > 0
+    && state.swept.message[w] < 255 && sure(w) >= 200));
 const turned = all.filter((w) => sure(w) >= 200 && state.swept.message[w] === REFUSAL.MARKER);
 const none = all.filter((w) => sure(w) >= 200 && state.swept.message[w] > REFUSAL.MARKER);
 fact('refused', Array.from(listed({ ...state, show: 'refused', order: false }, 200)), refused);
@@ -218,9 +219,10 @@ countInto(counts, state, 2500, sea.records, 200);
 const many = [refused, turned, none, doubtful].map((x) => x.length);
 fact('counted', ['refused', 'turned over', 'no telegram', 'doubtful'].map((x) => counts[x]), many);
 fact('counted again', whole(counting(state, 200)), counts);
-fact('each once', Object.values(counts).reduce((a, b) => a + b), sea.records);
+fact('each once', ['good', 'refused', 'doubtful'].reduce((a, x) => a + counts[x], 0), sea.records);
+fact('some of the refused', refused.length > turned.length + none.length && turned.length > 0);
 fact('the turned stretch', turned.length >= 170 && turned.length <= 190);
-const trouble = all.filter((w) => [refused, turned, none, doubtful].some((x) => x.includes(w)));
+const trouble = all.filter((w) => refused.includes(w) || doubtful.includes(w));
 fact('the next trouble', nextTrouble(state, -1, 1, 200), trouble[0]);
 fact('the one before', nextTrouble(state, trouble[7], -1, 200), trouble[6]);
 fact('none after the last', nextTrouble(state, sea.records - 1, 1, 200), -1);
@@ -247,6 +249,9 @@ const heard = [[{ refusal: 7 }, 'refused', 'refused 7: tied'],
         tilt: 216 } }, 'doubtful',
         'doubtful: cylinder 1, 2.16° to starboard']];
 for (const [answer, kind, text] of heard) fact(text, headline(answer, kind), text);
+const seen = ['Refused: tied', 'Word found', 'Refused: turned over', 'Refused: turned over',
+    'No telegram: noise', 'Cylinder 1, 2.16° to starboard'];
+fact('seen', heard.map(([answer, kind]) => heading(answer, kind)), seen);
 
 /* ---- the list's columns: what is shown fits, and what must be there is */
 

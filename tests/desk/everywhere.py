@@ -64,9 +64,9 @@ def stored():
 def panel():
     load(MADE / "telegrams.bin")
     fact("the file", text("#file"), "telegrams.bin: 6,000 records, 294,000 bytes")
-    fact("the counts", bool(re.fullmatch(r"6,000 records: \d refused, 1\d\d turned over, \d+ doubtful", text("#counts"))))
+    fact("the counts", bool(re.fullmatch(r"6,000 records: \d+ refused \(1\d\d turned over\), \d+ doubtful", text("#counts"))))
     go("3690")
-    fact("turned over", text("#detail .verdict b"), "Telegram refused 13: turned over")
+    fact("turned over", text("#detail .verdict b"), "Refused: turned over")
     fact("swapped back", bool(re.search(r"it would say: cylinder \d, \d+\.\d\d° to (port|starboard)\.", text("#detail .verdict"))))
     fact("heard", text("#said"), "Record 3,690: telegram refused 13: turned over.")
     go("100")

@@ -74,7 +74,7 @@ def listing():
     fact("the file", text("#file"), "telegrams.bin: 6,000 records, 294,000 bytes")
     fact("telegrams are guessed", b.js("document.querySelector('#as-52-message').checked"))
     fact("and said to be a guess", text("#guess-52").startswith("guessed by this page: "))
-    fact("the counts", bool(re.fullmatch(r"6,000 records: \d refused, 1\d\d turned over, \d+ doubtful", text("#counts"))))
+    fact("the counts", bool(re.fullmatch(r"6,000 records: \d+ refused \(1\d\d turned over\), \d+ doubtful", text("#counts"))))
     fact("the first row", rows()[0].split("|")[:2], ["0", "RM(2,5)"])
     fact("its telegram", bool(re.fullmatch(r"0: (level|\d+\.\d\d° (port|starboard))", rows()[0].split("|")[2])))
     go("4,000")
@@ -170,7 +170,7 @@ def drawing():
     """what is drawn is looked at by its elements; canvases by their pixels"""
     go("3690")  # in the stretch with the link turned over
     chosen()
-    fact("turned over", text("#detail .verdict b"), "Telegram refused 13: turned over")
+    fact("turned over", text("#detail .verdict b"), "Refused: turned over")
     fact("swapped back", bool(re.search(r"swapped back it would say: cylinder \d, \d+\.\d\d° to (port|starboard)\.", text("#detail .verdict"))))
     go("100")
     chosen()
@@ -285,14 +285,14 @@ def by_hand():
     fact("not a reading", text("#typed-state"), "“x” is not a reading: whole numbers from -32,767 to 32,767.")
     fact("no answer is left", hidden("#hand-answer .verdict") if text("#hand-answer .verdict") else True)
     typed("0 0 0 0")
-    fact("a tie", answer().startswith("Refused 7: tied"))
+    fact("a tie", answer().startswith("Refused: tied"))
     b.js("document.querySelector('#noise').value = 0; document.querySelector('#telegram').requestSubmit()")
     b.until("document.querySelector('#hand-answer .verdict b')?.textContent === 'Cylinder 5, 12.34° to port'")
     fact("a telegram is made", b.js("document.querySelector('#typed').value.split(' ').every((x) => Math.abs(x) === 400)"))
     b.js("document.querySelector('#noise').value = 30; document.querySelector('#noise').oninput()")
     fact("with noise", b.js("!document.querySelector('#typed').value.split(' ').every((x) => Math.abs(x) === 400)"))
     click("#negate")
-    b.until("document.querySelector('#hand-answer .verdict b')?.textContent === 'Telegram refused 13: turned over'")
+    b.until("document.querySelector('#hand-answer .verdict b')?.textContent === 'Refused: turned over'")
     fact("turned over", "swapped back it would say: cylinder 5, 12.34° to port." in text("#hand-answer .verdict"))
     b.js("document.querySelector('#tilt').value = '15.01'; document.querySelector('#telegram').requestSubmit()")
     b.until("document.querySelector('#made-state').textContent")
@@ -445,7 +445,7 @@ def mixed():
     fact("a word of 256", b.js("document.querySelectorAll('#detail .bar').length === 256 && document.querySelectorAll('#detail .cell').length === 512"))
     go(str(b.js("desk.capture.state.swept.refusal.indexOf(7)")))
     chosen()
-    fact("a tie", text("#detail .verdict b"), "Refused 7: tied")
+    fact("a tie", text("#detail .verdict b"), "Refused: tied")
 
 
 def appearance():
@@ -525,16 +525,17 @@ def one_verdict():
     """one count wherever there is one, one verdict for the eye and the ear"""
     load(MADE / "telegrams.bin")
     refused, turned, doubtful = b.js("['refused', 'turned over', 'doubtful'].map((x) => desk.capture.state.counts[x])")
-    said = f"6,000 records: {refused} refused, {turned} turned over, {doubtful} doubtful"
+    said = f"6,000 records: {refused} refused ({turned} turned over), {doubtful} doubtful"
+    no_answer = refused - turned
     fact("the summary", text("#counts"), said)
     fact("the strip", b.js("document.querySelector('#strip').getAttribute('aria-label')").endswith(said))
     fact("the list", b.js("[...document.querySelectorAll('.tools .choice label:not([hidden])')].map((x) => x.textContent.trim()).join()"),
          f"All,Refused {refused},Turned over {turned},Doubtful {doubtful}")
     answers = save_answers()
-    fact("the program's text", answers.endswith(f"{6000 - refused} read, {refused} refused\n"))
+    fact("the program's text", answers.endswith(f"{6000 - no_answer} read, {no_answer} refused\n"))
     click("#save-tilts")
     table = [line.split(",") for line in b.saved_file("telegrams-tilts.csv").split("\n")[1:-1]]
-    fact("the table: refused", sum(x[7] == "" for x in table), refused)
+    fact("the table: refused", sum(x[7] == "" for x in table), no_answer)
     fact("the table: turned over", sum(x[1] == "13" and float(x[7]) >= 20 for x in table), turned)
     first = lambda test: next(int(x[0]) for x in table if test(x[1], float(x[7] or "nan")))
     for what, number in {
@@ -546,11 +547,12 @@ def one_verdict():
         shown = text("#detail .verdict b")
         row = b.js("document.querySelector('#rows .row[aria-selected=true]').getAttribute('aria-label')")
         spoken = text("#said")
-        expected = {"refused": r"Refused 7: tied", "turned over": r"Telegram refused 13: turned over", "noise": r"Doubtful: no telegram \(13\)",
-                    "doubtful": r"Doubtful: cylinder \d, \d+\.\d\d° to (port|starboard)"}[what]
-        fact(f"{what}: seen", bool(re.fullmatch(expected, shown)) or shown)
-        fact(f"{what}: heard", spoken, f"Record {number:,}: {shown[0].lower()}{shown[1:]}.")
-        fact(f"{what}: heard in the list", row.startswith(f"Record {number:,}: {shown[0].lower()}{shown[1:]}"))
+        seen, heard = {"refused": (r"Refused: tied", r"refused 7: tied"), "turned over": (r"Refused: turned over", r"telegram refused 13: turned over"),
+                       "noise": (r"No telegram: noise", r"doubtful: no telegram \(13\)"),
+                       "doubtful": (r"Cylinder \d, \d+\.\d\d° to (port|starboard)", r"doubtful: cylinder \d, \d+\.\d\d° to (port|starboard)")}[what]
+        fact(f"{what}: seen", bool(re.fullmatch(seen, shown)) or shown)
+        fact(f"{what}: heard", bool(re.fullmatch(rf"Record {number:,}: {heard}\.", spoken)) or spoken)
+        fact(f"{what}: heard in the list", row.startswith(spoken[:-1]))
         if what == "refused":
             fact("its number in the text", f"\n{number} refused 7\n" in answers)
 
@@ -642,7 +644,7 @@ def rods():
     w = b.js("desk.capture.state.swept.kind.findIndex((kind, w) => kind === 0x41 && w > 1060)")
     go(str(w))
     chosen()
-    fact("turned over", text("#detail .verdict b"), "Rod position refused 13: turned over")
+    fact("turned over", text("#detail .verdict b"), "Refused: turned over")
     fact("swapped back", bool(re.search(r"it would say: rod position \d+\.", text("#detail .verdict"))))
     fact("two plots", [hidden("#plot"), hidden("#rods")], [False, False])
     fact("beside each other", b.js("(() => { const [a, b] = ['plot', 'rods'].map((x) => document.getElementById(x).getBoundingClientRect());"
