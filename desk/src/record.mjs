@@ -62,8 +62,9 @@ function judge(answer, { as, limit }) {
 /* for a screen reader: the same verdict in one line; the bits where they are few */
 export function spoken(answer, options) {
     const { message, judged } = judge(answer, options);
+    const head = headline({ ...answer, message }, judged);
     const bits = answer.bits && !message && answer.k <= 32 ? `, bits ${bitText(answer.bits)}` : '';
-    return `${headline({ ...answer, message }, judged)}${bits}.`;
+    return `${head}${bits}.`;
 }
 
 const box = (kind, title, ...lines) => make('div', { class: `verdict ${kind}` },
