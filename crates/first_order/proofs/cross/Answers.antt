@@ -1,0 +1,103 @@
+-- After j passes the first j sums and the first j differences are in their places.
+use mathlib.Core.Path.{◌≡◌, refl, ap, ap₂, ◌∙◌}
+use Prim.Native.Nat.{◌+◌, ◌≤◌, zero-le}
+use native.Mathlib.Omega.{arith}
+use lib.IntN.{ℤ, pos, nat_abs, ◌+ℤ◌, ◌-ℤ◌}
+use lib.ListN.{get_or, set, length-set}
+use lib.Seq.{lt-length-set}
+use mir.Syntax.{w32}
+use mir.Val.{to_z, of_z}
+use mir.Facts.{to_z-of_z}
+use Rattle.numbers.specs.PartsLaws.{fits_size}
+use Rattle.hadamard.specs.HadamardLaws.{size-combined}
+use Rattle.first_order.specs.CrossLaws.{crossing, crossing-none, crossing-all, read_first, read-second, pair_small, pass_stores}
+use Rattle.first_order.proofs.cross.Goals as goal
+use Rattle.first_order.proofs.cross.Goals.{After-b-1}
+
+pub loop-j-init : goal.loop-j-init
+loop-j-init c = (zero-le, λ long. crossing-none c.args.row.now c.args.h long, refl)
+
+-- what a pass stores
+abbrev first_read : After-b-1 → ℤ
+first_read c = let o = c.loop-j in to_z w32 (of_z w32 (get_or o.row o.j (pos 0)))
+
+abbrev second-read : After-b-1 → ℤ
+second-read c = let o = c.loop-j in to_z w32 (of_z w32 (get_or o.row (c.args.h + o.j) (pos 0)))
+
+abbrev sum-stored : After-b-1 → ℤ
+sum-stored c = to_z w32 (of_z w32 (first_read c +ℤ second-read c))
+
+abbrev difference-stored : After-b-1 → ℤ
+difference-stored c = to_z w32 (of_z w32 (first_read c -ℤ second-read c))
+
+-- what a pass has read
+pair : (c : After-b-1)
+    → let o = c.loop-j in
+    let s = c in
+    let d = s.args.row.now in
+    let h = s.args.h in
+    (to_z w32 (of_z w32 (get_or o.row o.j (pos 0))) ≡ get_or d o.j (pos 0))
+    × (to_z w32 (of_z w32 (get_or o.row (h + o.j) (pos 0))) ≡ get_or d (h + o.j) (pos 0))
+pair c =
+    let o = c.loop-j in
+    let s = c in
+    let d = s.args.row.now in
+    let h = s.args.h in
+    let long = s.requires.0 in (
+      to_z-of_z {w = w32} (record { sfits = c.a-1.given }) ∙ read_first d h long o.row o.j (omega arith) (o.invariant.1 long),
+      to_z-of_z {w = w32} (record { sfits = c.b-1.given }) ∙ read-second d h long o.row o.j (omega arith) (o.invariant.1 long),
+    )
+
+pub overflow_add-row : goal.overflow_add-row
+overflow_add-row c =
+    let s = c in
+    let d = s.args.row.now in
+    let h = s.args.h in
+    let j = c.loop-j.j in
+    let x = get_or d j (pos 0) in
+    let y = get_or d (h + j) (pos 0) in
+    let small : nat_abs (x +ℤ y) ≤ nat_abs x + nat_abs y = size-combined 0 x y in
+    rw ((pair c).0, (pair c).1) (fits_size _ (omega (arith, small, pair_small d h s.requires.0 j (omega arith), s.requires.1)))
+
+pub overflow_sub-row : goal.overflow_sub-row
+overflow_sub-row c =
+    let s = c in
+    let d = s.args.row.now in
+    let h = s.args.h in
+    let j = c.loop-j.j in
+    let x = get_or d j (pos 0) in
+    let y = get_or d (h + j) (pos 0) in
+    -- the difference of two, whichever is subtracted from the other
+    let small : nat_abs (x -ℤ y) ≤ nat_abs x + nat_abs y = size-combined 1 x y in
+    let turned : nat_abs (y -ℤ x) ≤ nat_abs y + nat_abs x = size-combined 1 y x in
+    rw ((pair c).0, (pair c).1) (fits_size _ (omega (arith, small, turned, pair_small d h s.requires.0 j (omega arith), s.requires.1)))
+
+pub bounds-row-h : goal.bounds-row-h
+bounds-row-h c = let o = c.loop-j in lt-length-set o.row o.j (sum-stored c) (omega arith)
+
+pub loop-j-preserved : goal.loop-j-preserved
+loop-j-preserved c =
+    let s = c in
+    let o = c.loop-j in
+    let d = s.args.row.now in
+    let h = s.args.h in (
+      omega arith,
+      λ long.
+          pass_stores d h long o.row o.j (omega arith) (o.invariant.1 long) _ _
+          (to_z-of_z {w = w32} (overflow_add-row c) ∙ ap₂ ◌+ℤ◌ (pair c).0 (pair c).1)
+          (to_z-of_z {w = w32} (overflow_sub-row c) ∙ ap₂ ◌-ℤ◌ (pair c).0 (pair c).1),
+      length-set (set o.row o.j (sum-stored c)) (h + o.j) (difference-stored c) ∙ length-set o.row o.j (sum-stored c) ∙ o.invariant.2,
+    )
+
+pub shape_of-row : goal.shape_of-row
+shape_of-row c = c.loop-j.invariant.2
+
+pub returns : goal.returns
+returns c =
+    let s = c in
+    let o = c.loop-j in
+    let d = s.args.row.now in
+    let h = s.args.h in
+    let long = s.requires.0 in
+    let e : o.j ≡ h = omega arith in
+    o.invariant.1 long ∙ ap (crossing d h long) e ∙ crossing-all d h long

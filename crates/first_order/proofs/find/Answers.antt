@@ -1,0 +1,41 @@
+-- The readings are put into the row, which is transformed and looked at.
+use mathlib.Core.Path.{◌≡◌, ap, sym, ◌∙◌, subst}
+use mathlib.Core.List.{List}
+use Prim.Native.Nat.{◌^◌, ◌-◌}
+use native.Mathlib.Omega.{arith}
+use lib.IntN.{ℤ}
+use lib.ListN.{length}
+use Rattle.decoding.specs.Readings.{sizes, Within}
+use Rattle.hadamard.specs.Hadamard.{hadamard}
+use Rattle.hadamard.specs.HadamardLaws.{length-hadamard, hadamard_within}
+use Rattle.first_order.specs.Work.{Looked}
+use Rattle.first_order.specs.OutcomeLaws.{two_or_more, power_most}
+use Rattle.first_order.proofs.find.Goals as goal
+
+pub transform-requires : goal.transform-requires
+transform-requires c =
+    let s = c in
+    let p = c.put_sums in
+    (ap length p.ensures ∙ s.requires.2, omega (arith, ap sizes p.ensures, s.requires.4))
+
+pub look-requires : goal.look-requires
+look-requires c =
+    let s = c in
+    let m = s.args.m in
+    let l = s.args.readings.now in
+    let t = c.transform in
+    let is : t.new.row ≡ hadamard m l = t.ensures ∙ ap (hadamard m) c.put_sums.ensures in
+    let long : length t.new.row ≡ 2 ^ m = ap length is ∙ length-hadamard m l s.requires.2 in (
+      omega (arith, two_or_more m s.requires.0),
+      omega (arith, power_most m s.requires.1),
+      subst (Within (2 ^ 24 - 1)) (sym is) (hadamard_within m (2 ^ 24 - 1) l (omega (arith, s.requires.4))),
+    )
+
+pub returns : goal.returns
+returns c =
+    let s = c in
+    let m = s.args.m in
+    let l = s.args.readings.now in
+    let t = c.transform in
+    let is : t.new.row ≡ hadamard m l = t.ensures ∙ ap (hadamard m) c.put_sums.ensures in
+    subst (λ (h : List ℤ). Looked h c.look.result) is c.look.ensures
