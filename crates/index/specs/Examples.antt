@@ -1,6 +1,5 @@
 -- Examples that fix how many records share an entry: a capture of 17 records of RM(0,0), three bytes each.
 use Rattle.std.specs.Prelude.{◌≡◌, refl, List, [], ◌∷◌, ℕ, replicate}
-use Rattle.numbers.specs.Sums.{total, tabulate}
 use Rattle.code.specs.Sound.{made}
 use Rattle.code.specs.declared.Refusal.TheVariants.{Torn, NoEntry}
 use Rattle.packing.specs.Layout.{part_length}

@@ -13,7 +13,7 @@ use Rattle.index.specs.Steps.{starts_of}
 use Rattle.index.specs.Finding.{start_in, header_at, part_at, part_in, part_after, part_start_at, part_start, block}
 use Rattle.index.specs.Making.{entries_of, list_of}
 use Rattle.index.specs.MakingLaws.{length_entries}
-use Rattle.index.specs.Own.{Own, Belongs, FoundInUse}
+use Rattle.index.specs.Own.{Belongs, FoundInUse}
 use Rattle.index.specs.OwnMet.{own-start}
 use Rattle.index.specs.BelongsMet.{take_taken}
 

@@ -1,0 +1,36 @@
+-- `index::find` meets its contract: the packed part of the record that starts there, or none.
+use mathlib.Core.Path.{ap, sym, ◌∙◌}
+use mathlib.Core.List.{List}
+use Prim.Native.Nat.{ℕ, ◌<◌}
+use native.Mathlib.Omega.{arith}
+use lib.ListN.{length}
+use Rattle.numbers.specs.Lent.{lent_from}
+use Rattle.record.specs.Reader.{header_of, part_by}
+use Rattle.index.specs.Finding.{part_at}
+use Rattle.index.specs.FindingLaws.{start_inside}
+use Rattle.index.proofs.find.Goals as goal
+use Rattle.index.proofs.find.Goals.{In-At}
+
+-- the record starts inside the capture
+inside : (c : In-At) → c.in-At.start < length c.args.capture.now
+inside c =
+    let g = c.args in
+    start_inside g.capture.now g.table.now g.w _ (sym c.start_of.ensures ∙ c.in-At.is)
+
+pub slice_bounds-packed-count : goal.slice_bounds-packed-count
+slice_bounds-packed-count c = omega (arith, inside c)
+
+pub slice_bounds-packed-start : goal.slice_bounds-packed-start
+slice_bounds-packed-start c = omega (arith, inside c)
+
+pub returns-in-At : goal.returns-in-At
+returns-in-At c =
+    let s = c.args.capture.now in
+    c.packed.ensures
+    ∙ ap (λ (x : List ℕ). part_by (header_of x) x) (lent_from c.in-At.start s)
+    ∙ ap (part_at s) (sym c.in-At.is ∙ c.start_of.ensures)
+
+pub returns-in-Refused : goal.returns-in-Refused
+returns-in-Refused c =
+    let s = c.args.capture.now in
+    ap (part_at s) (sym c.in-Refused.is ∙ c.start_of.ensures)

@@ -1,0 +1,29 @@
+-- `index::start_of` meets its contract: each return is what the tests that led there show.
+use mathlib.Core.Path.{sym, ◌∙◌}
+use native.Mathlib.Omega.{arith}
+use Rattle.index.specs.FindingLaws.{start_none, start_past, start-end, start-found, start-refused}
+use Rattle.index.proofs.start_of.Goals as goal
+
+pub returns-then-table-w : goal.returns-then-table-w
+returns-then-table-w c = let g = c.args in start_none g.capture.now g.table.now g.w (omega arith)
+
+pub returns-then-capture-entry : goal.returns-then-capture-entry
+returns-then-capture-entry c = let g = c.args in start_past g.capture.now g.table.now g.w (omega arith) (omega arith)
+
+pub returns-then-start-capture : goal.returns-then-start-capture
+returns-then-start-capture c =
+    let g = c.args in
+    start-end g.capture.now g.table.now g.w (omega arith) (omega arith) _
+    (sym c.pass.ensures ∙ c.in-At.is) c.if-start-capture.true
+
+pub returns-else-start-capture : goal.returns-else-start-capture
+returns-else-start-capture c =
+    let g = c.args in
+    start-found g.capture.now g.table.now g.w (omega arith) (omega arith) _
+    (sym c.pass.ensures ∙ c.in-At.is) c.if-start-capture.false
+
+pub returns-in-Refused : goal.returns-in-Refused
+returns-in-Refused c =
+    let g = c.args in
+    start-refused g.capture.now g.table.now g.w (omega arith) (omega arith) _
+    (sym c.pass.ensures ∙ c.in-Refused.is)

@@ -1,0 +1,49 @@
+-- `index::whole` meets its contract: the records passed and those that the run still has are all of its records.
+use mathlib.Core.Path.{◌≡◌, refl, ap, sym, ◌∙◌}
+use mathlib.Core.List.{List}
+use Prim.Native.Nat.{ℕ}
+use native.Mathlib.Omega.{arith}
+use Rattle.index.specs.declared.Place.TheVariants.{At}
+use Rattle.index.specs.Steps.{stepped}
+use Rattle.index.specs.Making.{index_of}
+use Rattle.index.specs.StepsLaws.{Goes, step_goes}
+use Rattle.index.specs.FrontingLaws.{front_on, front-refused, front-end}
+use Rattle.index.proofs.whole.Goals as goal
+use Rattle.index.proofs.whole.Goals.{In-At}
+
+pub loop-at-init : goal.loop-at-init
+loop-at-init c = (omega arith, omega arith, refl)
+
+pub returns-in-Refused : goal.returns-in-Refused
+returns-in-Refused c =
+    let s = c.args.capture.now in
+    let o = c.loop-at in
+    ap (λ (number : ℕ). record { index = index_of o.records o.at; ended = number }) c.number.ensures
+    ∙ sym (front-refused s o.records o.at _ (omega arith) (sym c.step.ensures ∙ c.in-Refused.is))
+    ∙ o.invariant.2
+
+-- the step goes on
+module _ (c : In-At) where
+  abbrev s : List ℕ
+  s = c.args.capture.now
+
+  step_on : stepped s c.loop-at.at ≡ At c.in-At.next
+  step_on = sym c.step.ensures ∙ c.in-At.is
+
+  goes : Goes s c.loop-at.at c.in-At.next
+  goes = step_goes s _ _ step_on
+
+pub loop-at-smaller : goal.loop-at-smaller
+loop-at-smaller c = omega (arith, (goes c).further, (goes c).there)
+
+pub loop-at-preserved : goal.loop-at-preserved
+loop-at-preserved c =
+    let o = c.loop-at in
+    let go = goes c in
+    (go.there, omega (arith, go.further, o.invariant.1), sym (front_on (s c) o.records o.at _ go.inside (step_on c)) ∙ o.invariant.2)
+
+pub returns : goal.returns
+returns c =
+    let s = c.args.capture.now in
+    let o = c.loop-at in
+    sym (front-end s o.records o.at (omega (arith, o.invariant.0))) ∙ o.invariant.2
