@@ -94,7 +94,8 @@ module _ (m : ℕ) (l : List ℤ) (long : length l ≡ 2 ^ m) (place best second
 
   rival_differs : rival ≡ own → ⊥
   rival_differs e =
-      r.differs
+      let apart : r.other ≡ place → ⊥ = r.differs in
+      apart
       (sym (place_bits_of m r.other (hard (entry m l r.other)) other_below (spoken (entry m l r.other)).sign_bit)
       ∙ ap (place_named m) e ∙ place_bits_of m place sign place_below (spoken (entry m l place)).sign_bit)
 
