@@ -1,5 +1,4 @@
 -- `float_walk::extend`: the sum is exact, so that the test against the second's penalty is that of the counts.
-use borrow.Author.Rules.{rules}
 use mathlib.Core.Path.{◌≡◌, ap, sym, ◌∙◌}
 use Prim.Native.Nat.{ℕ, ◌+◌}
 use native.Mathlib.Omega.{arith}

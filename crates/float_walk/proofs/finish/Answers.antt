@@ -1,5 +1,4 @@
 -- `float_walk::finish`: which of both rows is copied, and which penalties are held, is what holding a full path means.
-use borrow.Author.Rules.{rules}
 use mathlib.Core.Path.{sym, ◌∙◌}
 use borrow.Author.Tests.{ltb-true, ltb-false}
 use Rattle.walk.specs.Progress.{seen}

@@ -2,7 +2,7 @@
 use mathlib.Core.Path.{sym, ◌∙◌}
 use Rattle.rows.specs.RowLaws.{hard-one, hard-zero}
 use Rattle.float_numbers.specs.Whole.{whole_of}
-use Rattle.float_numbers.specs.WholeLaws.{whole_negative}
+use Rattle.float_numbers.proofs.WholeLaws.{whole_negative}
 use Rattle.float_walk.proofs.first_bit.Goals as goal
 
 pub returns-then-value : goal.returns-then-value

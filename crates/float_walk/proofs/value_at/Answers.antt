@@ -1,5 +1,4 @@
 -- `float_walk::value_at`: the value by the memory, at the place that the array of numbers gives.
-use borrow.Author.Rules.{rules}
 use mathlib.Core.Path.{ap, sym, ◌∙◌, subst}
 use Prim.Native.Nat.{ℕ, ◌^◌}
 use native.Mathlib.Omega.{arith}

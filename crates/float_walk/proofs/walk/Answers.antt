@@ -1,5 +1,4 @@
 -- `float_walk::walk`: the first step requires and gives what the whole walk does; no row has been made yet.
-use borrow.Author.Rules.{rules}
 use native.Mathlib.Omega.{arith}
 use Prim.Native.Nat.{ℕ, ◌*◌, ◌%◌, ◌^◌}
 use lib.ListN.{replicate, length-replicate}
