@@ -14,7 +14,7 @@ pub bounds-bits-taken : goal.bounds-bits-taken
 bounds-bits-taken c =
     let s = c in
     let l = c.loop-i in
-    let one : get_or s.args.kinds.now l.i 0 ≡ 1 = omega (arith, s.requires.bits_kinds l.i, c.if-kinds-i-ne0.true) in
+    let one : get_or s.args.kinds.now l.i 0 ≡ 1 = omega (arith, s.requires.bits_kinds l.i) in
     place_left s.args.kinds.now s.args.row.now s.args.bits.now s.requires l.bits l.i l.taken l.invariant (omega arith) one
 
 pub loop-i-preserved : goal.loop-i-preserved
@@ -26,8 +26,8 @@ loop-i-preserved c =
     let b = s.args.bits.now in
     let h : l.i < length k = omega arith in
     elim c.if-kinds-i-ne0.branch [
-      | then-kinds-i-ne0 w ↦ rw (w.bits-is, w.taken-is) (pick_information k u b s.requires l.bits l.i l.taken l.invariant h (omega (arith, s.requires.bits_kinds l.i, w.if-kinds-i-ne0.true)))
-      | else-kinds-i-ne0 w ↦ rw (w.bits-is, w.taken-is) (pick_frozen k u b s.requires l.bits l.i l.taken l.invariant h w.if-kinds-i-ne0.false)
+      | then-kinds-i-ne0 w ↦ rw (w.bits-is, w.taken-is) (pick_information k u b s.requires l.bits l.i l.taken l.invariant h (omega (arith, s.requires.bits_kinds l.i)))
+      | else-kinds-i-ne0 w ↦ rw (w.bits-is, w.taken-is) (pick_frozen k u b s.requires l.bits l.i l.taken l.invariant h (omega arith))
     ]
 
 pub returns : goal.returns
