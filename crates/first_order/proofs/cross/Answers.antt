@@ -40,47 +40,43 @@ pair : (c : After-b-1)
     × (to_z w32 (of_z w32 (get_or o.row (h + o.j) (pos 0))) ≡ get_or d (h + o.j) (pos 0))
 pair c =
     let o = c.loop-j in
-    let s = c in
-    let d = s.args.row.now in
-    let h = s.args.h in
-    let long = s.requires.0 in (
+    let d = c.args.row.now in
+    let h = c.args.h in
+    let long = c.requires.0 in (
       to_z-of_z {w = w32} (record { sfits = c.a-1.given }) ∙ read_first d h long o.row o.j (omega arith) (o.invariant.1 long),
       to_z-of_z {w = w32} (record { sfits = c.b-1.given }) ∙ read-second d h long o.row o.j (omega arith) (o.invariant.1 long),
     )
 
 pub overflow_add-row : goal.overflow_add-row
 overflow_add-row c =
-    let s = c in
-    let d = s.args.row.now in
-    let h = s.args.h in
+    let d = c.args.row.now in
+    let h = c.args.h in
     let j = c.loop-j.j in
     let x = get_or d j (pos 0) in
     let y = get_or d (h + j) (pos 0) in
     let small : nat_abs (x +ℤ y) ≤ nat_abs x + nat_abs y = size-combined 0 x y in
-    rw ((pair c).0, (pair c).1) (fits_size _ (omega (arith, small, pair_small d h s.requires.0 j (omega arith), s.requires.1)))
+    rw ((pair c).0, (pair c).1) (fits_size _ (omega (arith, small, pair_small d h c.requires.0 j (omega arith), c.requires.1)))
 
 pub overflow_sub-row : goal.overflow_sub-row
 overflow_sub-row c =
-    let s = c in
-    let d = s.args.row.now in
-    let h = s.args.h in
+    let d = c.args.row.now in
+    let h = c.args.h in
     let j = c.loop-j.j in
     let x = get_or d j (pos 0) in
     let y = get_or d (h + j) (pos 0) in
     -- the difference of two, whichever is subtracted from the other
     let small : nat_abs (x -ℤ y) ≤ nat_abs x + nat_abs y = size-combined 1 x y in
     let turned : nat_abs (y -ℤ x) ≤ nat_abs y + nat_abs x = size-combined 1 y x in
-    rw ((pair c).0, (pair c).1) (fits_size _ (omega (arith, small, turned, pair_small d h s.requires.0 j (omega arith), s.requires.1)))
+    rw ((pair c).0, (pair c).1) (fits_size _ (omega (arith, small, turned, pair_small d h c.requires.0 j (omega arith), c.requires.1)))
 
 pub bounds-row-h : goal.bounds-row-h
 bounds-row-h c = let o = c.loop-j in lt-length-set o.row o.j (sum-stored c) (omega arith)
 
 pub loop-j-preserved : goal.loop-j-preserved
 loop-j-preserved c =
-    let s = c in
     let o = c.loop-j in
-    let d = s.args.row.now in
-    let h = s.args.h in (
+    let d = c.args.row.now in
+    let h = c.args.h in (
       omega arith,
       λ long.
           pass_stores d h long o.row o.j (omega arith) (o.invariant.1 long) _ _
@@ -94,10 +90,9 @@ shape_of-row c = c.loop-j.invariant.2
 
 pub returns : goal.returns
 returns c =
-    let s = c in
     let o = c.loop-j in
-    let d = s.args.row.now in
-    let h = s.args.h in
-    let long = s.requires.0 in
+    let d = c.args.row.now in
+    let h = c.args.h in
+    let long = c.requires.0 in
     let e : o.j ≡ h = omega arith in
     o.invariant.1 long ∙ ap (crossing d h long) e ∙ crossing-all d h long

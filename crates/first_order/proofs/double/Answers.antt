@@ -10,25 +10,22 @@ loop-j-init c = (omega arith, doubling-none c.args.word.now c.args.h c.args.bit 
 
 pub overflow_add-word : goal.overflow_add-word
 overflow_add-word c =
-    let s = c in
     let l = c.loop-j in
-    let read = read_again s.args.word.now s.args.h s.args.bit s.requires.0 l.word l.j c.loop-j-test.true l.invariant.1 in
-    omega (arith, read, s.requires.1 l.j, s.requires.2)
+    let read = read_again c.args.word.now c.args.h c.args.bit c.requires.0 l.word l.j c.loop-j-test.true l.invariant.1 in
+    omega (arith, read, c.requires.1 l.j, c.requires.2)
 
 pub loop-j-preserved : goal.loop-j-preserved
 loop-j-preserved c =
-    let s = c in
     let l = c.loop-j in
     let t = c.loop-j-test.true in (
       omega arith,
-      stored-again s.args.word.now s.args.h s.args.bit s.requires.0 l.word l.j t l.invariant.1,
+      stored-again c.args.word.now c.args.h c.args.bit c.requires.0 l.word l.j t l.invariant.1,
       length-set l.word _ _ ∙ l.invariant.2,
     )
 
 pub returns : goal.returns
 returns c =
-    let s = c in
-    let x = s.args.word.now in
-    let h = s.args.h in
+    let x = c.args.word.now in
+    let h = c.args.h in
     let e : c.loop-j.j ≡ h = omega arith in
-    c.loop-j.invariant.1 ∙ ap (doubling x h s.args.bit) e ∙ doubling-all x h s.args.bit s.requires.0
+    c.loop-j.invariant.1 ∙ ap (doubling x h c.args.bit) e ∙ doubling-all x h c.args.bit c.requires.0

@@ -6,22 +6,19 @@ use Rattle.first_order.proofs.eight.Goals as goal
 
 pub four-requires : goal.four-requires
 four-requires c =
-    let s = c in
     let r = c.cross in
-    first_asked s.args.row.now 4 s.requires.0 r.new.row r.ensures (2 ^ 31) s.requires.1
+    first_asked c.args.row.now 4 c.requires.0 r.new.row r.ensures (2 ^ 31) c.requires.1
 
 pub four-requires-2 : goal.four-requires-2
 four-requires-2 c =
-    let s = c in
     let r = c.cross in
     let a = c.four in
-    second_asked s.args.row.now 4 s.requires.0 r.new.row r.ensures a.new.row a.auto.row (2 ^ 31) s.requires.1
+    second_asked c.args.row.now 4 c.requires.0 r.new.row r.ensures a.new.row a.auto.row (2 ^ 31) c.requires.1
 
 pub returns : goal.returns
 returns c =
-    let s = c in
     let r = c.cross in
     let a = c.four in
     let b = c.four-2 in
-    both_transformed s.args.row.now 4 s.requires.0 r.new.row r.ensures a.new.row a.auto.row b.new.row b.auto.row 3 refl refl
+    both_transformed c.args.row.now 4 c.requires.0 r.new.row r.ensures a.new.row a.auto.row b.new.row b.auto.row 3 refl refl
     a.ensures b.ensures

@@ -14,28 +14,25 @@ use Rattle.first_order.proofs.find.Goals as goal
 
 pub transform-requires : goal.transform-requires
 transform-requires c =
-    let s = c in
     let p = c.put_sums in
-    (ap length p.ensures ∙ s.requires.2, omega (arith, ap sizes p.ensures, s.requires.4))
+    (ap length p.ensures ∙ c.requires.2, omega (arith, ap sizes p.ensures, c.requires.4))
 
 pub look-requires : goal.look-requires
 look-requires c =
-    let s = c in
-    let m = s.args.m in
-    let l = s.args.readings.now in
+    let m = c.args.m in
+    let l = c.args.readings.now in
     let t = c.transform in
     let is : t.new.row ≡ hadamard m l = t.ensures ∙ ap (hadamard m) c.put_sums.ensures in
-    let long : length t.new.row ≡ 2 ^ m = ap length is ∙ length-hadamard m l s.requires.2 in (
-      omega (arith, two_or_more m s.requires.0),
-      omega (arith, power_most m s.requires.1),
-      subst (Within (2 ^ 24 - 1)) (sym is) (hadamard_within m (2 ^ 24 - 1) l (omega (arith, s.requires.4))),
+    let long : length t.new.row ≡ 2 ^ m = ap length is ∙ length-hadamard m l c.requires.2 in (
+      omega (arith, two_or_more m c.requires.0),
+      omega (arith, power_most m c.requires.1),
+      subst (Within (2 ^ 24 - 1)) (sym is) (hadamard_within m (2 ^ 24 - 1) l (omega (arith, c.requires.4))),
     )
 
 pub returns : goal.returns
 returns c =
-    let s = c in
-    let m = s.args.m in
-    let l = s.args.readings.now in
+    let m = c.args.m in
+    let l = c.args.readings.now in
     let t = c.transform in
     let is : t.new.row ≡ hadamard m l = t.ensures ∙ ap (hadamard m) c.put_sums.ensures in
     subst (λ (h : List ℤ). Looked h c.look.result) is c.look.ensures

@@ -6,22 +6,19 @@ use Rattle.first_order.proofs.four.Goals as goal
 
 pub cross-requires-2 : goal.cross-requires-2
 cross-requires-2 c =
-    let s = c in
     let r = c.cross in
-    first_asked s.args.row.now 2 s.requires.0 r.new.row r.ensures (2 ^ 31) s.requires.1
+    first_asked c.args.row.now 2 c.requires.0 r.new.row r.ensures (2 ^ 31) c.requires.1
 
 pub cross-requires-3 : goal.cross-requires-3
 cross-requires-3 c =
-    let s = c in
     let r = c.cross in
     let a = c.cross-2 in
-    second_asked s.args.row.now 2 s.requires.0 r.new.row r.ensures a.new.row a.auto.row (2 ^ 31) s.requires.1
+    second_asked c.args.row.now 2 c.requires.0 r.new.row r.ensures a.new.row a.auto.row (2 ^ 31) c.requires.1
 
 pub returns : goal.returns
 returns c =
-    let s = c in
     let r = c.cross in
     let a = c.cross-2 in
     let b = c.cross-3 in
-    both_transformed s.args.row.now 2 s.requires.0 r.new.row r.ensures a.new.row a.auto.row b.new.row b.auto.row 2 refl refl
+    both_transformed c.args.row.now 2 c.requires.0 r.new.row r.ensures a.new.row a.auto.row b.new.row b.auto.row 2 refl refl
     (a.ensures ∙ pair-crossed _) (b.ensures ∙ pair-crossed _)

@@ -13,8 +13,7 @@ use Rattle.first_order.proofs.look.Goals.{After-top_key-key}
 
 found-place : (c : After-top_key-key) → Placed c.args.row.now c.top_key-key.result
 found-place c =
-    let s = c in
-    placed s.args.row.now c.top_key-key.result s.requires.0 s.requires.1 c.top_key-key.ensures
+    placed c.args.row.now c.top_key-key.result c.requires.0 c.requires.1 c.top_key-key.ensures
 
 pub slice_copy_out-sign_of : goal.slice_copy_out-sign_of
 slice_copy_out-sign_of c = omega (arith, (found-place c).within)
@@ -24,18 +23,13 @@ slice_set_of-row c = omega (arith, (found-place ((goal.at.slice_set_of-row c).Af
 
 pub top_size-second-requires : goal.top_size-second-requires
 top_size-second-requires c =
-    let k = c in
-    let s = k in
-    within_wiped (2 ^ 24 - 1) s.args.row.now (k.top_key-key.result % 256) (found-place ((goal.at.top_size-second-requires c).After-top_key-key)).within s.requires.2
+    within_wiped (2 ^ 24 - 1) c.args.row.now (c.top_key-key.result % 256) (found-place ((goal.at.top_size-second-requires c).After-top_key-key)).within c.requires.2
 
 pub returns : goal.returns
 returns c =
-    let k = c in
-    let s = k in
-    let row = s.args.row.now in
-    let place = k.top_key-key.result % 256 in
-    let sign = c in
+    let row = c.args.row.now in
+    let place = c.top_key-key.result % 256 in
     record {
-      largest = both_found row k.top_key-key.result c.top_size-second.result s.requires.0 (found-place ((goal.at.returns c).After-top_key-key)) c.top_size-second.ensures;
-      sign-is = sign.sign_of-sign.ensures ∙ ap hard (to_z-of_z {w = w32} {z = get_or row place (pos 0)} (record { sfits = sign.sign_of-arg-1.given }));
+      largest = both_found row c.top_key-key.result c.top_size-second.result c.requires.0 (found-place ((goal.at.returns c).After-top_key-key)) c.top_size-second.ensures;
+      sign-is = c.sign_of-sign.ensures ∙ ap hard (to_z-of_z {w = w32} {z = get_or row place (pos 0)} (record { sfits = c.sign_of-arg-1.given }));
     }

@@ -26,16 +26,15 @@ overflow_add-i c = omega (arith, c.requires.1)
 pub loop-i-preserved : goal.loop-i-preserved
 unfolding digit
 loop-i-preserved c =
-    let s = c in
     let o = c.loop-i in
-    let d = s.args.bits.now in
-    let m = s.args.m in
-    let x = bits_of m s.args.place s.args.sign in
-    let long = length-bits_of m s.args.place s.args.sign in
-    let is : s.args.place / 2 ^ (m - 1 - o.i) % 2 ≡ get_or x o.i 0 = sym (bit_at m s.args.place s.args.sign o.i (omega arith)) in (
+    let d = c.args.bits.now in
+    let m = c.args.m in
+    let x = bits_of m c.args.place c.args.sign in
+    let long = length-bits_of m c.args.place c.args.sign in
+    let is : c.args.place / 2 ^ (m - 1 - o.i) % 2 ≡ get_or x o.i 0 = sym (bit_at m c.args.place c.args.sign o.i (omega arith)) in (
       omega arith,
       ap₂ (λ (y : List ℕ) (b : ℕ). set y o.i b) o.invariant.1 is
-          ∙ front-suc d x o.i 0 (omega (arith, s.requires.0)) (omega arith)
+          ∙ front-suc d x o.i 0 (omega (arith, c.requires.0)) (omega arith)
           ∙ ap (front d x) (sym (add-one o.i)),
       length-set o.bits _ _ ∙ o.invariant.2,
     )
@@ -48,13 +47,12 @@ shape_of-bits c = length-set c.loop-i.bits _ _ ∙ c.loop-i.invariant.2
 
 pub returns : goal.returns
 returns c =
-    let s = c in
     let o = c.loop-i in
-    let d = s.args.bits.now in
-    let m = s.args.m in
-    let x = bits_of m s.args.place s.args.sign in
-    let long = length-bits_of m s.args.place s.args.sign in
+    let d = c.args.bits.now in
+    let m = c.args.m in
+    let x = bits_of m c.args.place c.args.sign in
+    let long = length-bits_of m c.args.place c.args.sign in
     let e : o.i ≡ m = omega arith in
-    ap₂ (λ (b : List ℕ) (v : ℕ). set b m v) (o.invariant.1 ∙ ap (front d x) e) (last_bit_lem m s.args.place s.args.sign s.requires.2)
-    ∙ front-suc d x m 0 (omega (arith, s.requires.0)) (omega arith)
-    ∙ front-done d x (suc m) (omega (arith, s.requires.0)) (drop_of_length-le x {i = suc m} (omega arith))
+    ap₂ (λ (b : List ℕ) (v : ℕ). set b m v) (o.invariant.1 ∙ ap (front d x) e) (last_bit_lem m c.args.place c.args.sign c.requires.2)
+    ∙ front-suc d x m 0 (omega (arith, c.requires.0)) (omega arith)
+    ∙ front-done d x (suc m) (omega (arith, c.requires.0)) (drop_of_length-le x {i = suc m} (omega arith))

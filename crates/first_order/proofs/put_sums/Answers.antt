@@ -18,13 +18,12 @@ overflow_cast-x c =
 
 pub loop-j-preserved : goal.loop-j-preserved
 loop-j-preserved c =
-    let g = c in
     let o = c.loop-j in
-    let d = g.args.row.now in
-    let l = g.args.readings.now in (
+    let d = c.args.row.now in
+    let l = c.args.readings.now in (
       omega arith,
       rw (add-one o.j, reading-read {z = get_or l o.j (pos 0)} (record { sfits = c.x-1.given }), o.invariant.1)
-          (front-suc d l o.j (pos 0) (omega (arith, g.requires)) (omega arith)),
+          (front-suc d l o.j (pos 0) (omega (arith, c.requires)) (omega arith)),
       length-set o.row _ _ ∙ o.invariant.2,
     )
 
@@ -33,7 +32,6 @@ shape_of-row c = c.loop-j.invariant.2
 
 pub returns : goal.returns
 returns c =
-    let g = c in
     let o = c.loop-j in
-    let l = g.args.readings.now in
-    o.invariant.1 ∙ front-done g.args.row.now l o.j (omega (arith, g.requires)) (drop_of_length-le l {i = o.j} (omega arith))
+    let l = c.args.readings.now in
+    o.invariant.1 ∙ front-done c.args.row.now l o.j (omega (arith, c.requires)) (drop_of_length-le l {i = o.j} (omega arith))

@@ -17,30 +17,27 @@ bounds-word-0 c = omega (arith, c.requires.0, pow_pos c.args.m)
 
 pub loop-p-init : goal.loop-p-init
 loop-p-init c =
-    let s = c in
-    let some : 0 < length s.args.word.now = omega (arith, s.requires.0, pow_pos s.args.m) in
-    (omega arith, refl, word-start s.args.word.now s.args.place s.args.sign some s.requires.2, refl)
+    let some : 0 < length c.args.word.now = omega (arith, c.requires.0, pow_pos c.args.m) in
+    (omega arith, refl, word-start c.args.word.now c.args.place c.args.sign some c.requires.2, refl)
 
 pub overflow_shr-above : goal.overflow_shr-above
 overflow_shr-above c = omega (arith, c.requires.1)
 
 pub double-requires : goal.double-requires
 double-requires c =
-    let s = c in
     let o = c.loop-p in
-    let long = o.invariant.3 ∙ length-set s.args.word.now 0 s.args.sign ∙ s.requires.0 in
-    let d = doubles o.p s.args.m o.h (length o.word) c.loop-p-test.true s.requires.1 o.invariant.1 long in
-    (d.room, subst Bits (sym o.invariant.2) (bits_first_order o.p s.args.place s.args.sign), omega arith)
+    let long = o.invariant.3 ∙ length-set c.args.word.now 0 c.args.sign ∙ c.requires.0 in
+    let d = doubles o.p c.args.m o.h (length o.word) c.loop-p-test.true c.requires.1 o.invariant.1 long in
+    (d.room, subst Bits (sym o.invariant.2) (bits_first_order o.p c.args.place c.args.sign), omega arith)
 
 -- the step of the current word
 step : (c : After-slice_known-in-loop-p-1)
     → let o = c.loop-p in
     Doubles o.p o.h (length o.word)
 step c =
-    let s = c in
     let o = c.loop-p in
-    let long = o.invariant.3 ∙ length-set s.args.word.now 0 s.args.sign ∙ s.requires.0 in
-    doubles o.p s.args.m o.h (length o.word) c.loop-p-test.true s.requires.1 o.invariant.1 long
+    let long = o.invariant.3 ∙ length-set c.args.word.now 0 c.args.sign ∙ c.requires.0 in
+    doubles o.p c.args.m o.h (length o.word) c.loop-p-test.true c.requires.1 o.invariant.1 long
 
 pub overflow_add-h : goal.overflow_add-h
 overflow_add-h c = omega (arith, (step c).small)
@@ -51,26 +48,23 @@ overflow_add-p c = omega (arith, c.requires.1)
 pub loop-p-preserved : goal.loop-p-preserved
 unfolding digit
 loop-p-preserved c =
-    let s = c in
     let o = c.loop-p in
     let d = c.double in
     let more = c.loop-p-test.true in (
       omega (arith, more),
       rw add-one (step c).next,
-      rw add-one (next_word o.p s.args.place s.args.sign o.h o.word d.new.word (step c).room o.invariant.2 d.ensures),
+      rw add-one (next_word o.p c.args.place c.args.sign o.h o.word d.new.word (step c).room o.invariant.2 d.ensures),
       d.auto.word ∙ o.invariant.3,
     )
 
 pub shape_of-word : goal.shape_of-word
 shape_of-word c =
-    let s = c in
-    c.loop-p.invariant.3 ∙ length-set s.args.word.now 0 s.args.sign
+    c.loop-p.invariant.3 ∙ length-set c.args.word.now 0 c.args.sign
 
 pub returns : goal.returns
 returns c =
-    let s = c in
     let o = c.loop-p in
-    let e : o.p ≡ s.args.m = omega arith in
-    let whole : o.h ≡ 2 ^ s.args.m = o.invariant.1 ∙ ap (λ (q : ℕ). 2 ^ q) e in
-    let long = o.invariant.3 ∙ length-set s.args.word.now 0 s.args.sign ∙ s.requires.0 in
-    sym (take_all o.h o.word (omega (arith, whole, long))) ∙ o.invariant.2 ∙ ap (λ (q : ℕ). first_order q s.args.place s.args.sign) e
+    let e : o.p ≡ c.args.m = omega arith in
+    let whole : o.h ≡ 2 ^ c.args.m = o.invariant.1 ∙ ap (λ (q : ℕ). 2 ^ q) e in
+    let long = o.invariant.3 ∙ length-set c.args.word.now 0 c.args.sign ∙ c.requires.0 in
+    sym (take_all o.h o.word (omega (arith, whole, long))) ∙ o.invariant.2 ∙ ap (λ (q : ℕ). first_order q c.args.place c.args.sign) e

@@ -29,14 +29,12 @@ sized c =
 pub overflow_mul-size : goal.overflow_mul-size
 overflow_mul-size c =
     let o = c.loop-j in
-    let g = c in
-    record { fits = omega (arith, sized c, g.requires.1 o.j) }
+    record { fits = omega (arith, sized c, c.requires.1 o.j) }
 
 pub overflow_add-size : goal.overflow_add-size
 overflow_add-size c =
     let o = c.loop-j in
-    let g = c in
-    record { fits = omega (arith, sized c, g.requires.1 o.j, g.requires.0) }
+    record { fits = omega (arith, sized c, c.requires.1 o.j, c.requires.0) }
 
 pub loop-j-preserved : goal.loop-j-preserved
 loop-j-preserved c =

@@ -40,10 +40,9 @@ more c =
 
 pub overflow_add-sum : goal.overflow_add-sum
 overflow_add-sum c =
-    let g = c in
-    let l = g.args.readings.now in
+    let l = c.args.readings.now in
     let j = c.loop-j.j + 1 in
-    record { fits = omega (arith, more c, ap sizes (take-append-drop j l), sizes-append (take j l) (drop j l), g.requires) }
+    record { fits = omega (arith, more c, ap sizes (take-append-drop j l), sizes-append (take j l) (drop j l), c.requires) }
 
 pub loop-j-preserved : goal.loop-j-preserved
 loop-j-preserved c = (omega arith, more c)
