@@ -1,0 +1,44 @@
+-- The quick reading is in the two lent rows; if it passes the test it is copied, otherwise the search answers.
+use borrow.Author.Rules.{rules}
+use mathlib.Core.Path.{ap, sym, ◌∙◌}
+use native.Mathlib.Omega.{arith}
+use Rattle.search.specs.RunnerUp.{RunnerUpOutcome}
+use Rattle.early.specs.declared.Answered.{Answered}
+use Rattle.early.specs.Outcome.{outcome_of}
+use Rattle.early.specs.OutcomeLaws.{at_once, by_search}
+use Rattle.early.proofs.test_first.Goals as goal
+
+pub take_reading-penalty-requires : goal.take_reading-penalty-requires
+take_reading-penalty-requires c =
+    let s = c in
+    let a = s.requires.0 in
+    record { sound = a.sound; long_bits = omega (arith, s.requires.1, a.long_bits); long_word = omega (arith, s.requires.2, a.long_word); entries = a.entries }
+
+-- the places that the returns look back to, each after the next
+
+pub returns-then-surely_right : goal.returns-then-surely_right
+returns-then-surely_right c =
+    let second = c in
+    let first = second in
+    let then = first in
+    let test = then in
+    let quick = test.take_reading-penalty in
+    let s = test.args in
+    at_once s.code s.allowed s.readings.now s.bits.now s.word.now quick.result quick.new.bits quick.new.word
+    quick.ensures (sym test.surely_right.ensures ∙ then.if-surely_right.true) first.copy.new.to second.copy-then-surely_right.new.to
+    first.copy.ensures second.copy-then-surely_right.ensures
+
+pub returns : goal.returns
+returns c =
+    let found = c in
+    let else = found in
+    let test = else in
+    let quick = test.take_reading-penalty in
+    let s = test.args in
+    let searched = found.search_sound-answer in
+    let bits = searched.new.bits in
+    let word = searched.new.word in
+    ap (λ (a : Answered). outcome_of a bits word) c.penalty_only.ensures
+    ∙ by_search s.code s.allowed s.readings.now s.bits.now s.word.now quick.result quick.new.bits quick.new.word
+    quick.ensures (sym test.surely_right.ensures ∙ else.if-surely_right.false) searched.result.result bits word
+    (ap (λ (o : RunnerUpOutcome). o.outcome) searched.ensures)

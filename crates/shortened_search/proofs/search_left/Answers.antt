@@ -1,0 +1,48 @@
+-- Each return is the outcome after the tests that led there.
+use mathlib.Core.Path.{ap, sym, ◌∙◌}
+use Prim.Native.Nat.{ℕ}
+use lib.ListN.{length}
+use Rattle.numbers.specs.Sums.{sum}
+use Rattle.words.proofs.KindLaws.{length-kinds}
+use Rattle.code.specs.declared.Code.{Code}
+use Rattle.code.specs.Admitted.{admitted_by}
+use Rattle.search.specs.declared.WithRunnerUp.{WithRunnerUp}
+use Rattle.search.specs.RunnerUp.{runner_up_outcome_of, runner_up_outcome_by}
+use Rattle.shortened.specs.Outcome.{left_of}
+use Rattle.shortened.specs.OutcomeLaws.{allowed_over}
+use Rattle.shortened_search.specs.OutcomeLaws.{over-refused, over_answered}
+use borrow.Author.Rules.{rules}
+use Rattle.shortened_search.proofs.search_left.Goals as goal
+
+pub count_left-left-requires : goal.count_left-left-requires
+count_left-left-requires c =
+    (c.requires.0, c.requires.1.long ∙ length-kinds c.args.code.r c.args.code.m)
+
+pub search_sound-requires : goal.search_sound-requires
+search_sound-requires c =
+    let s = c.args in
+    let ks = left_of s.named.now s.code in
+    let k = length s.bits.now in
+    let n = length s.word.now in
+    let is = sym c.in-Allowed.is ∙ c.admit_for.ensures ∙ ap (λ (expected : ℕ). admitted_by s.code expected s.readings.now k n) c.count_left-left.ensures in
+    (c.requires.1, (allowed_over s.code (sum ks) s.readings.now k n c.requires.0 c.in-Allowed.field-0 is).1)
+
+pub returns-in-Refused : goal.returns-in-Refused
+returns-in-Refused c =
+    let s = c.args in
+    let ks = left_of s.named.now s.code in
+    ap (λ (a : WithRunnerUp). runner_up_outcome_of a s.bits.now s.word.now) c.refused.ensures
+    ∙ over-refused ks s.code s.allowed s.readings.now s.bits.now s.word.now c.in-Refused.why
+    (sym c.in-Refused.is ∙ c.admit_for.ensures
+    ∙ ap (λ (expected : ℕ). admitted_by s.code expected s.readings.now (length s.bits.now) (length s.word.now)) c.count_left-left.ensures)
+
+pub returns-in-Allowed : goal.returns-in-Allowed
+returns-in-Allowed c =
+    let s = c.args in
+    let ks = left_of s.named.now s.code in
+    let k = length s.bits.now in
+    let n = length s.word.now in
+    let is = sym c.in-Allowed.is ∙ c.admit_for.ensures ∙ ap (λ (expected : ℕ). admitted_by s.code expected s.readings.now k n) c.count_left-left.ensures in
+    let same = (allowed_over s.code (sum ks) s.readings.now k n c.requires.0 c.in-Allowed.field-0 is).0 in
+    c.search_sound.ensures ∙ ap (λ (d : Code). runner_up_outcome_by d.m ks s.readings.now s.allowed s.bits.now s.word.now) (sym same)
+    ∙ over_answered ks s.code s.allowed s.readings.now s.bits.now s.word.now c.in-Allowed.field-0 is
