@@ -4,7 +4,7 @@ tools/seconds, tools/cost and tools/landings (what a check costs). From the repo
 
     tools/prover.py sum CRATE              one checksum of all that is proved of the crate and of those below it, and of the kit
     tools/prover.py words CRATE            the prover's words for the crate as crates.txt has it, one per line, over built libraries
-    tools/prover.py prove WHO CRATE LOG [VERB]    has rt prove the crate and what is below it (rt VERB, by default check), unless `rt ci` has done that; WHO says
+    tools/prover.py prove WHO CRATE LOG [VERB]    has rt prove the crate and what is below it (by rt VERB, else check), unless `rt ci` did; WHO says
                                            on standard error what is proved, and LOG keeps all that rt said
     tools/prover.py note                   notes that `rt ci` has proved everything as it stands (tests/run does that)
     tools/prover.py left CRATE             status 0 if the libraries below the crate are those that `rt ci` left"""
