@@ -15,7 +15,7 @@ use Rattle.encode.specs.OutcomeLaws.{tested_small}
 use Rattle.encode.specs.OnlyOutcome as encoders
 use Rattle.quick.specs.declared.Read.{Read}
 use Rattle.quick.specs.Outcome as reader
-use Rattle.quick.specs.OnlyOutcome as readers
+use Rattle.quick.proofs.OnlyOutcome as readers
 use Rattle.shortened.specs.Outcome.{left_of, quick_over, encoding_shortened, inverting_shortened, quick_shortened}
 use Rattle.shortened.specs.OutcomeLaws.{encoding-refused, inverting-refused, quick_refused, over-refused}
 use Rattle.shortened.specs.OutcomeLaws.{encoding-left, inverting-left, quick-left, over_done}

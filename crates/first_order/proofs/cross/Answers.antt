@@ -9,7 +9,7 @@ use mir.Syntax.{w32}
 use mir.Val.{to_z, of_z}
 use mir.Facts.{to_z-of_z}
 use Rattle.numbers.specs.PartsLaws.{fits_size}
-use Rattle.hadamard.specs.HadamardLaws.{size-combined}
+use Rattle.hadamard.proofs.HadamardLaws.{size-combined}
 use Rattle.first_order.specs.CrossLaws.{crossing, crossing-none, crossing-all, read_first, read-second, pair_small, pass_stores}
 use Rattle.first_order.proofs.cross.Goals as goal
 use Rattle.first_order.proofs.cross.Goals.{After-b-1}

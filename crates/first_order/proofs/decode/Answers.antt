@@ -7,8 +7,8 @@ use lib.ListN.{length, replicate, length-replicate}
 use lib.Seq.{length-take-le}
 use Rattle.words.proofs.KindLaws.{sum-kinds}
 use Rattle.hadamard.specs.Hadamard.{entry}
-use Rattle.hadamard.specs.HadamardLaws.{length-hadamard}
-use Rattle.hadamard.specs.EncodedLaws.{sum-first_order}
+use Rattle.hadamard.proofs.HadamardLaws.{length-hadamard}
+use Rattle.hadamard.proofs.EncodedLaws.{sum-first_order}
 use Rattle.code.specs.declared.Refusal.TheVariants.{Tied}
 use Rattle.code.specs.SoundLaws.{length_most}
 use Rattle.search.specs.Outcome.{found_with, refused}

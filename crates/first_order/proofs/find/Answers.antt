@@ -7,7 +7,7 @@ use lib.IntN.{ℤ}
 use lib.ListN.{length}
 use Rattle.decoding.specs.Readings.{sizes, Within}
 use Rattle.hadamard.specs.Hadamard.{hadamard}
-use Rattle.hadamard.specs.HadamardLaws.{length-hadamard, hadamard_within}
+use Rattle.hadamard.proofs.HadamardLaws.{length-hadamard, hadamard_within}
 use Rattle.first_order.specs.Work.{Looked}
 use Rattle.first_order.specs.OutcomeLaws.{two_or_more, power_most}
 use Rattle.first_order.proofs.find.Goals as goal
