@@ -40,7 +40,7 @@ def paths(pattern):
 def definitions():
     """Where each name is defined: laws, definitions, records, fields and constructors; functions, types, constants and variants."""
     found = collections.defaultdict(list)
-    for path in paths("crates/*/specs/*.antt") + paths("crates/*/src/**/*.rt"):
+    for path in paths("crates/*/specs/*.antt") + paths("crates/*/proofs/*.antt") + paths("crates/*/src/**/*.rt"):
         spec, owner, enum, seen = path.endswith(".antt"), None, False, set()
         for at, line in enumerate(read(path).split("\n"), 1):
             outer = (None if line.startswith(("use ", "--")) else SPEC.match(line)) if spec else ITEM.match(line)
@@ -101,7 +101,7 @@ def linked(text, where, files=(), crates=(), ending=".antt"):
         targets[name] = f"{places[0].path}#L{places[0].line}"
         owner = name if places[0].owner is None else owner
     for path in marked:
-        if re.fullmatch(r"\w+/(?:specs|src)/[\w/]+\.(?:antt|rt)", path):
+        if re.fullmatch(r"\w+/(?:specs|proofs|src)/[\w/]+\.(?:antt|rt)", path):
             targets[path] = f"crates/{path}" if read(f"crates/{path}") else None
         elif re.fullmatch(r"\w+/\w+", path):
             found = edit(path) or sys.exit(f"{where}: there is no edit {path}")
