@@ -51,7 +51,8 @@ def new_name(old, functions):
 
 
 def main():
-    files = sorted(glob.glob("crates/*/specs/*.antt") + glob.glob("crates/*/proofs/**/*.antt", recursive=True) + glob.glob("crates/*/src/**/*.rt", recursive=True))
+    files = glob.glob("crates/*/specs/*.antt") + glob.glob("crates/*/proofs/**/*.antt", recursive=True)
+    files = sorted(files + glob.glob("crates/*/src/**/*.rt", recursive=True))
     texts = {p: open(p, encoding="utf-8").read() for p in files}
     foreign, declared, functions, tokens = set(), set(), set(STD), {}
     labels = set()
