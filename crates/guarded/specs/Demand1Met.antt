@@ -1,15 +1,15 @@
 -- A guard after a search that meets demand 1 meets it too.
-use Rattle.std.specs.Prelude.{◌≡◌, refl, ◌⊎◌, ◌↔◌, List, [], ◌∷◌, ℕ, ◌-◌, ◌≤◌, ◌<◌, length}
-use Rattle.std.proofs.Common.{ap, sym, ◌∙◌, inl, inr, ⊎_elim, arith}
+use Rattle.std.specs.Prelude.{◌≡◌, List, ℕ, ◌-◌, ◌≤◌, ◌<◌, length}
+use Rattle.std.proofs.Common.{ap, ◌∙◌, arith}
 use Rattle.std.proofs.Math.Decide.{ℕ_discrete}
 use Rattle.words.specs.Bits.{Bits}
 use Rattle.code.specs.declared.Refusal.{Refusal}
 use Rattle.code.specs.RefusalLaws.{number_above}
 use Rattle.code.specs.Sound.{carrying, number_of}
-use Rattle.code.specs.Demand1.{View, Checks, passed, check, check_at, First, NoneApplies, Demand1}
+use Rattle.code.specs.Demand1.{View, Checks, First, Demand1}
 use Rattle.search.specs.Outcome as Search
 use Rattle.search.specs.Demands.{view}
-use Rattle.guarded.specs.declared.Fault.TheVariants.{Link, Marker}
+use Rattle.guarded.specs.declared.Fault.TheVariants.{Link}
 use Rattle.guarded.specs.Guard.{last_bit}
 use Rattle.guarded.specs.Outcome.{GuardedOutcome, no_message, guarded}
 use Rattle.guarded.specs.GuardLaws.{guarded_other, guarded-shown, guarded_marked, shown-found, marked_found, passed_on_lem}

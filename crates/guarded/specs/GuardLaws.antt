@@ -1,8 +1,7 @@
 -- The guard at each outcome of a search, and at two outcomes of which the second is that of the negated readings.
-use Rattle.std.specs.Prelude.{◌≡◌, refl, ◌↔◌, List, ℕ, ◌+◌, ◌-◌, ◌%◌, ◌^◌, ◌<◌, length, get_or}
-use Rattle.std.proofs.Common.{ap, sym, ◌∙◌, subst, arith, eq-eqb, ne_eqb}
+use Rattle.std.specs.Prelude.{◌≡◌, ◌↔◌, List, ℕ, ◌+◌, ◌-◌, ◌%◌, ◌^◌, ◌<◌, length, get_or}
+use Rattle.std.proofs.Common.{ap, sym, ◌∙◌, arith, eq-eqb, ne_eqb}
 use Rattle.std.proofs.Math.Decide.{ℕ_discrete}
-use Rattle.numbers.specs.Sums.{sum}
 use Rattle.words.specs.Bits.{Bits, xors}
 use Rattle.words.specs.Kinds.{InformationBits, Word, all_ones}
 use Rattle.words.specs.TransformLaws.{length-xors, get_or-xors}

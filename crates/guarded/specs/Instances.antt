@@ -19,7 +19,6 @@ use Rattle.code.specs.RefusalLaws.{number_above}
 use Rattle.named.specs.Named.{GoodRow}
 use Rattle.named.specs.NamedLaws.{bad_parameters, bad-row, sound_row, row_decided, left_frozen}
 use Rattle.named.specs.AllOnesNamed.{all_ones-left}
-use Rattle.search.specs.Outcome as Search
 use Rattle.search.specs.Outcome.{by_answer, searching}
 use Rattle.search.specs.OutcomeLaws as plain
 use Rattle.search.specs.RunnerUp.{RunnerUpOutcome}

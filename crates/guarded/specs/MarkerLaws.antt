@@ -1,14 +1,13 @@
 -- The all-ones word has only the marker: in every set of words that has it, its information bits are zeros and a last 1.
-use Rattle.std.specs.Prelude.{◌≡◌, refl, List, [], ◌∷◌, ◌++◌, ℕ, zero, suc, ◌+◌, ◌-◌, ◌^◌, ◌≤◌, ◌<◌, length, get_or, take, drop, replicate}
-use Rattle.std.proofs.Common.{ap, ap₂, sym, ◌∙◌, subst, ⊎_elim, arith, suc-ne-zero, length-append, ext_get_or, take-suc, take_all, take_at, length-take-le, get_or-take, pow_pos}
+use Rattle.std.specs.Prelude.{◌≡◌, refl, List, [], ◌∷◌, ◌++◌, ℕ, zero, suc, ◌+◌, ◌-◌, ◌^◌, ◌<◌, length, get_or, take, replicate}
+use Rattle.std.proofs.Common.{ap, ap₂, sym, ◌∙◌, arith, suc-ne-zero, length-append, ext_get_or, take-suc, take_all, take_at, length-take-le, get_or-take, pow_pos}
 use Rattle.std.proofs.Math.Nat.{suc_inj}
 use Rattle.std.proofs.Math.Decide.{ℕ_discrete}
 use Rattle.std.proofs.lemmas.List.{length-replicate, get_or-replicate, get_or_at}
-use Rattle.numbers.specs.Choice.{lt_or_le}
 use Rattle.numbers.specs.Sums.{sum}
-use Rattle.words.specs.Bits.{Bits, xors}
+use Rattle.words.specs.Bits.{Bits}
 use Rattle.words.specs.Word.{transform}
-use Rattle.words.specs.Kinds.{fill, pick, Word, all_ones}
+use Rattle.words.specs.Kinds.{pick, Word, all_ones}
 use Rattle.words.specs.TransformLaws.{length-transform, bits_transform, bits_take}
 use Rattle.words.proofs.FillLaws.{pick-fill}
 use Rattle.words.proofs.HalfLaws.{below-ones}

@@ -1,5 +1,5 @@
 -- What noise a guarded word stands, in any set of words: less than the size of a reading times the least number of places in which two words differ.
-use Rattle.std.specs.Prelude.{◌≡◌, refl, List, ℕ, suc, ◌*◌, ◌^◌, ◌≤◌, ℤ, pos, length, replicate}
+use Rattle.std.specs.Prelude.{◌≡◌, refl, List, ℕ, suc, ◌*◌, ◌^◌, ◌≤◌, pos, length, replicate}
 use Rattle.std.proofs.Common.{ap, sym, ◌∙◌, arith}
 use Rattle.std.proofs.lemmas.List.{length-map, length-replicate}
 use Rattle.numbers.specs.Sums.{sum}

@@ -1,9 +1,8 @@
 -- The theorems on guarded words hold, for every search that meets the demands.
-use Rattle.std.specs.Prelude.{◌≡◌, refl, ◌↔◌, List, [], ◌∷◌, ℕ, suc, ◌+◌, ◌-◌, ◌^◌, ◌≤◌, ◌<◌, ℤ, length, replicate}
-use Rattle.std.proofs.Common.{ap, ap₂, sym, ◌∙◌, subst, ⊎_elim, arith, length-take-le}
+use Rattle.std.specs.Prelude.{◌≡◌, refl, List, [], ◌∷◌, ℕ, suc, ◌+◌, ◌-◌, ◌^◌, ◌≤◌, ◌<◌, ℤ, length, replicate}
+use Rattle.std.proofs.Common.{ap, ap₂, sym, ◌∙◌, subst, arith, length-take-le}
 use Rattle.std.proofs.Math.IntN.{neg_ℤ-neg_ℤ}
 use Rattle.std.proofs.lemmas.List.{length-replicate}
-use Rattle.numbers.specs.Choice.{lt_or_le}
 use Rattle.numbers.specs.Sums.{sum}
 use Rattle.words.specs.Bits.{Bits}
 use Rattle.words.specs.Kinds.{encoded, InformationBits, all_ones}
@@ -12,7 +11,7 @@ use Rattle.words.proofs.InverseLaws.{taken_encoded}
 use Rattle.words.specs.TransformLaws.{bits_more, bits_take}
 use Rattle.decoding.specs.Walk.{needed}
 use Rattle.decoding.specs.Answer.{Answer, found, tied, out_of_visits, answer}
-use Rattle.decoding.specs.Demands.{Demand2, BestFound}
+use Rattle.decoding.specs.Demands.{BestFound}
 use Rattle.decoding.proofs.DemandsMet.{demands}
 use Rattle.code.specs.declared.Refusal.TheVariants.{OutOfVisits}
 use Rattle.search.specs.Outcome as Search
@@ -21,7 +20,7 @@ use Rattle.search.specs.Demands.{Searching, Passes, PlusWord}
 use Rattle.guarded.specs.declared.Fault.TheVariants.{Link, Marker}
 use Rattle.guarded.specs.Guard.{with_marker, guarded_bits, last_bit, message_of}
 use Rattle.guarded.specs.Outcome.{GuardedOutcome, message_shown, no_message, guarded}
-use Rattle.guarded.specs.Theorems.{turned, own_search, reading, Guards, Finds, WrittenRead, ReadWritten, TurnedOver, TurnedMessage, GuardTheorems}
+use Rattle.guarded.specs.Theorems.{turned, own_search, reading, Guards, Finds, ReadWritten, TurnedOver, GuardTheorems}
 use Rattle.guarded.specs.MarkerLaws.{last_split, length_with, marker_with, message_with, some-information}
 use Rattle.guarded.specs.GuardLaws.{guarded-shown, guarded-refused, shown-found, marked_found, passed_on_lem, then_marked, then_shown}
 use Rattle.guarded.specs.NoiseLaws.{noise_corrected}
