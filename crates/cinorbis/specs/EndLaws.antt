@@ -115,7 +115,7 @@ module _ (left : ℕ) (s : Situation) (input output : List ℕ) (a : Along left 
   pub along_bounded : Bounded a.rounds s input output a.passed
   along_bounded = (chain_holds a.rounds s input output a.passed a.chain).bounded
 
-  pub along_round : (t : Situation) (input' output' : List ℕ) → 0 < left → s.going ≡ true → length input' ≡ length input → length output' ≡ length output
+  unfoldable pub along_round : (t : Situation) (input' output' : List ℕ) → 0 < left → s.going ≡ true → length input' ≡ length input → length output' ≡ length output
       → RoundTaken s input output t input' output' → Along (left - 1) t input' output'
   along_round t input' output' h g e f w =
       record {
@@ -127,7 +127,7 @@ module _ (left : ℕ) (s : Situation) (input output : List ℕ) (a : Along left 
         line = omega (arith, a.line);
       }
 
-  pub along_ran : (s.going ≡ false) ⊎ (left ≡ 0) → Ran s input output
+  unfoldable pub along_ran : (s.going ≡ false) ⊎ (left ≡ 0) → Ran s input output
   along_ran e =
       record {
         rounds = a.rounds;

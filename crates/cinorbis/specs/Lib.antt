@@ -3,3 +3,6 @@ pub mod Runs
 pub mod RunsLaws
 pub mod EndLaws
 pub mod UnfailedLaws
+-- The same of a reader and a writer whose bytes are known
+pub mod Streams
+pub mod StreamsLaws

@@ -39,7 +39,7 @@ length-unread : (s : Situation) (input output₁ : List ℕ) → Ready s input o
 length-unread s input output₁ r = length-take-le (s.«end» - s.at) (drop s.at input) (simp length-drop (omega (arith, r.within)))
 
 -- as many as there are
-take_min : (j : ℕ) (l : List ℕ) → take (min j (length l)) l ≡ take j l
+pub take_min : (j : ℕ) (l : List ℕ) → take (min j (length l)) l ≡ take j l
 take_min j l =
     ⊎_elim (λ k. let e : min j (length l) ≡ j = omega arith in rw e)
     (λ k. let e : min j (length l) ≡ length l = omega arith in rw (e, take-length l, take_all j l k))

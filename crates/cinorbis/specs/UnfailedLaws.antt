@@ -1,15 +1,15 @@
 -- A run in which no read and no write failed has not failed: so, once it has ended, it has handed over the output of all bytes.
-use Rattle.std.specs.Prelude.{◌≡◌, refl, List, Bool, true, false, ℕ, zero, suc, ◌-◌, ℤ, pos, negsuc, length}
+use Rattle.std.specs.Prelude.{◌≡◌, refl, List, Bool, true, false, ℕ, zero, suc, ℤ, pos, negsuc}
 use Rattle.std.proofs.Common.{ap, ◌∙◌}
 use Rattle.numbers.specs.Choice.{cond_by}
 use Rattle.rounds.specs.declared.Situation.{Situation}
-use Rattle.program.specs.Program.{Result, answered, refused, result_of, stops, next_start}
+use Rattle.program.specs.Program.{Result, answered, refused, result_of, stops}
 use Rattle.rounds.specs.Situation.{unread, after, after_read, after_write}
 use Rattle.cinorbis.specs.Runs.{RoundTaken, writes, takes, totals, reads, Passed, Chain, start, round, Ran, HandsOver, Came, Went, AllWent}
 use Rattle.cinorbis.specs.RunsLaws.{ran_hands_over}
 
 -- ---- a round keeps it
-failed_after : (s : Situation) (result : Result) (text at : ℕ) → (after s result text at).failed ≡ s.failed
+pub failed_after : (s : Situation) (result : Result) (text at : ℕ) → (after s result text at).failed ≡ s.failed
 failed_after s (answered bits penalty gap visits) text at = refl
 failed_after s (refused why) text at =
     cond_by (λ (t : Situation). t.failed ≡ s.failed) (stops (refused why)) _ _ (λ z. refl) (λ z. refl)
