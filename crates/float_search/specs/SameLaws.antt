@@ -7,9 +7,9 @@ use Rattle.words.specs.Kinds.{kinds, dimension, Word}
 use Rattle.decoding.specs.Readings.{turns, Within}
 use Rattle.search.specs.RunnerUp.{searching_with_runner_up}
 use Rattle.search.specs.Demands.{SoundSearch}
-use Rattle.search.specs.Demand1Met.{search_demand_1}
+use Rattle.search.proofs.Demand1Met.{search_demand_1}
 use Rattle.search.specs.DemandsMet.{larger_allowance, outcome_demands}
-use Rattle.search.specs.RunnerUpMet.{runner_up_demand}
+use Rattle.search.proofs.RunnerUpMet.{runner_up_demand}
 use Rattle.float_numbers.specs.Whole.{RowRepresents, whole_of, wholes}
 use Rattle.float_numbers.proofs.WholeLaws.{represents_small, whole_of-is, neg_represents}
 use Rattle.float_numbers.proofs.WholesLaws.{wholes_represented}

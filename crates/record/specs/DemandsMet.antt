@@ -19,7 +19,7 @@ use Rattle.code.specs.Demand1.{View, refused_as, Checks, passed, check}
 use Rattle.code.specs.Demand1Laws.{Decides, demand_1}
 use Rattle.search.specs.Outcome.{searching}
 use Rattle.search.specs.Demands.{view, walk_checks}
-use Rattle.search.specs.Demand1Met.{search_decides}
+use Rattle.search.proofs.Demand1Met.{search_decides}
 use Rattle.search.specs.DemandsMet.{larger_allowance}
 use Rattle.packing.specs.Layout.{part_length, pad_of}
 use Rattle.record.specs.declared.Header.{Header}

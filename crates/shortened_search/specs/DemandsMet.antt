@@ -24,8 +24,8 @@ use Rattle.search.specs.Outcome.{by_answer}
 use Rattle.search.specs.RunnerUp.{RunnerUpOutcome, runner_up, shown_with, runner_up_outcome_by}
 use Rattle.search.specs.Demands.{view, walk_checks_over, Passes}
 use Rattle.search.specs.DemandsMet.{answered_kept, demands_of}
-use Rattle.search.specs.RunnerUpMet.{runner_up-shown}
-use Rattle.search.specs.Demand1Met.{answer_decides}
+use Rattle.search.proofs.RunnerUpMet.{runner_up-shown}
+use Rattle.search.proofs.Demand1Met.{answer_decides}
 use Rattle.shortened.specs.Outcome.{left_of}
 use Rattle.shortened.specs.WorkLaws.{long_left, are_left}
 use Rattle.shortened.specs.OutcomeLaws.{good_allowed}

@@ -13,7 +13,7 @@ use Rattle.code.specs.Admitted.{admitted_by, admitted}
 use Rattle.code.specs.AdmittedLaws.{allows, refuses, decided, refused_parameters, tested-made}
 use Rattle.named.specs.NamedLaws.{left-all, empty_good, bad_parameters, bad-row, sound_row, row_decided}
 use Rattle.search.specs.RunnerUp.{runner_up_outcome_by, searching_with_runner_up}
-use Rattle.search.specs.RunnerUpLaws.{runner_up-refused, runner_up_answered}
+use Rattle.search.proofs.RunnerUpLaws.{runner_up-refused, runner_up_answered}
 use Rattle.shortened_search.specs.Outcome.{searching_over, searching_shortened}
 use Rattle.shortened_search.specs.OutcomeLaws.{searching-refused, searching-left, over-refused, over_answered}
 

@@ -13,7 +13,7 @@ use Rattle.code.specs.Demand1.{View, refused_as, Checks, passed, check, check_at
 use Rattle.code.specs.Demand1Laws.{Decides, demand_1, decides_entry}
 use Rattle.search.specs.Outcome as Search
 use Rattle.search.specs.Demands.{view, SearchDemand1}
-use Rattle.search.specs.Demand1Met.{search_demand_1}
+use Rattle.search.proofs.Demand1Met.{search_demand_1}
 use Rattle.telegram.specs.declared.Telegram.{Telegram}
 use Rattle.guarded.specs.declared.Fault.TheVariants.{Link, Marker, Tilt, ZeroTilt, Field}
 use Rattle.telegram.specs.declared.Tested.{Tested}

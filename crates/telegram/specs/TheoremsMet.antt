@@ -20,7 +20,7 @@ use Rattle.code.specs.Entries.{first_bad_bit}
 use Rattle.code.specs.EntriesLaws.{good_bits}
 use Rattle.code.specs.Demand1.{NoneApplies}
 use Rattle.search.specs.Outcome as Search
-use Rattle.search.specs.Demand1Met.{search_demand_1}
+use Rattle.search.proofs.Demand1Met.{search_demand_1}
 use Rattle.search.specs.RunnerUp.{RunnerUpOutcome}
 use Rattle.search.specs.DemandsMet.{larger_allowance, outcome_demands}
 use Rattle.telegram.specs.declared.Telegram.{Telegram}

@@ -15,7 +15,7 @@ use Rattle.code.specs.declared.Refusal.TheVariants.{OutOfVisits, Tied}
 use Rattle.search.specs.declared.Searched.TheVariants.{Refused}
 use Rattle.search.specs.Outcome.{Outcome, found_with}
 use Rattle.search.specs.RunnerUp.{RunnerUpOutcome, roomy, runner_up, runner_up_outcome_of, with_none}
-use Rattle.search.specs.RunnerUpLaws.{none_put, runner_up_out, runner_up_tied, runner_up-found}
+use Rattle.search.proofs.RunnerUpLaws.{none_put, runner_up_out, runner_up_tied, runner_up-found}
 use Rattle.search.specs.WorkLaws.{out_answer, ordered, many, runner_up-is, tied_answer, found-answer, walkable, pickable}
 use Rattle.float_numbers.specs.Whole.{float, wholes}
 use Rattle.float_walk.specs.Held.{count, second_of}

@@ -12,7 +12,7 @@ use Rattle.walk.specs.GoingLaws.{may_visit, may_not, not_full, full_step, frozen
 use Rattle.walk.specs.GoingLaws.{value-is, value_going, reached_given, frozen_dropped, reached_more}
 use Rattle.walk.specs.GoingLaws.{deeper_m, deeper_asked, deeper_given, deeper_kept, first_adds}
 use Rattle.walk.specs.GoingLaws.{second_stop, second_going, second-dropped, second-given}
-use Rattle.walk.specs.Depth.{information_call, frozen_call}
+use Rattle.walk.proofs.DepthLaws.{information_call, frozen_call}
 use Rattle.float_numbers.specs.Whole.{whole_of, wholes}
 use Rattle.float_walk.specs.declared.Extension.{Extension}
 use Rattle.float_walk.specs.declared.Extension.TheVariants.{Dropped, Kept}

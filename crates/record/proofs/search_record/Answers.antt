@@ -3,7 +3,7 @@ use mathlib.Core.Path.{◌∙◌, ap, sym}
 use mathlib.Core.List.{[]}
 use Rattle.search.specs.declared.WithRunnerUp.{WithRunnerUp}
 use Rattle.search.specs.RunnerUp.{runner_up_outcome_of}
-use Rattle.search.specs.RunnerUpLaws.{none-shown}
+use Rattle.search.proofs.RunnerUpLaws.{none-shown}
 use Rattle.record.specs.declared.Header.{Header}
 use Rattle.record.specs.Searching.{searching_with_runner_up_by, searching_record}
 use Rattle.record.specs.ReaderLaws.{header_record}

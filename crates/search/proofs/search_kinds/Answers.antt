@@ -10,7 +10,7 @@ use Rattle.code.specs.declared.Refusal.TheVariants.{OutOfVisits, Tied}
 use Rattle.search.specs.declared.Searched.TheVariants.{Refused}
 use Rattle.search.specs.Outcome.{Outcome, found_with}
 use Rattle.search.specs.RunnerUp.{RunnerUpOutcome, roomy, runner_up}
-use Rattle.search.specs.RunnerUpLaws.{none_put, runner_up_out, runner_up_tied, runner_up-found}
+use Rattle.search.proofs.RunnerUpLaws.{none_put, runner_up_out, runner_up_tied, runner_up-found}
 use Rattle.search.specs.WorkLaws.{out_answer, ordered, runner_up-is, tied_answer, found-answer, walkable, pickable}
 use borrow.Author.Rules.{rules}
 use Rattle.search.proofs.search_kinds.Goals as goal

@@ -6,7 +6,7 @@ use Rattle.code.specs.Admitted.{admitted}
 use Rattle.code.specs.AdmittedLaws.{allowed_sound}
 use Rattle.search.specs.declared.WithRunnerUp.{WithRunnerUp}
 use Rattle.search.specs.RunnerUp.{runner_up_outcome_of}
-use Rattle.search.specs.RunnerUpLaws.{runner_up-refused, runner_up_answered}
+use Rattle.search.proofs.RunnerUpLaws.{runner_up-refused, runner_up_answered}
 use Rattle.search.proofs.search_within.Goals as goal
 use Rattle.search.proofs.search_within.Goals.{In-Allowed}
 

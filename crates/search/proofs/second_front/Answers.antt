@@ -9,7 +9,7 @@ use lib.Seq.{length-take-le}
 use Rattle.numbers.specs.Sums.{sum}
 use Rattle.words.specs.Bits.{Bits}
 use Rattle.words.specs.Kinds.{pick}
-use Rattle.search.specs.RunnerUpLaws.{second-shown}
+use Rattle.search.proofs.RunnerUpLaws.{second-shown}
 use borrow.Rule.Slice.PartMut.{post_of}
 use Rattle.search.proofs.second_front.Goals as goal
 use Rattle.search.proofs.second_front.Goals.{Start}

@@ -13,7 +13,7 @@ use Rattle.walk.specs.GoingLaws.{deeper_m, deeper_asked, deeper_given, deeper_ke
 use Rattle.walk.specs.GoingLaws.{second_stop, second_going, second-dropped, second-given}
 use Rattle.walk.specs.FrozenBlockLaws.{zeros_asked, zeros-left, zeros_reached, zeros-low, same_given, same_reached}
 use Rattle.walk.specs.InformationTestLaws.{block-length}
-use Rattle.walk.specs.Depth.{information_call, frozen_call}
+use Rattle.walk.proofs.DepthLaws.{information_call, frozen_call}
 use Rattle.walk.specs.InformationBlockLaws.{hard_m, behind_asked, behind_given, behind_out}
 use Rattle.walk.proofs.+frozen_step_info_step.Goals as goal
 use Rattle.walk.proofs.+frozen_step_info_step.Goals.{frozen_step-then-starts_block+else-block-ne0, frozen_step-else-starts_block}
