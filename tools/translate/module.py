@@ -37,6 +37,8 @@ FORMS = {
     "cast": rf"{RESULT}(?P<how>zext|sext|trunc|trunc nuw|fptoui) (?P<type>{T}) (?P<value>{X}) to (?P<to>{T})",
     "minus": rf"{RESULT}fneg float (?P<value>{X})",
     "count": rf"{RESULT}call (?P<type>i8|i32|i64) @llvm\.(?P<how>ctpop|ctlz|cttz)\.(?P=type)\((?P=type) (?P<value>{X})(?:, i1 false)?\)",
+    "null": rf"{RESULT}icmp eq ptr (?P<value>{V}), null",
+    "fence": rf"{RESULT}call float @llvm\.arithmetic\.fence\.f32\(float (?P<value>{X})\)",
     "jump": rf"br label %(?P<to>[a-z0-9.]+)",
     "branch": rf"br i1 (?P<value>{X}), label %(?P<yes>[a-z0-9.]+), label %(?P<no>[a-z0-9.]+)",
     "switch": rf"switch (?P<type>{T}) (?P<value>{V}), label %(?P<default>[a-z0-9.]+) \[(?P<cases>.*)\]",
@@ -50,7 +52,8 @@ FORMS = {
 FORMS = {name: re.compile(form) for name, form in FORMS.items()}
 # which parts of a form are values; those of a call are its arguments. A pair is an address and a length, made by places.py.
 OPERANDS = {"load": ["at"], "store": ["value", "at"], "step": ["at", "by"], "two": ["left", "right"], "compare": ["left", "right"],
-            "cast": ["value"], "minus": ["value"], "count": ["value"], "branch": ["value"], "switch": ["value"], "return": ["value"],
+            "cast": ["value"], "minus": ["value"], "count": ["value"], "null": ["value"], "fence": ["value"],
+            "branch": ["value"], "switch": ["value"], "return": ["value"],
             "move": ["to", "source"], "fill": ["at", "value"], "pair": ["at", "length"]}
 LAST = ("jump", "branch", "switch", "return", "unreachable")  # the forms that end a block
 # what the intrinsics are called by; a call of another one is of no known form
@@ -155,12 +158,32 @@ def read_function(head, lines):
     return function
 
 
+def take_nulls(function):
+    """An export hands on 4096 for an address from C that is null, which the header forbids: C takes every address as it is. Sums of floats are as they
+    are written where the file compiles at all, and need no fence."""
+    names = {}
+    for block in function.blocks.values():
+        for i, at in [(i, at) for at, i in enumerate(block) if i.form == "null"]:
+            one, much, step = block[at + 1 : at + 4]
+            known = (one.form, much.form, step.form) == ("cast", "two", "step") and (one.how, one.value) == ("zext", i.result)
+            known = known and (much.how, much.left, much.right) == ("mul", one.result, "4096") and (step.at, step.by) == (i.value, much.result)
+            if not known or not function.export or i.value not in [name for _, name in function.args]:
+                stop("an address that is compared", f"{function.origin} {i.value}")
+            names[step.result] = i.value
+            i.gone = one.gone = much.gone = step.gone = True
+        names.update((i.result, i.value) for i in block if i.form == "fence")
+        block[:] = [i for i in block if i.form != "fence" and not getattr(i, "gone", False)]
+    for i in function.instructions():
+        i.rename(names)
+
+
 def read_module(text):
     """All functions that the module defines, in its order."""
     functions, lines = [], iter(text.split("\n"))
     for line in lines:
         if head := DEFINE.fullmatch(line):
             functions.append(read_function(head, lines))
+            take_nulls(functions[-1])
         elif not OUTSIDE.fullmatch(line):
             stop("a line of no known form", line)
     return functions
