@@ -1,0 +1,10 @@
+-- `cinorbis_inverse` reports the outcome of `inverse`.
+use Rattle.answers.specs.ReportedLaws.{reported-encoded}
+use borrow.Author.Rules.{rules}
+use Rattle.pumpbox.proofs.cinorbis_inverse.Goals as goal
+
+pub returns : goal.returns
+returns c =
+    let e = c.inverse-answer in
+    let p = c.put_completed in
+    reported-encoded e.result _ _ p.result p.new.out e.ensures p.ensures.0 p.ensures.1
