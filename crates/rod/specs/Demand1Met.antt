@@ -11,8 +11,8 @@ use Rattle.guarded.specs.declared.Fault.TheVariants.{Link, Marker}
 use Rattle.guarded.specs.Outcome as guard
 use Rattle.guarded.specs.Written.{WriteOutcome}
 use Rattle.guarded.specs.Outcome.{GuardedOutcome}
-use Rattle.guarded.specs.Demand1Met.{guard_meets}
-use Rattle.guarded.specs.Instances.{guards_code}
+use Rattle.guarded.proofs.Demand1Met.{guard_meets}
+use Rattle.guarded.proofs.Instances.{guards_code}
 use Rattle.rod.specs.Outcome.{RodOutcome, no_position, rod_search, rod_message, position_said, reading_rod, writing_rod}
 use Rattle.rod.specs.TheoremsMet.{number-zeros, engine_is, engine_small, engine_bits}
 use Rattle.rod.specs.WorkLaws.{writing-none, writing_above, writing_short, writing_large, writing-done}

@@ -20,9 +20,9 @@ use Rattle.first_order.specs.DemandsMet.{first_order-as_search}
 use Rattle.guarded.specs.declared.Fault.TheVariants.{Link, Marker}
 use Rattle.guarded.specs.Guard.{last_bit, message_of, of_digits}
 use Rattle.guarded.specs.Outcome as guard
-use Rattle.guarded.specs.GuardLaws.{guarded-found, guarded-refused}
-use Rattle.guarded.specs.TheoremsMet.{found_all}
-use Rattle.guarded.specs.Instances.{guards_code}
+use Rattle.guarded.proofs.GuardLaws.{guarded-found, guarded-refused}
+use Rattle.guarded.proofs.TheoremsMet.{found_all}
+use Rattle.guarded.proofs.Instances.{guards_code}
 use Rattle.rod.specs.Outcome.{RodOutcome, position_shown, no_position, rod_search, position_said, reading_rod}
 use Rattle.rod.specs.WorkLaws.{take-zeros}
 use Rattle.rod.specs.TheoremsMet.{number-zeros, engine_is}

@@ -33,9 +33,9 @@ use Rattle.guarded.specs.Outcome as guard
 use Rattle.guarded.specs.Outcome.{GuardedOutcome, guarded}
 use Rattle.guarded.specs.Theorems as general
 use Rattle.guarded.specs.Theorems.{turned, own_search, reading}
-use Rattle.guarded.specs.GuardLaws.{guarded-found, guarded_other, guarded-shown, guarded_marked}
-use Rattle.guarded.specs.TheoremsMet.{found_all, guard_theorems}
-use Rattle.guarded.specs.Instances.{guards_code, apart_code}
+use Rattle.guarded.proofs.GuardLaws.{guarded-found, guarded_other, guarded-shown, guarded_marked}
+use Rattle.guarded.proofs.TheoremsMet.{found_all, guard_theorems}
+use Rattle.guarded.proofs.Instances.{guards_code, apart_code}
 use Rattle.rod.specs.Rod.{rod_bits, rod_word}
 use Rattle.rod.specs.Outcome.{RodOutcome, position_shown, no_position, rod_search, rod_message, position_said, reading_rod}
 use Rattle.rod.specs.Theorems.{Finds, TurnedOver, Theorems}

@@ -2,14 +2,9 @@
 pub mod Telegram
 pub mod Faults
 pub mod Outcome
--- What is stated over them, and that it holds
+-- What is stated over them
 pub mod Theorems
-pub mod TheoremsMet
 pub mod Demand1
-pub mod Demand1Met
 pub mod Examples
 -- Laws
 pub mod TelegramLaws
-pub mod FaultLaws
-pub mod OutcomeLaws
-pub mod OnlyOutcome

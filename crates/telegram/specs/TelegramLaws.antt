@@ -1,9 +1,8 @@
 -- Laws of the telegram's bits: telegrams to 16 bits and back.
-use Rattle.std.specs.Prelude.{◌≡◌, refl, List, [], ◌∷◌, ◌++◌, ℕ, zero, suc, ◌+◌, ◌-◌, ◌*◌, ◌^◌, ◌≤◌, ◌<◌, length, get_or, take, drop}
-use Rattle.std.proofs.Common.{ap, ap₂, sym, ◌∙◌, arith, add-mul, mul-add, mul_assoc, length-drop, drop_of_length-le, drop-cons, take-suc, take_all, take-add, length-take-le}
-use Rattle.std.proofs.Math.Nat.{two-pow-succ}
-use Rattle.words.specs.Bits.{Bits, digit, digits}
-use Rattle.words.specs.BitLaws.{digit-first, digit-second, second_alike, by_halves_lem, length_digits, bits_digits, digits_alike}
+use Rattle.std.specs.Prelude.{◌≡◌, refl, List, [], ◌∷◌, ◌++◌, ℕ, ◌^◌, ◌<◌, length, get_or, take, drop}
+use Rattle.std.proofs.Common.{ap, sym, ◌∙◌, arith, length-drop, take-suc, take_all, take-add, length-take-le}
+use Rattle.words.specs.Bits.{Bits, digits}
+use Rattle.words.specs.BitLaws.{bits_digits}
 use Rattle.words.specs.TransformLaws.{bits_append, bits_more, bits_take, bits_drop}
 use Rattle.telegram.specs.declared.Telegram.{Telegram}
 use Rattle.guarded.specs.Guard.{of_digits}

@@ -1,6 +1,5 @@
 -- `judge`: the tests on what the bits say.
 use mathlib.Core.Path.{◌≡◌, sym, ◌∙◌}
-use borrow.Author.Rules.{rules}
 use Rattle.telegram.specs.declared.Tested.TheVariants.{Good, Bad}
 use Rattle.telegram.specs.Telegram.{telegram_of, marker_of}
 use Rattle.telegram.specs.Faults.{reader_fault}

@@ -5,8 +5,7 @@ use Rattle.code.specs.declared.Refusal.TheVariants.{Entry}
 use Rattle.code.specs.EntriesLaws.{good_bits}
 use Rattle.guarded.specs.declared.Fault.TheVariants.{Link}
 use Rattle.telegram.specs.Outcome.{faulted}
-use Rattle.telegram.specs.OutcomeLaws.{bits_short, bits_entry, bits_judged}
-use borrow.Author.Rules.{rules}
+use Rattle.telegram.proofs.OutcomeLaws.{bits_short, bits_entry, bits_judged}
 use Rattle.telegram.proofs.of_bits.Goals as goal
 
 pub returns-then-bits-ne-BITS : goal.returns-then-bits-ne-BITS

@@ -1,11 +1,10 @@
 -- `put_number`: the bits are the digits up to where the loop is.
-use Prim.Native.Nat.{ℕ, suc, ◌-◌, ◌^◌, ◌%◌, ◌/◌, ◌≤◌}
+use Prim.Native.Nat.{ℕ, suc, ◌-◌, ◌^◌, ◌%◌, ◌/◌}
 use mathlib.Core.Path.{◌≡◌, refl, ap, ap₂, sym, ◌∙◌}
 use mathlib.Core.List.{List}
 use native.Mathlib.Omega.{arith}
 use native.Mathlib.Numerals.{add-one}
 use lib.ListN.{length, get_or, set, length-set, drop_of_length-le}
-use borrow.Author.Rules.{rules}
 use Rattle.numbers.specs.Front.{front, front-suc, front-done}
 use Rattle.words.specs.Bits.{digit, digits}
 use Rattle.words.specs.BitLaws.{length_digits, digits_at}

@@ -1,14 +1,9 @@
 -- `put_number`: the bits are the digits up to where the loop is.
-use Prim.Native.Nat.{ℕ, suc, ◌-◌, ◌^◌, ◌%◌, ◌/◌, ◌≤◌}
-use mathlib.Core.Path.{◌≡◌, refl, ap, ap₂, sym, ◌∙◌}
-use mathlib.Core.List.{List}
-use native.Mathlib.Omega.{arith}
-use native.Mathlib.Numerals.{add-one}
-use lib.ListN.{length, get_or, set, length-set, drop_of_length-le}
-use borrow.Author.Rules.{rules}
-use Rattle.numbers.specs.Front.{front, front-suc, front-done}
-use Rattle.words.specs.Bits.{digit, digits}
-use Rattle.words.specs.BitLaws.{length_digits, digits_at}
+use Prim.Native.Nat.{◌-◌, ◌≤◌}
+use mathlib.Core.Path.{◌≡◌}
+use lib.ListN.{length}
+use Rattle.numbers.specs.Front.{front}
+use Rattle.words.specs.Bits.{digits}
 use Rattle.telegram.proofs.put_number.Given as goal
 
 abbrev pub invariant-loop-i : goal.invariant-loop-i

@@ -4,10 +4,9 @@ use mathlib.Core.List.{List}
 use Prim.Native.Nat.{ℕ}
 use native.Mathlib.Omega.{arith}
 use lib.ListN.{length}
-use borrow.Author.Rules.{rules}
 use Rattle.encode.specs.Outcome as Encode
 use Rattle.telegram.specs.TelegramLaws.{length_bits}
-use Rattle.telegram.specs.OutcomeLaws.{length-first, length-second, bits_put, word-written}
+use Rattle.telegram.proofs.OutcomeLaws.{length-first, length-second, bits_put, word-written}
 use Rattle.telegram.proofs.put_word.Goals as goal
 
 pub slice_bounds-bits-end-2 : goal.slice_bounds-bits-end-2

@@ -1,8 +1,7 @@
 -- `read_within`: what the search found is judged, what it refused is passed on.
 use mathlib.Core.Path.{ap, sym, ◌∙◌}
-use borrow.Author.Rules.{rules}
 use Rattle.search.specs.RunnerUp.{RunnerUpOutcome}
-use Rattle.telegram.specs.OutcomeLaws.{reading-refused, judged_bits, judged-reading}
+use Rattle.telegram.proofs.OutcomeLaws.{reading-refused, judged_bits, judged-reading}
 use Rattle.telegram.proofs.read_within.Goals as goal
 
 pub judge-requires : goal.judge-requires

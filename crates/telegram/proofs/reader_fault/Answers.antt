@@ -1,5 +1,4 @@
 -- `reader_fault`: the marker's test, then those of the tilt.
-use borrow.Author.Rules.{rules}
 use borrow.Author.Tests.{eq-eqb, ne_eqb}
 use Rattle.telegram.proofs.reader_fault.Goals as goal
 

@@ -1,7 +1,6 @@
 -- `telegram_of`: each field is the number of its part of the bits.
 use native.Mathlib.Omega.{arith}
 use lib.ListN.{drop, length-take}
-use borrow.Author.Rules.{rules}
 use Rattle.words.specs.TransformLaws.{bits_take, bits_drop}
 use Rattle.telegram.proofs.telegram_of.Goals as goal
 

@@ -1,10 +1,9 @@
 -- `write`: the length, then the writer's tests.
 use mathlib.Core.Path.{ap, sym, ◌∙◌}
-use borrow.Author.Rules.{rules}
 use Rattle.telegram.specs.declared.Tested.{Tested}
 use Rattle.guarded.specs.Written.{done}
 use Rattle.telegram.specs.Outcome.{written_if}
-use Rattle.telegram.specs.OutcomeLaws.{given, writing_short, writing-tested}
+use Rattle.telegram.proofs.OutcomeLaws.{given, writing_short, writing-tested}
 use Rattle.telegram.proofs.write.Goals as goal
 
 pub returns-then-word-ne-LENGTH : goal.returns-then-word-ne-LENGTH

@@ -1,6 +1,5 @@
 -- `writer_fault`: the tests of the tilt, then that of the other fields.
 use mathlib.Core.Path.{ap, sym, ◌∙◌}
-use borrow.Author.Rules.{rules}
 use Rattle.telegram.specs.declared.Tested.{Tested}
 use Rattle.telegram.specs.Faults.{before, field_fault}
 use Rattle.telegram.proofs.writer_fault.Goals as goal

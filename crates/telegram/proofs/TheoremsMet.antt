@@ -30,17 +30,17 @@ use Rattle.telegram.specs.declared.Tested.TheVariants.{Good, Bad}
 use Rattle.telegram.specs.Telegram.{bits_with, telegram_bits, telegram_of, marker_of}
 use Rattle.telegram.specs.TelegramLaws.{length_bits, bits_bits, marker_bits, telegram_bits_lem, fits_telegram, bits_telegram}
 use Rattle.telegram.specs.Faults.{Writable, writer_fault, reader_fault}
-use Rattle.telegram.specs.FaultLaws.{Own, own_reader, writer_good, good_writer, reader_good, good_reader, writable_fits, read-writable}
+use Rattle.telegram.proofs.FaultLaws.{Own, own_reader, writer_good, good_writer, reader_good, good_reader, writable_fits, read-writable}
 use Rattle.guarded.specs.Faults.{fault_carries}
 use Rattle.guarded.specs.FaultLaws.{fault_above}
 use Rattle.guarded.specs.Written.{WriteOutcome}
 use Rattle.telegram.specs.Outcome.{written_if, ReadOutcome, showing, faulted, shown_if, judged, heard, link_search, reading_telegram}
 use Rattle.telegram.specs.Outcome.{reading_bits}
-use Rattle.telegram.specs.OutcomeLaws.{dimension_25, sum_25, writing-tested, reading-found, reading_other, reading-refused}
-use Rattle.telegram.specs.OutcomeLaws.{Passed, tests, passed, stopped, FoundBest, found_all, found-again, out_of_visits_lem, found_long, found_bits}
-use Rattle.telegram.specs.OutcomeLaws.{bits_short, bits_entry, bits_read}
+use Rattle.telegram.proofs.OutcomeLaws.{dimension_25, sum_25, writing-tested, reading-found, reading_other, reading-refused}
+use Rattle.telegram.proofs.OutcomeLaws.{Passed, tests, passed, stopped, FoundBest, found_all, found-again, out_of_visits_lem, found_long, found_bits}
+use Rattle.telegram.proofs.OutcomeLaws.{bits_short, bits_entry, bits_read}
 use Rattle.telegram.specs.Demand1.{link_checks}
-use Rattle.telegram.specs.Demand1Met.{telegram_read_demand_1, unmarked}
+use Rattle.telegram.proofs.Demand1Met.{telegram_read_demand_1, unmarked}
 use Rattle.telegram.specs.Theorems.{Finds, turned, WriteTheorems, TelegramLargerAllowance, ReadTheorems, TurnedTheorems, NeverShown, TurnedOver}
 use Rattle.telegram.specs.Theorems.{with_numbers, said_after, BitsTheorems, telegrams, ordinal, Counted, Theorems}
 

@@ -12,7 +12,7 @@ use Rattle.search.specs.Demands.{view}
 use Rattle.guarded.specs.declared.Fault.TheVariants.{Link}
 use Rattle.guarded.specs.Guard.{last_bit}
 use Rattle.guarded.specs.Outcome.{GuardedOutcome, no_message, guarded}
-use Rattle.guarded.specs.GuardLaws.{guarded_other, guarded-shown, guarded_marked, shown-found, marked_found, passed_on_lem}
+use Rattle.guarded.proofs.GuardLaws.{guarded_other, guarded-shown, guarded_marked, shown-found, marked_found, passed_on_lem}
 use Rattle.guarded.specs.Demand1.{Meets}
 
 abbrev number : GuardedOutcome → ℕ

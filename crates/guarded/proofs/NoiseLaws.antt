@@ -19,7 +19,7 @@ use Rattle.search.specs.Outcome.{by_answer}
 use Rattle.search.specs.Demands.{Searching}
 use Rattle.guarded.specs.Guard.{guarded_bits}
 use Rattle.guarded.specs.Theorems.{Guards, NoiseCorrected}
-use Rattle.guarded.specs.MarkerLaws.{length_with, some-information}
+use Rattle.guarded.proofs.MarkerLaws.{length_with, some-information}
 
 pub noise_corrected : (s : Searching) → Guards s → NoiseCorrected s
 noise_corrected s g d far room message long are size above allowed l x enough small =

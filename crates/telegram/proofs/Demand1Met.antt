@@ -20,13 +20,13 @@ use Rattle.telegram.specs.declared.Tested.{Tested}
 use Rattle.telegram.specs.declared.Tested.TheVariants.{Good, Bad}
 use Rattle.telegram.specs.Telegram.{telegram_of, marker_of, word_of}
 use Rattle.telegram.specs.Faults.{largest_cylinder, largest_direction, largest_tilt, TiltGood, Writable, writer_fault, reader_fault}
-use Rattle.telegram.specs.FaultLaws.{tilt_high, tilt_level, tilt_good, field_beyond, writer_good, read-writable}
+use Rattle.telegram.proofs.FaultLaws.{tilt_high, tilt_level, tilt_good, field_beyond, writer_good, read-writable}
 use Rattle.guarded.specs.FaultLaws.{number-below}
 use Rattle.guarded.specs.Written.{WriteOutcome, done, refused}
 use Rattle.telegram.specs.Outcome.{written_if, writing_telegram}
 use Rattle.telegram.specs.Outcome.{ReadOutcome, no_telegram, showing, faulted, shown_if, judged, link_search, reading_telegram, reading_bits}
-use Rattle.telegram.specs.OutcomeLaws.{writing_short, writing-tested, reading-found, reading_other, found_all, found_bits}
-use Rattle.telegram.specs.OutcomeLaws.{bits_short, bits_entry, bits_judged}
+use Rattle.telegram.proofs.OutcomeLaws.{writing_short, writing-tested, reading-found, reading_other, found_all, found_bits}
+use Rattle.telegram.proofs.OutcomeLaws.{bits_short, bits_entry, bits_judged}
 use Rattle.telegram.specs.Demand1.{TooTilted, LevelToPort, BeyondField, TelegramWriteDemand1, ReaderMeets, link_checks, TelegramReadDemand1}
 use Rattle.telegram.specs.Demand1.{bits_checks, TelegramBitsDemand1}
 

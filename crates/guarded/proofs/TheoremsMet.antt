@@ -21,9 +21,9 @@ use Rattle.guarded.specs.declared.Fault.TheVariants.{Link, Marker}
 use Rattle.guarded.specs.Guard.{with_marker, guarded_bits, last_bit, message_of}
 use Rattle.guarded.specs.Outcome.{GuardedOutcome, message_shown, no_message, guarded}
 use Rattle.guarded.specs.Theorems.{turned, own_search, reading, Guards, Finds, ReadWritten, TurnedOver, GuardTheorems}
-use Rattle.guarded.specs.MarkerLaws.{last_split, length_with, marker_with, message_with, some-information}
-use Rattle.guarded.specs.GuardLaws.{guarded-shown, guarded-refused, shown-found, marked_found, passed_on_lem, then_marked, then_shown}
-use Rattle.guarded.specs.NoiseLaws.{noise_corrected}
+use Rattle.guarded.proofs.MarkerLaws.{last_split, length_with, marker_with, message_with, some-information}
+use Rattle.guarded.proofs.GuardLaws.{guarded-shown, guarded-refused, shown-found, marked_found, passed_on_lem, then_marked, then_shown}
+use Rattle.guarded.proofs.NoiseLaws.{noise_corrected}
 
 pub turned-twice : (l : List ℤ) → turned (turned l) ≡ l
 turned-twice [] = refl

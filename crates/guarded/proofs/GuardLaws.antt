@@ -12,7 +12,7 @@ use Rattle.search.specs.Demands.{PlusWord}
 use Rattle.guarded.specs.declared.Fault.TheVariants.{Link, Marker}
 use Rattle.guarded.specs.Guard.{last_bit, message_of}
 use Rattle.guarded.specs.Outcome.{GuardedOutcome, message_shown, no_message, message_if, search_refused, guarded}
-use Rattle.guarded.specs.MarkerLaws.{ones_marker}
+use Rattle.guarded.proofs.MarkerLaws.{ones_marker}
 
 abbrev number : GuardedOutcome → ℕ
 number o = o.carry.number

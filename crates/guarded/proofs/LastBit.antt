@@ -9,7 +9,7 @@ use Rattle.words.specs.Kinds.{fill, pick, encoded, InformationBits, Word, all_on
 use Rattle.words.specs.TransformLaws.{length-xors, length-transform}
 use Rattle.words.proofs.FillLaws.{length-fill, pick-fill}
 use Rattle.guarded.specs.Guard.{with_marker, last_bit}
-use Rattle.guarded.specs.MarkerLaws.{marker_with, before, kinds_split}
+use Rattle.guarded.proofs.MarkerLaws.{marker_with, before, kinds_split}
 
 -- the transform leaves the last entry
 last-transform : (m : ℕ) (x : List ℕ) → length x ≡ 2 ^ m → get_or (transform m x) (2 ^ m - 1) 0 ≡ get_or x (2 ^ m - 1) 0
