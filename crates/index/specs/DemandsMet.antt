@@ -10,7 +10,7 @@ use Rattle.record.specs.declared.Header.{Header}
 use Rattle.record.specs.declared.Header.TheVariants as header
 use Rattle.record.specs.Reader.{header_of, outcome_of, part_by}
 use Rattle.record.specs.Demands.{header_view}
-use Rattle.record.specs.DemandsMet.{header_decides, header_none}
+use Rattle.record.proofs.DemandsMet.{header_decides, header_none}
 use Rattle.index.specs.declared.Place.{Place}
 use Rattle.index.specs.declared.Place.TheVariants.{At, Refused}
 use Rattle.index.specs.Steps.{bytes_at, stepped, onward, passed}

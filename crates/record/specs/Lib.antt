@@ -3,7 +3,7 @@ pub mod Reader
 pub mod Writing
 pub mod Searching
 pub mod Demands
--- Laws of the reader; no second outcome; reading what was written; demand 1 is met
+-- Laws of the reader; no second outcome; reading what was written; demand 1 is met by the writer (by the reader: proofs/DemandsMet.antt)
 pub mod ReaderLaws
 pub mod Accepted
 pub mod RunningSums
@@ -12,7 +12,6 @@ pub mod OnlyHeader
 pub mod WritingLaws
 pub mod WrittenRead
 pub mod NoRailWritten
-pub mod DemandsMet
 pub mod WritingDemandMet
 -- Examples
 pub mod Examples

@@ -1,0 +1,2 @@
+-- Demand 1 is met
+pub mod DemandsMet
