@@ -1,5 +1,6 @@
 -- `hard_block`: refused by one of its tests, or all pass.
-use mathlib.Core.Path.{sym, ◌∙◌}
+use mathlib.Core.Path.{◌≡◌, sym, ◌∙◌}
+use Prim.Native.Nat.{◌%◌}
 use native.Mathlib.Omega.{arith}
 use lib.Pow.{pow_pos}
 use borrow.Author.Tests.{not-false}
@@ -43,5 +44,6 @@ returns c =
     let chosen = c in
     let row = chosen in
     let w = row in
-    all_pass w.wide-length.ensures row.if-i-length-ne0.false row.has_row.ensures chosen.if-not-has_row.false-raw
+    let starts : c.args.i % c.wide-length.result ≡ 0 = omega arith in
+    all_pass w.wide-length.ensures starts row.has_row.ensures chosen.if-not-has_row.false-raw
     chosen.all_chosen.ensures c.if-not-all_chosen.false-raw c.put_hard.ensures
