@@ -5,7 +5,7 @@ use Rattle.record.specs.declared.Written.{Written}
 use Rattle.record.specs.Writing.{outcome_of}
 use Rattle.index.specs.declared.Indexed.{Indexed}
 use Rattle.index.specs.Appending.{append_outcome_of, not_appended}
-use Rattle.index.specs.AppendingLaws.{few_records, free_room, append-none, append-stopped, append-wrote}
+use Rattle.index.proofs.AppendingLaws.{few_records, free_room, append-none, append-stopped, append-wrote}
 use Rattle.index.proofs.append.Goals as goal
 
 pub returns-then-full : goal.returns-then-full

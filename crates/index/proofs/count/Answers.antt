@@ -5,8 +5,9 @@ use Prim.Native.Nat.{ℕ}
 use native.Mathlib.Omega.{arith}
 use Rattle.index.specs.declared.Place.TheVariants.{At}
 use Rattle.index.specs.Steps.{stepped}
-use Rattle.index.specs.StepsLaws.{Goes, step_goes}
-use Rattle.index.specs.MakingLaws.{count_on, count-refused, count-end}
+use Rattle.index.specs.StepsLaws.{Goes}
+use Rattle.index.proofs.StepsLaws.{step_goes}
+use Rattle.index.proofs.MakingLaws.{count_on, count-refused, count-end}
 use Rattle.index.proofs.count.Goals as goal
 use Rattle.index.proofs.count.Goals.{In-At}
 

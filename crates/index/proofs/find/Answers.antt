@@ -7,7 +7,7 @@ use lib.ListN.{length}
 use Rattle.numbers.specs.Lent.{lent_from}
 use Rattle.record.specs.Reader.{header_of, part_by}
 use Rattle.index.specs.Finding.{part_at}
-use Rattle.index.specs.FindingLaws.{start_inside}
+use Rattle.index.proofs.FindingLaws.{start_inside}
 use Rattle.index.proofs.find.Goals as goal
 use Rattle.index.proofs.find.Goals.{In-At}
 

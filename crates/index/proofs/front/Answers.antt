@@ -3,7 +3,7 @@ use mathlib.Core.Path.{ap, sym, ◌∙◌}
 use native.Mathlib.Omega.{arith}
 use Rattle.index.specs.declared.Fronted.TheVariants.{Done}
 use Rattle.index.specs.Fronting.{front_outcome_of}
-use Rattle.index.specs.FrontingLaws.{front-part, front_short, front-room, front-done}
+use Rattle.index.proofs.FrontingLaws.{front-part, front_short, front-room, front-done}
 use Rattle.index.proofs.front.Goals as goal
 
 pub returns-then-table-entries_for : goal.returns-then-table-entries_for

@@ -10,7 +10,7 @@ use Rattle.record.specs.Reader.{header_of, part_by, outcome_of}
 use Rattle.record.specs.OnlyHeader.{header_only}
 use Rattle.index.specs.declared.Located.{Located}
 use Rattle.index.specs.Finding.{part_after, located_at}
-use Rattle.index.specs.FindingLaws.{start_inside}
+use Rattle.index.proofs.FindingLaws.{start_inside}
 use Rattle.index.proofs.locate.Goals as goal
 use Rattle.index.proofs.locate.Goals.{In-At}
 

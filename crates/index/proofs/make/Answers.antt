@@ -4,7 +4,7 @@ use native.Mathlib.Omega.{arith}
 use lib.ListN.{length}
 use Rattle.index.specs.declared.Indexed.TheVariants.{Done}
 use Rattle.index.specs.Making.{index_of, outcome_of}
-use Rattle.index.specs.MakingLaws.{counted_whole, make_refused, make_short, make_room, make_done}
+use Rattle.index.proofs.MakingLaws.{counted_whole, make_refused, make_short, make_room, make_done}
 use Rattle.index.proofs.make.Goals as goal
 
 pub returns-then-table-entries_for : goal.returns-then-table-entries_for

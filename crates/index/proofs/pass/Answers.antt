@@ -1,7 +1,7 @@
 -- `index::pass` meets its contract: the remaining steps lead to the same place.
 use mathlib.Core.Path.{refl, sym, ◌∙◌}
 use native.Mathlib.Omega.{arith}
-use Rattle.index.specs.StepsLaws.{passed_on_lem, passed-refused, passed_none}
+use Rattle.index.proofs.StepsLaws.{passed_on_lem, passed-refused, passed_none}
 use Rattle.index.proofs.pass.Goals as goal
 
 pub loop-left-init : goal.loop-left-init

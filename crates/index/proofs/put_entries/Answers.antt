@@ -2,7 +2,7 @@
 use Prim.Native.Nat.{◌+◌}
 use native.Mathlib.Omega.{arith}
 use Rattle.index.specs.StepsLaws.{Goes}
-use Rattle.index.specs.MakingLaws.{enter_first, entry-room, enter_goes, enter_next, enter_done}
+use Rattle.index.proofs.MakingLaws.{enter_first, entry-room, enter_goes, enter_next, enter_done}
 use Rattle.index.proofs.put_entries.Goals as goal
 use Rattle.index.proofs.put_entries.Goals.{After-record_length-at}
 

@@ -1,7 +1,7 @@
 -- `index::start_of` meets its contract: each return is what the tests that led there show.
 use mathlib.Core.Path.{sym, ◌∙◌}
 use native.Mathlib.Omega.{arith}
-use Rattle.index.specs.FindingLaws.{start_none, start_past, start-end, start-found, start-refused}
+use Rattle.index.proofs.FindingLaws.{start_none, start_past, start-end, start-found, start-refused}
 use Rattle.index.proofs.start_of.Goals as goal
 
 pub returns-then-table-w : goal.returns-then-table-w

@@ -3,7 +3,7 @@ use mathlib.Core.Path.{ap, sym, ◌∙◌}
 use Prim.Native.Nat.{ℕ, ◌+◌}
 use native.Mathlib.Omega.{arith}
 use Rattle.index.specs.declared.Place.TheVariants.{At}
-use Rattle.index.specs.StepsLaws.{step_past, step_bad, step_torn, step_next}
+use Rattle.index.proofs.StepsLaws.{step_past, step_bad, step_torn, step_next}
 use Rattle.index.proofs.step.Goals as goal
 
 pub returns-then-capture-at : goal.returns-then-capture-at

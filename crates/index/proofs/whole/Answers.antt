@@ -6,8 +6,9 @@ use native.Mathlib.Omega.{arith}
 use Rattle.index.specs.declared.Place.TheVariants.{At}
 use Rattle.index.specs.Steps.{stepped}
 use Rattle.index.specs.Making.{index_of}
-use Rattle.index.specs.StepsLaws.{Goes, step_goes}
-use Rattle.index.specs.FrontingLaws.{front_on, front-refused, front-end}
+use Rattle.index.specs.StepsLaws.{Goes}
+use Rattle.index.proofs.StepsLaws.{step_goes}
+use Rattle.index.proofs.FrontingLaws.{front_on, front-refused, front-end}
 use Rattle.index.proofs.whole.Goals as goal
 use Rattle.index.proofs.whole.Goals.{In-At}
 

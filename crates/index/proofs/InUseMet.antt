@@ -12,10 +12,10 @@ use Rattle.index.specs.declared.Place.TheVariants.{At, Refused}
 use Rattle.index.specs.Steps.{starts_of}
 use Rattle.index.specs.Finding.{start_in, header_at, part_at, part_in, part_after, part_start_at, part_start, block}
 use Rattle.index.specs.Making.{entries_of, list_of}
-use Rattle.index.specs.MakingLaws.{length_entries}
+use Rattle.index.proofs.MakingLaws.{length_entries}
 use Rattle.index.specs.Own.{Belongs, FoundInUse}
-use Rattle.index.specs.OwnMet.{own-start}
-use Rattle.index.specs.BelongsMet.{take_taken}
+use Rattle.index.proofs.OwnMet.{own-start}
+use Rattle.index.proofs.BelongsMet.{take_taken}
 
 -- an entry of its own is read the same
 same_start : (s own table : List ℕ) (w : ℕ) → take (length own) table ≡ own → w / block < length own → start_in s table w ≡ start_in s own w

@@ -13,9 +13,9 @@ use Rattle.index.specs.declared.Place.TheVariants.{At, Refused}
 use Rattle.index.specs.Steps.{stepped, onward, passed, these, starts_at, starts_of}
 use Rattle.index.specs.Finding.{as_start, start_in, from_beginning, header_at, part_at, part_in, block}
 use Rattle.index.specs.Making.{entries_of, list_of}
-use Rattle.index.specs.StepsLaws.{step_past, passed_on_lem, passed-refused, passed_none, starts_begin, starts_none}
-use Rattle.index.specs.FindingLaws.{start_none, start_by}
-use Rattle.index.specs.MakingLaws.{length_entries, entry_at}
+use Rattle.index.proofs.StepsLaws.{step_past, passed_on_lem, passed-refused, passed_none, starts_begin, starts_none}
+use Rattle.index.proofs.FindingLaws.{start_none, start_by}
+use Rattle.index.proofs.MakingLaws.{length_entries, entry_at}
 use Rattle.index.specs.Own.{Own, FoundAlike, PartOf}
 
 -- ---- stepping over i records and then over j

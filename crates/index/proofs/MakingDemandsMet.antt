@@ -22,12 +22,12 @@ use Rattle.index.specs.declared.Index.{Index}
 use Rattle.index.specs.declared.Place.{Place}
 use Rattle.index.specs.declared.Place.TheVariants.{At, Refused}
 use Rattle.index.specs.Steps.{stepped, onward, passed, Starts, these, refused, and_these, starts_after, starts_from, starts_at, starts_of}
-use Rattle.index.specs.StepsLaws.{step_goes, starts-next, starts-refused}
+use Rattle.index.proofs.StepsLaws.{step_goes, starts-next, starts-refused}
 use Rattle.index.specs.Making.{entries_of, index_of, made_by, making, list_of}
 use Rattle.index.specs.Appending.{largest_count, full, appended_by, appending}
-use Rattle.index.specs.AppendingLaws.{append-refused, append-full, append-done}
+use Rattle.index.proofs.AppendingLaws.{append-refused, append-full, append-done}
 use Rattle.index.specs.Demands.{made_view, MetFrom, make_checks, MakeDemand1, appended_view, NoRoom, entry_checks, append_checks, AppendDemand1}
-use Rattle.index.specs.DemandsMet.{step_why}
+use Rattle.index.proofs.DemandsMet.{step_why}
 
 -- ---- the starts give exactly the refusal that stepping meets
 and-refused : (at : ℕ) (starts : Starts) (why : Refusal) → and_these at starts ≡ refused why → starts ≡ refused why

@@ -10,7 +10,7 @@ use Rattle.index.specs.declared.Place.{Place}
 use Rattle.index.specs.declared.Place.TheVariants.{At, Refused}
 use Rattle.index.specs.Steps.{stepped, onward, passed}
 use Rattle.index.specs.Finding.{as_start, start_in, block}
-use Rattle.index.specs.StepsLaws.{step_goes}
+use Rattle.index.proofs.StepsLaws.{step_goes}
 
 module _ (s table : List ℕ) (w : ℕ) where
   abbrev entry : ℕ

@@ -6,10 +6,10 @@ use Rattle.code.specs.RefusalLaws.{number_above}
 use Rattle.index.specs.declared.Index.{Index}
 use Rattle.index.specs.Steps.{Starts, these, refused, starts_of}
 use Rattle.index.specs.Making.{entries_of, IndexOutcome, made_by, making, list_of}
-use Rattle.index.specs.MakingLaws.{made_whole}
+use Rattle.index.proofs.MakingLaws.{made_whole}
 use Rattle.index.specs.Appending.{appending}
 use Rattle.index.specs.Own.{Belongs}
-use Rattle.index.specs.AppendMet.{append_afresh}
+use Rattle.index.proofs.AppendMet.{append_afresh}
 
 -- ---- what is made of a capture with these starts
 record MadeOf (s : List ℕ) (starts : Starts) (o : IndexOutcome) : Type 0 where

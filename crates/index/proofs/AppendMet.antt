@@ -22,9 +22,11 @@ use Rattle.index.specs.Steps.{bytes_at, stepped, Starts, these, and_these, start
 use Rattle.index.specs.Making.{every, entries_of, index_of, outcome_of, made_by, making, Room, with_entry, list_of}
 use Rattle.index.specs.Appending.{AppendOutcome, full, appended, appending}
 use Rattle.index.specs.Own.{Belongs, MadeAfresh}
-use Rattle.index.specs.StepsLaws.{Goes, step_next, starts-end, starts-next, starts_begin, starts_none}
-use Rattle.index.specs.MakingLaws.{length_entries, made_whole}
-use Rattle.index.specs.AppendingLaws.{Fitting, free_room, append-refused, append-full, append_fits, append-done}
+use Rattle.index.specs.StepsLaws.{Goes}
+use Rattle.index.proofs.StepsLaws.{step_next, starts-end, starts-next, starts_begin, starts_none}
+use Rattle.index.proofs.MakingLaws.{length_entries, made_whole}
+use Rattle.index.specs.AppendingLaws.{Fitting}
+use Rattle.index.proofs.AppendingLaws.{free_room, append-refused, append-full, append_fits, append-done}
 
 -- ---- bytes after a capture of whole records change none of its steps
 module _ (s rest : List ℕ) where
