@@ -1,11 +1,10 @@
 -- Each return is the outcome after the tests.
-use borrow.Author.Rules.{rules}
 use mathlib.Core.Path.{◌≡◌, sym, ◌∙◌}
 use lib.ListN.{length}
 use Rattle.code.specs.declared.Admitted.TheVariants.{Allowed}
 use Rattle.code.specs.Admitted.{admitted}
 use Rattle.code.specs.AdmittedLaws.{allowed_sound}
-use Rattle.early.specs.OutcomeLaws.{answering-refused, answering_sound}
+use Rattle.early.proofs.OutcomeLaws.{answering-refused, answering_sound}
 use Rattle.early.proofs.early_within.Goals as goal
 use Rattle.early.proofs.early_within.Goals.{In-Allowed}
 

@@ -1,9 +1,9 @@
 -- The loop's invariant: the largest size of the part that is read.
-use mathlib.Core.Path.{◌≡◌, refl, ap, ap₂, sym, ◌∙◌}
-use Prim.Native.Nat.{◌-◌, ◌≤◌, max}
+use mathlib.Core.Path.{refl, ap, ap₂, sym, ◌∙◌}
+use Prim.Native.Nat.{max}
 use native.Mathlib.Omega.{arith}
 use lib.IntN.{pos, nat_abs}
-use lib.ListN.{length, get_or, take}
+use lib.ListN.{get_or}
 use lib.Seq.{take_all}
 use mir.Syntax.{w16}
 use mir.Facts.{to_z-of_z}

@@ -1,14 +1,8 @@
 -- The loop's invariant: the largest size of the part that is read.
-use mathlib.Core.Path.{◌≡◌, refl, ap, ap₂, sym, ◌∙◌}
-use Prim.Native.Nat.{◌-◌, ◌≤◌, max}
-use native.Mathlib.Omega.{arith}
-use lib.IntN.{pos, nat_abs}
-use lib.ListN.{length, get_or, take}
-use lib.Seq.{take_all}
-use mir.Syntax.{w16}
-use mir.Facts.{to_z-of_z}
+use mathlib.Core.Path.{◌≡◌}
+use Prim.Native.Nat.{◌-◌, ◌≤◌}
+use lib.ListN.{length, take}
 use Rattle.sure.specs.Sure.{largest}
-use Rattle.early.specs.TestedLaws.{largest-more}
 use Rattle.early.proofs.largest_size.Given as goal
 
 abbrev pub invariant-loop-j : goal.invariant-loop-j

@@ -1,5 +1,4 @@
 -- Each case of a search's answer gives its own.
-use borrow.Author.Rules.{rules}
 use mathlib.Core.Path.{ap, sym}
 use Rattle.early.specs.OutcomeLaws.{penalty_only}
 use Rattle.early.proofs.penalty_only.Goals as goal

@@ -1,5 +1,4 @@
 -- One of the two parts is 0.
-use borrow.Author.Rules.{rules}
 use native.Mathlib.Omega.{arith}
 use mir.Facts.{to_z-of_z}
 use Rattle.numbers.specs.PartsLaws.{parts}

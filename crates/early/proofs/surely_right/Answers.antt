@@ -1,5 +1,4 @@
 -- The test, with numbers that fit in 32 bits.
-use borrow.Author.Rules.{rules}
 use mathlib.Core.Path.{ap, ap₂, ◌∙◌}
 use Prim.Native.Nat.{ℕ, ◌-◌, ◌*◌, ◌^◌}
 use lib.Dec.{ltb}

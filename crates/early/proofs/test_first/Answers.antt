@@ -1,11 +1,10 @@
 -- The quick reading is in the two lent rows; if it passes the test it is copied, otherwise the search answers.
-use borrow.Author.Rules.{rules}
 use mathlib.Core.Path.{ap, sym, ◌∙◌}
 use native.Mathlib.Omega.{arith}
 use Rattle.search.specs.RunnerUp.{RunnerUpOutcome}
 use Rattle.early.specs.declared.Answered.{Answered}
 use Rattle.early.specs.Outcome.{outcome_of}
-use Rattle.early.specs.OutcomeLaws.{at_once, by_search}
+use Rattle.early.proofs.OutcomeLaws.{at_once, by_search}
 use Rattle.early.proofs.test_first.Goals as goal
 
 pub take_reading-penalty-requires : goal.take_reading-penalty-requires

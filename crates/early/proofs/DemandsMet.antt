@@ -25,8 +25,8 @@ use Rattle.search.specs.OutcomeLaws.{searching-refused, searching_answered}
 use Rattle.search.specs.Demands.{SoundSearch, PlusWord, OutcomeDemand3}
 use Rattle.search.specs.DemandsMet.{answered_kept, outcome_demands}
 use Rattle.early.specs.Outcome.{word_only, early_by, answering}
-use Rattle.early.specs.OutcomeLaws.{answering-refused, answering_sound}
-use Rattle.early.specs.WayLaws.{true_or_false, passed_is, failed_is}
+use Rattle.early.proofs.OutcomeLaws.{answering-refused, answering_sound}
+use Rattle.early.proofs.WayLaws.{true_or_false, passed_is, failed_is}
 use Rattle.early.specs.Demands.{EarlyAnswer, EarlyLargerAllowance, EarlyDemand3}
 
 -- ---- outcomes that on success give only the word

@@ -10,7 +10,7 @@ use Rattle.search.specs.Outcome.{found_with, searching}
 use Rattle.search.specs.Demands.{SoundSearch}
 use Rattle.search.specs.DemandsMet.{sound_answered}
 use Rattle.early.specs.Outcome.{word_only, early_by, answering}
-use Rattle.early.specs.OutcomeLaws.{answering_sound}
+use Rattle.early.proofs.OutcomeLaws.{answering_sound}
 
 pub true_or_false : (b : Bool) → (b ≡ true) ⊎ (b ≡ false)
 true_or_false true = inl refl

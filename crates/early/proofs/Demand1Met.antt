@@ -19,8 +19,8 @@ use Rattle.code.specs.Demand1Laws.{Decides, demand_1, decides_readings}
 use Rattle.search.specs.Demands.{SoundSearch, view}
 use Rattle.search.specs.DemandsMet.{sound_answered}
 use Rattle.early.specs.Outcome.{word_only, answering}
-use Rattle.early.specs.OutcomeLaws.{answering-refused}
-use Rattle.early.specs.WayLaws.{true_or_false, passed_is, failed_is}
+use Rattle.early.proofs.OutcomeLaws.{answering-refused}
+use Rattle.early.proofs.WayLaws.{true_or_false, passed_is, failed_is}
 use Rattle.early.specs.Demands.{late_checks, early_checks, EarlyDemand1}
 
 module _ (r m allowed : ℕ) (l : List ℤ) (bits word : List ℕ) where

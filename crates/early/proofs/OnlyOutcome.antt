@@ -5,7 +5,8 @@ use Rattle.search.specs.Outcome.{Outcome}
 use Rattle.search.specs.OnlyOutcome.{search_only}
 use Rattle.early.specs.declared.Answered.{Answered}
 use Rattle.early.specs.Outcome.{as_searched, outcome_of}
-use Rattle.early.specs.OutcomeLaws.{penalty_only, penalty_only-again}
+use Rattle.early.specs.OutcomeLaws.{penalty_only}
+use Rattle.early.proofs.OutcomeLaws.{penalty_only-again}
 
 -- for any promised outcome
 pub early_only : (o : Outcome) (a a' : Answered) (bits word bits' word' : List ℕ) → outcome_of a bits word ≡ o → outcome_of a' bits' word' ≡ o
