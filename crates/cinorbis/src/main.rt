@@ -16,7 +16,8 @@ use std::io::{Read, Write};
 fn flush<W: Write, E: Write>(to: &mut W, errors: &mut E, output: &[u8], s: Situation) -> Situation
     requires { s.text ≤ length output.now }
     ensures flushed { Flushed s result }
-    ensures written { WrittenOn result (text_of s output.now) (W.contents to.old) (W.contents to.new) }
+    ensures written { WrittenOn result (text_of s output.now)
+        (W.contents to.old) (W.contents to.new) }
 {
     let done = to.write_all(rounds::text_of(output, s)).is_ok();
     let t = rounds::after_write(done, s);
@@ -67,7 +68,8 @@ fn round<R: Read, W: Write, E: Write>(
         × (longest ≤ length input.old) × (s.read + s.refused + 1 < 2 ^ 64) }
     ensures taken { RoundTaken s input.old output.old result
         input.new output.new }
-    ensures streamed { Streamed (next_of s input.old (length output.old)) s result output.old input.new
+    ensures streamed { Streamed (next_of s input.old (length output.old)) s result
+        output.old input.new
         (R.remaining from.old) (R.remaining from.new) (W.contents to.old) (W.contents to.new) }
 {
     match rounds::next_round(input, output.len(), s) {
