@@ -17,8 +17,7 @@ pub extern "C" fn cinorbis_index_make(
     table: &mut [usize],
     out: &mut [u64; 2],
 ) -> u32
-    ensures { reported result out.new (table.new ∷ [])
-        ≡ shown_made (making capture.now table.old) }
+    ensures { reported result out.new (table.new ∷ []) ≡ shown_made (making capture.now table.old) }
 {
     let answer = index::make(capture, table);
     put_made(answer, out)
@@ -30,8 +29,7 @@ pub extern "C" fn cinorbis_index_front(
     table: &mut [usize],
     out: &mut [u64; 3],
 ) -> u32
-    ensures { reported result out.new (table.new ∷ [])
-        ≡ shown_front (fronting capture.now table.old) }
+    ensures { reported result out.new (table.new ∷ []) ≡ shown_front (fronting capture.now table.old) }
 {
     let answer = index::front(capture, table);
     put_front(answer, out)
