@@ -10,19 +10,13 @@
 #define REPEATS 20000
 #endif
 
-typedef struct {
-    uint8_t *at;
-    size_t length;
-} part;
-
-void bit_rows_transform(part *word, size_t m);
+void bit_rows_transform(uint8_t *word, size_t length, size_t m);
 
 static uint8_t library_bits[256], plain_bits[256];
 
 static double library_round(void) {
-    part word = {library_bits, sizeof library_bits};
     double start = now();
-    for (int i = 0; i < REPEATS; i++) bit_rows_transform(&word, 8);
+    for (int i = 0; i < REPEATS; i++) bit_rows_transform(library_bits, sizeof library_bits, 8);
     return (now() - start) / REPEATS;
 }
 
@@ -35,8 +29,7 @@ static double plain_round(void) {
 int main(void) {
     double library = 1e300, plain = 1e300;
     for (size_t i = 0; i < 256; i++) library_bits[i] = plain_bits[i] = (uint8_t)(i * 7919 % 31 & 1);
-    part word = {library_bits, sizeof library_bits};
-    bit_rows_transform(&word, 8);
+    bit_rows_transform(library_bits, sizeof library_bits, 8);
     plain_transform(plain_bits, sizeof plain_bits);
     int same = memcmp(library_bits, plain_bits, sizeof plain_bits) == 0;
     for (int i = 0; i < ROUNDS; i++) {
