@@ -92,7 +92,7 @@ fn search_into(
     ensures { Stepped w s.now (result_of s.now)
         out.old at result out.new }
 {
-    let answer = record::search_headed(s, code, ALLOWANCE, bits, word);
+    let answer = record::search_framed(s, code, ALLOWANCE, bits, word);
     // the line says nothing about the runner-up
     let result = answer.result;
     match result {
@@ -119,7 +119,7 @@ fn search(w: u64, s: &[u8], code: Code, out: &mut [u8], at: usize) -> Step
 }
 
 // Puts the line of the record that the bytes begin with.
-pub fn put_line(w: u64, s: &[u8], out: &mut [u8], at: usize) -> Step
+pub fn one(w: u64, s: &[u8], out: &mut [u8], at: usize) -> Step
     requires { (0 < length s.now) × (at + 512 ≤ length out.old) }
     ensures { Stepped w s.now (result_of s.now)
         out.old at result out.new }

@@ -104,13 +104,13 @@ pub fn search_record(s: &[u8], allowed: u32, bits: &mut [u8], word: &mut [u8]) -
         bits.old word.old }
 {
     match read_header(s) {
-        Header::Record(code) => search_headed(s, code, allowed, bits, word),
+        Header::Record(code) => search_framed(s, code, allowed, bits, word),
         Header::Refused(why) => WithRunnerUp::refused(why),
     }
 }
 
 // The same for a record whose header is known: its code is sound, and it is complete.
-pub fn search_headed(
+pub fn search_framed(
     s: &[u8],
     code: Code,
     allowed: u32,

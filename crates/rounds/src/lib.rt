@@ -134,7 +134,7 @@ pub fn take_record(input: &[u8], output: &mut [u8], s: Situation) -> Situation
 {
     let at = s.at;
     let end = s.end;
-    let step = program::put_line(s.read + s.refused, &input[at..end], output, s.text);
+    let step = program::one(s.read + s.refused, &input[at..end], output, s.text);
     count(s, step)
 }
 

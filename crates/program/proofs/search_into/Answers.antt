@@ -8,34 +8,34 @@ use Rattle.program.specs.Program.{Result, answered, result_of}
 use Rattle.program.specs.Step.{Stepped}
 use Rattle.program.specs.StepLaws.{result_in, searched_result, found_bits}
 use Rattle.program.proofs.search_into.Goals as goal
-use Rattle.program.proofs.search_into.Goals.{After-search_headed-answer, In-Found}
+use Rattle.program.proofs.search_into.Goals.{After-search_framed-answer, In-Found}
 
-pub search_headed-answer-requires : goal.search_headed-answer-requires
-search_headed-answer-requires c =
+pub search_framed-answer-requires : goal.search_framed-answer-requires
+search_framed-answer-requires c =
     let f = header_record c.args.s.now c.args.code c.requires.s_value.0 in
     (f.sound, f.whole)
 
 -- what the answer says
-says : (r : After-search_headed-answer) → result_in r.search_headed-answer.result.result r.search_headed-answer.new.bits ≡ result_of r.args.s.now
+says : (r : After-search_framed-answer) → result_in r.search_framed-answer.result.result r.search_framed-answer.new.bits ≡ result_of r.args.s.now
 says r =
     let v = r.requires.s_value in
-    searched_result r.args.s.now r.args.code r.search_headed-answer.new.bits r.search_headed-answer.new.word r.args.bits.now r.args.word.now
-    v.0 v.1 v.2 r.search_headed-answer.result.result (ap (λ (o : RunnerUpOutcome). o.outcome) r.search_headed-answer.ensures)
+    searched_result r.args.s.now r.args.code r.search_framed-answer.new.bits r.search_framed-answer.new.word r.args.bits.now r.args.word.now
+    v.0 v.1 v.2 r.search_framed-answer.result.result (ap (λ (o : RunnerUpOutcome). o.outcome) r.search_framed-answer.ensures)
 
 -- and if it is an answer
-found : (c : In-Found) → answered c.search_headed-answer.new.bits c.in-Found.penalty c.in-Found.gap c.in-Found.visits ≡ result_of c.args.s.now
+found : (c : In-Found) → answered c.search_framed-answer.new.bits c.in-Found.penalty c.in-Found.gap c.in-Found.visits ≡ result_of c.args.s.now
 found c =
     let v = c.requires.s_value in
-    let bits = c.search_headed-answer.new.bits in
+    let bits = c.search_framed-answer.new.bits in
     ap (λ (a : Searched). result_in a bits) (sym c.in-Found.is)
-    ∙ searched_result c.args.s.now c.args.code bits c.search_headed-answer.new.word c.args.bits.now c.args.word.now
-    v.0 v.1 v.2 c.search_headed-answer.result.result (ap (λ (o : RunnerUpOutcome). o.outcome) c.search_headed-answer.ensures)
+    ∙ searched_result c.args.s.now c.args.code bits c.search_framed-answer.new.word c.args.bits.now c.args.word.now
+    v.0 v.1 v.2 c.search_framed-answer.result.result (ap (λ (o : RunnerUpOutcome). o.outcome) c.search_framed-answer.ensures)
 
 pub report-requires : goal.report-requires
 report-requires c =
     let k = (goal.at.report-requires c).In-Found in
     let q = c.requires.s_nonzero in
-    (q.0, found_bits c.args.s.now _ _ _ _ (found k), omega (arith, q.1, c.search_headed-answer.auto.bits), q.2)
+    (q.0, found_bits c.args.s.now _ _ _ _ (found k), omega (arith, q.1, c.search_framed-answer.auto.bits), q.2)
 
 pub returns-in-Found : goal.returns-in-Found
 returns-in-Found c =
@@ -46,8 +46,8 @@ returns-in-Found c =
 
 pub returns-in-Refused : goal.returns-in-Refused
 returns-in-Refused c =
-    let r = (goal.at.returns-in-Refused c).After-search_headed-answer in
+    let r = (goal.at.returns-in-Refused c).After-search_framed-answer in
     let g = c.args in
     let t = c.refuse in
-    let is = ap (λ (a : Searched). result_in a r.search_headed-answer.new.bits) (sym c.in-Refused.is) ∙ says r in
+    let is = ap (λ (a : Searched). result_in a r.search_framed-answer.new.bits) (sym c.in-Refused.is) ∙ says r in
     subst (λ (x : Result). Stepped g.w g.s.now x g.out.now g.at t.result t.new.out) is t.ensures

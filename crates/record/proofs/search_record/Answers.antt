@@ -9,8 +9,8 @@ use Rattle.record.specs.Searching.{searching_with_runner_up_by, searching_record
 use Rattle.record.specs.ReaderLaws.{header_record}
 use Rattle.record.proofs.search_record.Goals as goal
 
-pub search_headed-requires : goal.search_headed-requires
-search_headed-requires c =
+pub search_framed-requires : goal.search_framed-requires
+search_framed-requires c =
     let s = c.args.s.now in
     let f = header_record s _ (sym c.read_header.ensures ∙ c.in-Record.is) in
     (f.sound, f.whole)
@@ -20,7 +20,7 @@ unfolding searching_record
 returns-in-Record c =
     let f = c in
     let g = f.args in
-    c.search_headed.ensures
+    c.search_framed.ensures
     ∙ ap (λ (h : Header). searching_with_runner_up_by h g.allowed g.s.now g.bits.now g.word.now)
     (sym (sym f.read_header.ensures ∙ c.in-Record.is))
 

@@ -9,10 +9,10 @@ use Rattle.rounds.proofs.take_record.Goals as goal
 pub count-requires : goal.count-requires
 count-requires c =
     let g = c in
-    omega (arith, c.put_line-step.ensures.next, record_small (get_or (unread g.args.s g.args.input.now) 0 0))
+    omega (arith, c.one-step.ensures.next, record_small (get_or (unread g.args.s g.args.input.now) 0 0))
 
 pub returns : goal.returns
 returns c =
     let g = c.args in
-    let o = c.put_line-step in
+    let o = c.one-step in
     took g.s g.input.now g.output.now o.result c.count.result o.new.out o.ensures c.count.ensures

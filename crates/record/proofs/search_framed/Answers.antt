@@ -1,4 +1,4 @@
--- `record::search_headed` meets its contract: the front of the array holds the readings.
+-- `record::search_framed` meets its contract: the front of the array holds the readings.
 use mathlib.Core.Path.{◌≡◌, ◌∙◌, ap, sym}
 use mathlib.Core.List.{List}
 use Prim.Native.Nat.{ℕ, ◌+◌, ◌-◌, ◌≤◌}
@@ -13,8 +13,8 @@ use Rattle.search.specs.RunnerUp.{searching_with_runner_up}
 use Rattle.packing.specs.Layout.{unpacked}
 use Rattle.record.specs.Reader.{part_of}
 use Rattle.record.specs.ReaderLaws.{part_taken, length-readings_of}
-use Rattle.record.proofs.search_headed.Goals as goal
-use Rattle.record.proofs.search_headed.Goals.{After-part_length-end}
+use Rattle.record.proofs.search_framed.Goals as goal
+use Rattle.record.proofs.search_framed.Goals.{After-part_length-end}
 
 -- what is lent: the front of the array, and the packed part
 abbrev zeros : List ℤ

@@ -1,11 +1,11 @@
--- `program::put_line` meets its contract: by the header's refusal, or by the search.
+-- `program::one` meets its contract: by the header's refusal, or by the search.
 use mathlib.Core.Path.{◌≡◌, sym, ◌∙◌, subst}
 use Rattle.record.specs.declared.Header.{Header}
 use Rattle.record.specs.Reader.{header_of}
 use Rattle.record.specs.OnlyHeader.{header_only}
 use Rattle.program.specs.Program.{headed, result_of}
 use Rattle.program.specs.Step.{Stepped}
-use Rattle.program.proofs.put_line.Goals as goal
+use Rattle.program.proofs.one.Goals as goal
 
 pub search-requires : goal.search-requires
 search-requires c =
