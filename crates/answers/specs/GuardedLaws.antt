@@ -16,7 +16,8 @@ use Rattle.rod.specs.Outcome as Rod
 use Rattle.answers.specs.Reported.{reported, numbers}
 use Rattle.answers.specs.Guarded.{written_number, shown_written, fields, shown_read, shown_rod}
 
-by_written : (answer : Written) (word : List ℕ) → reported (written_number answer) (numbers 0 0 0 0) (word ∷ []) ≡ shown_written (written_outcome_of answer word)
+by_written : (answer : Written) (word : List ℕ)
+    → reported (written_number answer) (numbers 0 0 0 0) (word ∷ []) ≡ shown_written (written_outcome_of answer word)
 by_written Done word = refl
 by_written (Refused why) word = refl
 

@@ -44,7 +44,8 @@ by_read (read.Done penalty) bits word = refl
 by_read (read.Refused why) bits word = refl
 
 pub reported-read : (answer : Read) (bits word : List ℕ) (o : Quick.Outcome) (returned : ℕ) (out : List ℕ)
-    → Quick.outcome_of answer bits word ≡ o → returned ≡ read_number answer → out ≡ read_numbers answer → reported returned out (bits ∷ word ∷ []) ≡ shown_quick o
+    → Quick.outcome_of answer bits word ≡ o → returned ≡ read_number answer → out ≡ read_numbers answer
+    → reported returned out (bits ∷ word ∷ []) ≡ shown_quick o
 reported-read answer bits word o returned out e f g =
     ap₂ (λ (n : ℕ) (l : List ℕ). reported n l (bits ∷ word ∷ [])) f g ∙ by_read answer bits word ∙ ap shown_quick e
 

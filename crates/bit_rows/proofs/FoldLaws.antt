@@ -1,6 +1,7 @@
 -- The loop of `fold_front`.
 use Rattle.std.specs.Prelude.{◌≡◌, refl, List, ◌++◌, ℕ, ◌+◌, ◌-◌, ◌%◌, ◌≤◌, ◌<◌, length, get_or, set, take, drop}
-use Rattle.std.proofs.Common.{ap, sym, ◌∙◌, append-nil, append_assoc, arith, add-one, length-drop, take-append-drop, drop_of_length-le, get_or-drop, get_or-take, take_all, take-take, drop-drop, length-take-le}
+use Rattle.std.proofs.Common.{ap, sym, ◌∙◌, append-nil, append_assoc, arith, add-one, length-drop, take-append-drop, drop_of_length-le, get_or-drop}
+use Rattle.std.proofs.Common.{get_or-take, take_all, take-take, drop-drop, length-take-le}
 use Rattle.numbers.specs.Front.{front, front-suc, front-after}
 use Rattle.numbers.specs.Halves.{drop-take}
 use Rattle.words.specs.Bits.{xors}

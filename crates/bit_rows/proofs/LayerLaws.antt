@@ -1,7 +1,8 @@
 -- That the layers give the word by halves, and laws of a loop that makes one layer per pass.
 use Rattle.std.specs.Prelude.{◌≡◌, List, [], ◌++◌, take, drop}
 use Rattle.std.proofs.Math.Path.{refl, ap, sym, subst}
-use Rattle.std.proofs.Common.{ap₂, ◌∙◌, append-nil, append_assoc, suc-mul, mul-add, add-mul, add-zero, le_trans, le-mul_of_pos_right, length-drop, length-append, take-append-drop, take_at, drop_at, take-take, drop-drop, length-take-le, pow_pos, pow-add}
+use Rattle.std.proofs.Common.{ap₂, ◌∙◌, append-nil, append_assoc, suc-mul, mul-add, add-mul, add-zero, le_trans, le-mul_of_pos_right, length-drop}
+use Rattle.std.proofs.Common.{length-append, take-append-drop, take_at, drop_at, take-take, drop-drop, length-take-le, pow_pos, pow-add}
 use Prim.Native.Nat.{ℕ, zero, suc, ◌+◌, ◌*◌, ◌-◌, ◌^◌, ◌/◌, ◌≤◌, ◌<◌}
 use native.Mathlib.Omega.{arith}
 use Rattle.std.proofs.Math.Nat.{two-pow-succ}

@@ -1,7 +1,8 @@
 -- Laws of sixteen bits as two numbers: three layers on each at once, the fourth between them. And laws of a loop that puts the words of a list's blocks
 -- into a row of its own.
 use Rattle.std.specs.Prelude.{◌≡◌, refl, List, [], ◌∷◌, ◌++◌, ℕ, zero, suc, ◌+◌, ◌-◌, ◌^◌, ◌/◌, ◌%◌, ◌≤◌, ◌<◌, length, take, drop}
-use Rattle.std.proofs.Common.{ap, ap₂, sym, ◌∙◌, subst, append-nil, append_assoc, zero-le, arith, length-drop, length-append, drop_of_length-le, take_at, drop_at, drop-drop, take_all, length-take-le}
+use Rattle.std.proofs.Common.{ap, ap₂, sym, ◌∙◌, subst, append-nil, append_assoc, zero-le, arith, length-drop, length-append, drop_of_length-le, take_at}
+use Rattle.std.proofs.Common.{drop_at, drop-drop, take_all, length-take-le}
 use Rattle.std.specs.Int.Bits.{bit_xor}
 use Rattle.std.proofs.lemmas.Nat.{xor_shr, xor_mod}
 use borrow.Rule.Slice.PartMut.{mid_of, put_mid}

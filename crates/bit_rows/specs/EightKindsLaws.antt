@@ -1,7 +1,8 @@
 -- That a code's row of kinds is made of such eights, and the loop that fills it by them.
 use Rattle.std.specs.Prelude.{◌≡◌, refl, Bool, true, false, leb, get_or, take, drop}
 use Rattle.std.proofs.Math.Path.{ap, ap₂, subst}
-use Rattle.std.proofs.Common.{sym, ◌∙◌, ⊎_elim, not-suc-le-zero, le_of_suc-le-suc, pow-add, length-drop, drop_of_length-le, take_at, take_all, drop-drop, length-take-le, le-leb}
+use Rattle.std.proofs.Common.{sym, ◌∙◌, ⊎_elim, not-suc-le-zero, le_of_suc-le-suc, pow-add, length-drop, drop_of_length-le, take_at, take_all, drop-drop}
+use Rattle.std.proofs.Common.{length-take-le, le-leb}
 use Rattle.std.proofs.Math.Bool.{cond}
 use mathlib.Core.List.{List, [], ◌∷◌, ◌++◌, append-nil, append_assoc}
 use Prim.Native.Nat.{ℕ, zero, suc, ◌+◌, ◌*◌, ◌-◌, ◌^◌, ◌/◌, ◌%◌, ◌≤◌, ◌<◌, zero-le}

@@ -81,7 +81,8 @@ join : (k x b : ℕ) → x < 2 ^ k → bit_or x (b * 2 ^ k) ≡ x + b * 2 ^ k
 join k x b h = or_shifted_r b k x h ∙ add_comm (b * 2 ^ k) x
 
 pub eight_joined : (a b c d e f g h : ℕ) → a < 256 → b < 256 → c < 256 → d < 256 → e < 256 → f < 256 → g < 256
-    → bit_or (bit_or (bit_or (bit_or (bit_or (bit_or (bit_or a (b * 256)) (c * 65536)) (d * 16777216)) (e * 4294967296)) (f * 1099511627776)) (g * 281474976710656))
+    → bit_or (bit_or (bit_or (bit_or (bit_or (bit_or (bit_or a (b * 256)) (c * 65536)) (d * 16777216)) (e * 4294967296)) (f * 1099511627776))
+    (g * 281474976710656))
     (h * 72057594037927936)
     ≡ a + b * 256 + c * 65536 + d * 16777216 + e * 4294967296 + f * 1099511627776 + g * 281474976710656 + h * 72057594037927936
 eight_joined a b c d e f g h ha hb hc hd he hf hg =

@@ -1,7 +1,8 @@
 -- The loops of `fill`, `some_frozen_one` and `first_frozen_one`: what holds before each pass, and what a pass does.
 use Rattle.std.specs.Prelude.{◌≡◌, refl, Bool, true, false, not, ◌||◌, ◌&&◌, ◌⊎◌, ℕ, zero, suc, ◌+◌, ◌-◌, ◌≤◌, ◌<◌, ltb, eqb, length, get_or, set}
 use Rattle.std.proofs.Math.Path.{ap}
-use Rattle.std.proofs.Common.{sym, ◌∙◌, subst, true≢false, inl, inr, ⊎_elim, zero-le, suc-le-suc, arith, suc-ne-zero, add-one, length-set, drop_of_length-le, lt-ltb, le-ltb, ltb-false}
+use Rattle.std.proofs.Common.{sym, ◌∙◌, subst, true≢false, inl, inr, ⊎_elim, zero-le, suc-le-suc, arith, suc-ne-zero, add-one, length-set, drop_of_length-le}
+use Rattle.std.proofs.Common.{lt-ltb, le-ltb, ltb-false}
 use mathlib.Core.List.{List, [], ◌∷◌}
 use Rattle.std.proofs.Math.Dec.{eqb-suc-zero}
 use Rattle.std.proofs.Math.ListN.{drop}

@@ -1,7 +1,8 @@
 -- Picking by parts: the bits of a part come before the remaining ones, and a loop that picks one part per pass.
 use Rattle.std.specs.Prelude.{◌≡◌, ℕ, zero, suc, ◌+◌, ◌-◌, ◌≤◌, ◌<◌, length, set}
 use Rattle.std.proofs.Math.Path.{refl, ap, sym, subst}
-use Rattle.std.proofs.Common.{ap₂, ◌∙◌, zero-le, not-suc-le-zero, le_of_suc-le-suc, length-drop, length-append, take-append-drop, take_at, drop_at, drop-drop, length-take-le}
+use Rattle.std.proofs.Common.{ap₂, ◌∙◌, zero-le, not-suc-le-zero, le_of_suc-le-suc, length-drop, length-append, take-append-drop, take_at, drop_at, drop-drop}
+use Rattle.std.proofs.Common.{length-take-le}
 use mathlib.Core.List.{List, [], ◌∷◌, ◌++◌, append-nil, append_assoc}
 use native.Mathlib.Omega.{arith}
 use Rattle.std.proofs.Math.Numerals.{add-one}

@@ -1,5 +1,6 @@
 -- Laws of frozen indices taken at once: the loops over kinds and sums, one place more; and what a run of zeros adds, by the block's row.
-use Rattle.std.specs.Prelude.{◌≡◌, refl, Bool, true, false, not, ◌||◌, cond, List, [], ◌∷◌, ◌⊎◌, ℕ, zero, suc, ◌+◌, ◌^◌, ◌≤◌, ◌<◌, min, ℤ, pos, nat_abs, length, get_or, set, take, drop, replicate, eqb, ltb}
+use Rattle.std.specs.Prelude.{◌≡◌, refl, Bool, true, false, not, ◌||◌, cond, List, [], ◌∷◌, ◌⊎◌, ℕ, zero, suc, ◌+◌, ◌^◌, ◌≤◌, ◌<◌, min, ℤ, pos, nat_abs, length}
+use Rattle.std.specs.Prelude.{get_or, set, take, drop, replicate, eqb, ltb}
 use Rattle.std.proofs.Common.{ap, ap₂, sym, ◌∙◌, inl, inr, ⊎_elim, arith, add-one, take-suc, get_or-take, get_or-drop, lt-ltb, ne_eqb, eqb-true}
 use Rattle.std.proofs.lemmas.List.{length-replicate, get_or-replicate}
 use Rattle.std.proofs.Math.Seq.{paste, paste-suc}
@@ -72,7 +73,8 @@ run_frozen ks j =
     (λ e. let early : j < 15 → get_or ks j 0 ≡ 0
     = λ h. sym (get_or-take 15 ks j 0 h) ∙ none_in (take 15 ks) j (eqb-true (sum (take 15 ks)) 0 e) in
     cond_by (λ (n : ℕ). j < n → get_or ks j 0 ≡ 0) (eqb (get_or ks 15 0) 0) 16 15
-    (λ f h. ⊎_elim early (λ (k : 15 ≤ j). let last : j ≡ 15 = omega arith in ap (λ (n : ℕ). get_or ks n 0) last ∙ eqb-true (get_or ks 15 0) 0 f) (lt_or_le j 15))
+    (λ f h. ⊎_elim early (λ (k : 15 ≤ j). let last : j ≡ 15 = omega arith in ap (λ (n : ℕ). get_or ks n 0) last ∙ eqb-true (get_or ks 15 0) 0 f)
+    (lt_or_le j 15))
     (λ f h. early h))
     (λ e h. absurd (omega arith))
 

@@ -1,5 +1,6 @@
 -- The program ends: each round brings it nearer, so that a run has at most three rounds for each byte that came, plus four.
-use Rattle.std.specs.Prelude.{◌≡◌, refl, List, ◌++◌, ◌⊎◌, Bool, true, false, cond, not, ℕ, zero, suc, ◌+◌, ◌-◌, ◌*◌, ◌^◌, ◌≤◌, ◌<◌, min, ℤ, pos, negsuc, ltb, length, take, drop}
+use Rattle.std.specs.Prelude.{◌≡◌, refl, List, ◌++◌, ◌⊎◌, Bool, true, false, cond, not, ℕ, zero, suc, ◌+◌, ◌-◌, ◌*◌, ◌^◌, ◌≤◌, ◌<◌, min, ℤ, pos, negsuc, ltb}
+use Rattle.std.specs.Prelude.{length, take, drop}
 use Rattle.std.proofs.Common.{ap, sym, ◌∙◌, subst, inl, inr, ⊎_elim, arith, length-append, length-drop, length-take, ltb-true}
 use Rattle.numbers.specs.Choice.{cond_by}
 use Rattle.rounds.specs.declared.Situation.{Situation}
@@ -115,7 +116,8 @@ module _ (left : ℕ) (s : Situation) (input output : List ℕ) (a : Along left 
   pub along_bounded : Bounded a.rounds s input output a.passed
   along_bounded = (chain_holds a.rounds s input output a.passed a.chain).bounded
 
-  unfoldable pub along_round : (t : Situation) (input' output' : List ℕ) → 0 < left → s.going ≡ true → length input' ≡ length input → length output' ≡ length output
+  unfoldable pub along_round : (t : Situation) (input' output' : List ℕ) → 0 < left → s.going ≡ true → length input' ≡ length input
+      → length output' ≡ length output
       → RoundTaken s input output t input' output' → Along (left - 1) t input' output'
   along_round t input' output' h g e f w =
       record {

@@ -1,6 +1,8 @@
 -- The theorem of the program: whatever pieces the bytes arrive in, what it hands over is the output of all of them.
-use Rattle.std.specs.Prelude.{◌≡◌, refl, List, [], ◌++◌, Bool, true, false, cond, ℕ, zero, suc, ◌+◌, ◌-◌, ◌≤◌, ◌<◌, min, ℤ, pos, negsuc, length, get_or, take, drop}
-use Rattle.std.proofs.Common.{ap, sym, ◌∙◌, subst, append_assoc, append-nil, ⊎_elim, arith, add-one, length-append, length-drop, length-take-le, take_at, take-add, take_all, drop-drop, get_or-take, get_or-drop}
+use Rattle.std.specs.Prelude.{◌≡◌, refl, List, [], ◌++◌, Bool, true, false, cond, ℕ, zero, suc, ◌+◌, ◌-◌, ◌≤◌, ◌<◌, min, ℤ, pos, negsuc, length, get_or, take}
+use Rattle.std.specs.Prelude.{drop}
+use Rattle.std.proofs.Common.{ap, sym, ◌∙◌, subst, append_assoc, append-nil, ⊎_elim, arith, add-one, length-append, length-drop, length-take-le, take_at}
+use Rattle.std.proofs.Common.{take-add, take_all, drop-drop, get_or-take, get_or-drop}
 use Rattle.std.proofs.Math.Nat.{sub-zero}
 use Rattle.std.proofs.Math.Seq.{take-length}
 use Rattle.std.proofs.lemmas.Bool.{not-false}

@@ -1,5 +1,6 @@
 -- Laws of a run's streams: what one read and one write do to them, and that a chain of rounds keeps count.
-use Rattle.std.specs.Prelude.{◌≡◌, refl, ⊤, List, [], ◌++◌, Bool, true, false, ℕ, zero, suc, ◌+◌, ◌-◌, ◌^◌, ◌⊎◌, ◌≤◌, ◌<◌, min, ℤ, pos, negsuc, length, take, drop, Option, None, Some, Result, Ok, Err, IfSome, OnOk, is_ok}
+use Rattle.std.specs.Prelude.{◌≡◌, refl, ⊤, List, [], ◌++◌, Bool, true, false, ℕ, zero, suc, ◌+◌, ◌-◌, ◌^◌, ◌⊎◌, ◌≤◌, ◌<◌, min, ℤ, pos, negsuc, length, take}
+use Rattle.std.specs.Prelude.{drop, Option, None, Some, Result, Ok, Err, IfSome, OnOk, is_ok}
 use Rattle.std.proofs.Common.{ap, sym, ◌∙◌, subst, arith, length-drop, length-take-le, append-nil}
 use Rattle.std.proofs.Math.Seq.{drop-append_seam}
 use Rattle.std.specs.Io.{ReadsAtMost}
@@ -48,7 +49,8 @@ pub read_on : {E : Type 0} (r : Result ℕ E) (s : Situation) (t : Situation) (m
     → ReadOn s t (put_mid (s.«end» - s.at) (length m - (s.«end» - s.at)) m buf) left left'
 read_on r s t m buf n left left' h most long some k is e =
     let fresh : drop (s.«end» - s.at) (put_mid (s.«end» - s.at) (length m - (s.«end» - s.at)) m buf) ≡ buf =
-    ap (drop (s.«end» - s.at)) (back_from (s.«end» - s.at) m buf) ∙ drop_front (take (s.«end» - s.at) m) buf (s.«end» - s.at) (length-take-le (s.«end» - s.at) m k) in
+    ap (drop (s.«end» - s.at)) (back_from (s.«end» - s.at) m buf)
+    ∙ drop_front (take (s.«end» - s.at) m) buf (s.«end» - s.at) (length-take-le (s.«end» - s.at) m k) in
     rw (fresh, is, ← long) (read_bytes r s buf left left' h most (omega (arith, some, long)) (rw (is, ← long) at e))
   where
     drop_front : (x y : List ℕ) (k : ℕ) → length x ≡ k → drop k (x ++ y) ≡ y
@@ -134,7 +136,8 @@ streaming_start input output₁ s left held e space line =
       known = λ f. record { came = Consumes-nil left; over = λ z. absurd (clash (sym z)); handed = Appends-nil held };
     })
 
-module _ (n : ℕ) (s : Situation) (input output₁ : List ℕ) (left₀ left held₀ held : Option (List ℕ)) (a : Streaming n s input output₁ left₀ left held₀ held) where
+module _ (n : ℕ) (s : Situation) (input output₁ : List ℕ) (left₀ left held₀ held : Option (List ℕ))
+    (a : Streaming n s input output₁ left₀ left held₀ held) where
   pub streaming_round : (t : Situation) (input' output' : List ℕ) (left' held' : Option (List ℕ)) → 0 < n → s.going ≡ true
       → length input' ≡ length input → length output' ≡ length output₁ → RoundTaken s input output₁ t input' output'
       → Streamed (next_of s input (length output₁)) s t output₁ input' left left' held held'
@@ -154,7 +157,8 @@ module _ (n : ℕ) (s : Situation) (input output₁ : List ℕ) (left₀ left he
       let x : Ran s input output₁ = along_ran n s input output₁ a.along r in
       whole left₀ left a.along.passed (ran_hands_over s input output₁ x g f) (a.known f)
     where
-      whole : (left₀ left : Option (List ℕ)) (p : Passed) → HandsOver p → Known s p left₀ left held₀ held → IfSome left₀ (λ bytes. Appends held₀ held (output bytes))
+      whole : (left₀ left : Option (List ℕ)) (p : Passed) → HandsOver p → Known s p left₀ left held₀ held
+          → IfSome left₀ (λ bytes. Appends held₀ held (output bytes))
       whole None left p h k = tt
       whole (Some xs) None p h k = absurd k.came
       whole (Some xs) (Some ys) p h k =

@@ -30,7 +30,8 @@ module _ (c : Code) (expected : ℕ) (l : List ℤ) (k n : ℕ) where
       refused-word f = rw (eq-eqb (length l) (2 ^ c.m) long, eq-eqb k expected bits, ne_eqb n (2 ^ c.m) f)
 
       module _ (word : n ≡ 2 ^ c.m) where
-        pub refused-entry : first_bad_reading largest_reading l < length l → Refused (Entry (first_bad_reading largest_reading l)) ≡ admitted_by c expected l k n
+        pub refused-entry : first_bad_reading largest_reading l < length l
+            → Refused (Entry (first_bad_reading largest_reading l)) ≡ admitted_by c expected l k n
         refused-entry h =
             let place = first_bad_reading largest_reading l in
             rw (eq-eqb (length l) (2 ^ c.m) long, eq-eqb k expected bits, eq-eqb n (2 ^ c.m) word, lt-ltb place (length l) h)

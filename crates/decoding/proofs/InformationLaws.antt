@@ -3,7 +3,8 @@
 -- visits for each index, and these can be counted before the rest.
 use Rattle.std.specs.Prelude.{◌≡◌, false, cond, ℤ, pos, negsuc, nat_abs, ltb, get_or, take, drop}
 use Rattle.std.proofs.Math.Path.{refl, ap, subst}
-use Rattle.std.proofs.Common.{ap₂, sym, ◌∙◌, ⊎_elim, arith, suc-ne-zero, le_of_lt, length-append, take-append-drop, length-take-le, take_at, drop_at, take_all, take-take, get_or-take, drop-cons, pow_pos, lt-ltb, le-ltb, le-leb, leb-true, ltb-true, ltb-false}
+use Rattle.std.proofs.Common.{ap₂, sym, ◌∙◌, ⊎_elim, arith, suc-ne-zero, le_of_lt, length-append, take-append-drop, length-take-le, take_at, drop_at, take_all}
+use Rattle.std.proofs.Common.{take-take, get_or-take, drop-cons, pow_pos, lt-ltb, le-ltb, le-leb, leb-true, ltb-true, ltb-false}
 use Rattle.std.proofs.Math.Bool.{true}
 use Rattle.std.proofs.lemmas.Bool.{false≢true}
 use mathlib.Core.List.{List, [], ◌∷◌, ◌++◌, append-nil, map, map-append}

@@ -1,7 +1,8 @@
 -- Laws of values and of a path's penalty: a full path's penalty is its word's; a path's penalty is the least of all rows that begin with it.
 use Rattle.std.specs.Prelude.{◌≡◌, length, take, drop, ℤ, pos, negsuc, nat_abs, ltb}
 use Rattle.std.proofs.Math.Path.{refl, ap}
-use Rattle.std.proofs.Common.{ap₂, sym, ◌∙◌, ⊎_elim, le_of_lt, le_trans, le-add_right, add-zero, zero-add, add_assoc, length-append, length-drop, take-append-drop, drop_of_length-le, length-take-le, take_all, lt-ltb, le-ltb}
+use Rattle.std.proofs.Common.{ap₂, sym, ◌∙◌, ⊎_elim, le_of_lt, le_trans, le-add_right, add-zero, zero-add, add_assoc, length-append, length-drop}
+use Rattle.std.proofs.Common.{take-append-drop, drop_of_length-le, length-take-le, take_all, lt-ltb, le-ltb}
 use mathlib.Core.List.{List, [], ◌∷◌, ◌++◌, append-nil, append_assoc}
 use Prim.Native.Nat.{ℕ, zero, suc, ◌+◌, ◌-◌, ◌^◌, ◌≤◌, ◌<◌}
 use native.Mathlib.Omega.{arith}

@@ -1,7 +1,8 @@
 -- Laws of the quick reading, for any row of kinds: its word is a word of the code, its bits encode to it, and its penalty is at least the least.
 use Rattle.std.specs.Prelude.{◌≡◌, refl, List, ◌++◌, ℕ, zero, suc, ◌+◌, ◌-◌, ◌^◌, ◌≤◌, ◌<◌, length, get_or, take, drop, ℤ, pos}
 use Rattle.std.proofs.Math.Path.{ap}
-use Rattle.std.proofs.Common.{ap₂, sym, ◌∙◌, subst, ⊎_elim, arith, length-append, take_at, drop_at, get_or-take, get_or-drop, get_or-append-add, length-take-le, lt-ltb, le-ltb}
+use Rattle.std.proofs.Common.{ap₂, sym, ◌∙◌, subst, ⊎_elim, arith, length-append, take_at, drop_at, get_or-take, get_or-drop, get_or-append-add, length-take-le}
+use Rattle.std.proofs.Common.{lt-ltb, le-ltb}
 use Rattle.std.proofs.Math.Nat.{two-pow-succ}
 use Rattle.std.proofs.Math.ListN.{get_or-append}
 use Rattle.std.proofs.lemmas.List.{take-append-le}

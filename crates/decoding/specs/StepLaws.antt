@@ -1,6 +1,7 @@
 -- Laws of the two combining steps and of the rows they make: sizes, signs, lengths, entries, penalties.
 -- The sum of sizes never grows by a step, so one bound serves all rows.
-use Rattle.std.specs.Prelude.{◌≡◌, refl, List, [], ◌∷◌, ◌++◌, ℕ, zero, suc, ◌+◌, ◌*◌, ◌^◌, ◌%◌, ◌≤◌, ◌<◌, min, length, get_or, take, drop, ℤ, pos, negsuc, nat_abs, ◌+ℤ◌, ◌-ℤ◌, neg_ℤ}
+use Rattle.std.specs.Prelude.{◌≡◌, refl, List, [], ◌∷◌, ◌++◌, ℕ, zero, suc, ◌+◌, ◌*◌, ◌^◌, ◌%◌, ◌≤◌, ◌<◌, min, length, get_or, take, drop, ℤ, pos, negsuc}
+use Rattle.std.specs.Prelude.{nat_abs, ◌+ℤ◌, ◌-ℤ◌, neg_ℤ}
 use Rattle.std.proofs.Common.{ap, ap₂, sym, ◌∙◌, zero-le, arith, suc-ne-zero, not-suc-le-zero, le_of_suc-le-suc, take-append-drop, get_or-take, get_or-drop}
 use Rattle.std.proofs.Math.Nat.{suc_inj, min_comm, zero-min, two-pow-succ}
 use Rattle.std.proofs.Math.IntN.{neg_ℤ-neg_ℤ}
@@ -105,7 +106,8 @@ module _ (m : ℕ) (l : List ℤ) (e : length l ≡ 2 ^ suc m) where
   long_upper_row a f = length-upper_row (2 ^ m) l (e ∙ two-pow-succ m) a f
 
 -- ---- entries
-pub get_or-lowers : (k l : List ℤ) (i : ℕ) → length k ≡ length l → i < length k → get_or (lowers k l) i (pos 0) ≡ lower (get_or k i (pos 0)) (get_or l i (pos 0))
+pub get_or-lowers : (k l : List ℤ) (i : ℕ) → length k ≡ length l → i < length k
+    → get_or (lowers k l) i (pos 0) ≡ lower (get_or k i (pos 0)) (get_or l i (pos 0))
 get_or-lowers [] l i e h = absurd (not-suc-le-zero h)
 get_or-lowers (x ∷ k) [] i e h = absurd (suc-ne-zero (length k) e)
 get_or-lowers (x ∷ k) (y ∷ l) zero e h = refl

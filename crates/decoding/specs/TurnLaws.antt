@@ -1,7 +1,8 @@
 -- Readings negated where a word has 1: each keeps its size, and the rows and values of the steps change sign with the row u that the word comes from.
 use Rattle.std.specs.Prelude.{◌≡◌, refl, ℕ, zero, suc, ◌+◌, ◌^◌, ◌%◌, ◌≤◌, ◌<◌, length, get_or, take, drop, ℤ, nat_abs, ◌+ℤ◌, ◌-ℤ◌, neg_ℤ}
 use Rattle.std.proofs.Math.Path.{ap, sym}
-use Rattle.std.proofs.Common.{ap₂, ◌∙◌, ⊎_elim, arith, suc-ne-zero, not-suc-le-zero, le_of_suc-le-suc, le_of_lt, length-drop, length-take-le, take_at, drop_at, take-take, get_or-take, get_or-drop, lt-ltb, le-ltb}
+use Rattle.std.proofs.Common.{ap₂, ◌∙◌, ⊎_elim, arith, suc-ne-zero, not-suc-le-zero, le_of_suc-le-suc, le_of_lt, length-drop, length-take-le, take_at, drop_at}
+use Rattle.std.proofs.Common.{take-take, get_or-take, get_or-drop, lt-ltb, le-ltb}
 use mathlib.Core.List.{List, [], ◌∷◌, ◌++◌}
 use Rattle.std.proofs.Math.Nat.{suc_inj, two-pow-succ}
 use Rattle.std.proofs.Math.IntN.{neg_ℤ-neg_ℤ, neg_ℤ-+ℤ}

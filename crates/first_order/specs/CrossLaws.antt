@@ -1,6 +1,7 @@
 -- The loop of `cross`, and the transform by halves that are lent one after the other.
 use Rattle.std.specs.Prelude.{◌≡◌, refl, List, ◌++◌, ℕ, zero, suc, ◌+◌, ◌-◌, ◌^◌, ◌≤◌, ◌<◌, ℤ, pos, nat_abs, ◌+ℤ◌, ◌-ℤ◌, length, get_or, set, take, drop}
-use Rattle.std.proofs.Common.{ap, ap₂, sym, ◌∙◌, arith, add-one, length-drop, length-append, take-append-drop, drop_of_length-le, take_at, drop_at, length-take-le, get_or-take, get_or-drop}
+use Rattle.std.proofs.Common.{ap, ap₂, sym, ◌∙◌, arith, add-one, length-drop, length-append, take-append-drop, drop_of_length-le, take_at, drop_at}
+use Rattle.std.proofs.Common.{length-take-le, get_or-take, get_or-drop}
 use Rattle.std.proofs.lemmas.List.{set-append_left, take-set-le, drop-set-add}
 use borrow.Rule.Slice.PartMut.{mid_of, put_mid}
 use Rattle.numbers.specs.Lent.{lent_to, back_to, lent_from, back_from}

@@ -1,6 +1,7 @@
 -- The loops that write the word and its information bits, by the place and the sign, and the one that adds up the sizes.
 use Rattle.std.specs.Prelude.{◌≡◌, List, [], ◌∷◌, ◌++◌, map, ℕ, zero, suc, ◌+◌, ◌-◌, ◌^◌, ◌%◌, ◌≤◌, ◌<◌, ℤ, pos, nat_abs, length, get_or, set, take, drop}
-use Rattle.std.proofs.Common.{ap, ap₂, sym, ◌∙◌, ⊎_elim, append_assoc, arith, add-one, length-drop, length-append, take-append-drop, pow_mono, take_at, take_all, drop-drop, length-take-le}
+use Rattle.std.proofs.Common.{ap, ap₂, sym, ◌∙◌, ⊎_elim, append_assoc, arith, add-one, length-drop, length-append, take-append-drop, pow_mono, take_at}
+use Rattle.std.proofs.Common.{take_all, drop-drop, length-take-le}
 use Rattle.std.proofs.Math.Nat.{two-pow-succ}
 use Rattle.std.specs.Int.Count as Count
 use Rattle.std.proofs.lemmas.List.{length-map}

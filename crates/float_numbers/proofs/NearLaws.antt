@@ -1,7 +1,9 @@
 -- A test for whole numbers in float arithmetic: between 2 ^ 23 and 2 ^ 24 every float is whole, so that adding 2 ^ 23 + 2 ^ 22 and subtracting
 -- it again gives a whole number; it is the float itself exactly if that is whole.
 use Rattle.std.specs.Prelude.{◌≡◌, refl, Bool, ℤ, pos, negsuc, neg_ℤ, nat_abs, ◌+ℤ◌, ◌-ℤ◌, leb, Float}
-use Rattle.std.proofs.Common.{ap, sym, ◌∙◌, subst, true≢false, ⊎_elim, le_trans, lt_irrefl, lt_of_lt_of_le, lt_of_le_of_lt, le_antisymm, mul_right_comm, mul-one, mul-le-mul_right, mul-lt-mul_of_pos_right, le-div_iff_mul-le, div-lt_iff_lt-mul, arith, pow_pos, pow_mono, lt-ltb, le-leb, ltb-false}
+use Rattle.std.proofs.Common.{ap, sym, ◌∙◌, subst, true≢false, ⊎_elim, le_trans, lt_irrefl, lt_of_lt_of_le, lt_of_le_of_lt, le_antisymm, mul_right_comm}
+use Rattle.std.proofs.Common.{mul-one, mul-le-mul_right, mul-lt-mul_of_pos_right, le-div_iff_mul-le, div-lt_iff_lt-mul, arith, pow_pos, pow_mono, lt-ltb}
+use Rattle.std.proofs.Common.{le-leb, ltb-false}
 use Rattle.std.proofs.Math.Bool.{true, false}
 use Prim.Native.Nat.{ℕ, ◌+◌, ◌-◌, ◌*◌, ◌/◌, ◌%◌, ◌^◌, ◌≤◌, ◌<◌, compare}
 use Rattle.std.proofs.Math.Nat.{eq_of_mul-eq-mul_right, div-div-eq-div-mul}

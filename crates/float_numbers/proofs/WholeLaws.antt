@@ -1,6 +1,9 @@
 -- Laws of floats that are whole numbers: each step on them is exact while the results stay below 2 ^ 24.
-use Rattle.std.specs.Prelude.{◌≡◌, refl, Bool, not, cond, ◌&&◌, ◌||◌, ℕ, zero, suc, ◌+◌, ◌-◌, ◌*◌, ◌/◌, ◌%◌, ◌^◌, ◌≤◌, ◌<◌, ℤ, pos, negsuc, neg_ℤ, nat_abs, ◌+ℤ◌, ltb, leb, eqb, Float}
-use Rattle.std.proofs.Common.{ap, ap₂, sym, ◌∙◌, ⊎_elim, mul-pos, mul_comm, mul_assoc, mul_right_comm, mul-one, add-mul, mul-div_cancel, mul-lt-mul_of_pos_right, mul-le-mul_right, div-add-mod', add-zero, zero-add, zero-mul, zero-lt-suc, arith, lt-ltb, le-ltb, le-leb, eq-eqb, ne_eqb, eqb-true}
+use Rattle.std.specs.Prelude.{◌≡◌, refl, Bool, not, cond, ◌&&◌, ◌||◌, ℕ, zero, suc, ◌+◌, ◌-◌, ◌*◌, ◌/◌, ◌%◌, ◌^◌, ◌≤◌, ◌<◌, ℤ, pos, negsuc, neg_ℤ, nat_abs}
+use Rattle.std.specs.Prelude.{◌+ℤ◌, ltb, leb, eqb, Float}
+use Rattle.std.proofs.Common.{ap, ap₂, sym, ◌∙◌, ⊎_elim, mul-pos, mul_comm, mul_assoc, mul_right_comm, mul-one, add-mul, mul-div_cancel}
+use Rattle.std.proofs.Common.{mul-lt-mul_of_pos_right, mul-le-mul_right, div-add-mod', add-zero, zero-add, zero-mul, zero-lt-suc, arith, lt-ltb, le-ltb, le-leb}
+use Rattle.std.proofs.Common.{eq-eqb, ne_eqb, eqb-true}
 use Rattle.std.proofs.Math.Bool.{true, false}
 use Rattle.std.specs.Bool.{beq}
 use Rattle.std.proofs.lemmas.Bool.{false≢true, lt-leb}

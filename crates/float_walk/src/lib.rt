@@ -4,7 +4,8 @@
 // places 0 to 2 are not used here.
 #![tactic(auto)]
 
-ghost use Rattle.std.specs.Prelude.{◌≡◌, List, ℕ, ◌+◌, ◌^◌, ◌≤◌, ◌<◌, nat_abs, get_or, take, replicate};
+ghost use Rattle.std.specs.Prelude.{◌≡◌, List, ℕ, ◌+◌, ◌^◌, ◌≤◌, ◌<◌, nat_abs, get_or, take};
+ghost use Rattle.std.specs.Prelude.{replicate};
 ghost use Rattle.decoding.specs.Readings.{loss, sum_limit};
 ghost use Rattle.decoding.specs.Quick.{hard};
 ghost use Rattle.walk.specs.Progress.{seen, Finished, ValueAsked, ValueGiven, Walkable, Walked};

@@ -89,7 +89,8 @@ module _ (r m allowed : ℕ) (named : List ℕ) (l : List ℤ) (bits word : List
   abbrev number : RunnerUpOutcome → ℕ
   number w = w.outcome.number
 
-  refused_by : (why : Refusal) → number_of why < 13 → (number_of why ≡ 6 → ⊥) → refused_with_none why bits word ≡ searching_shortened r m allowed named l bits word
+  refused_by : (why : Refusal) → number_of why < 13 → (number_of why ≡ 6 → ⊥)
+      → refused_with_none why bits word ≡ searching_shortened r m allowed named l bits word
       → Tested (Passes (smaller_set r m named) l bits word) (number (searching_shortened r m allowed named l bits word))
   refused_by why h f e = rw (← e) (stopped (number_above why) h f)
 

@@ -22,7 +22,8 @@ last-transform (suc m) x e =
     let lb = length-transform m b (length-second m x e) in
     let last : 2 ^ suc m - 1 ≡ 2 ^ m + (2 ^ m - 1) = omega (arith, two-pow-succ m, pow_pos m) in
     ap (λ (i : ℕ). get_or (xors (transform m a) (transform m b) ++ transform m b) i 0) last
-    ∙ get_or-second (xors (transform m a) (transform m b)) (transform m b) (2 ^ m) (length-xors (transform m a) (transform m b) (la ∙ sym lb) ∙ la) (2 ^ m - 1) 0
+    ∙ get_or-second (xors (transform m a) (transform m b)) (transform m b) (2 ^ m) (length-xors (transform m a) (transform m b) (la ∙ sym lb) ∙ la)
+    (2 ^ m - 1) 0
     ∙ last-transform m b (length-second m x e) ∙ get_or-drop (2 ^ m) x (2 ^ m - 1) 0 ∙ ap (λ (i : ℕ). get_or x i 0) (sym last)
 
 pick_snoc : (ks u : List ℕ) (k a : ℕ) → length u ≡ length ks → (k ≡ 0 → ⊥) → pick (ks ++ k ∷ []) (u ++ a ∷ []) ≡ pick ks u ++ a ∷ []

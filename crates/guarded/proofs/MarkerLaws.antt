@@ -1,6 +1,7 @@
 -- The all-ones word has only the marker: in every set of words that has it, its information bits are zeros and a last 1.
 use Rattle.std.specs.Prelude.{◌≡◌, refl, List, [], ◌∷◌, ◌++◌, ℕ, zero, suc, ◌+◌, ◌-◌, ◌^◌, ◌<◌, length, get_or, take, replicate}
-use Rattle.std.proofs.Common.{ap, ap₂, sym, ◌∙◌, arith, suc-ne-zero, length-append, ext_get_or, take-suc, take_all, take_at, length-take-le, get_or-take, pow_pos}
+use Rattle.std.proofs.Common.{ap, ap₂, sym, ◌∙◌, arith, suc-ne-zero, length-append, ext_get_or, take-suc, take_all, take_at, length-take-le, get_or-take}
+use Rattle.std.proofs.Common.{pow_pos}
 use Rattle.std.proofs.Math.Nat.{suc_inj}
 use Rattle.std.proofs.Math.Decide.{ℕ_discrete}
 use Rattle.std.proofs.lemmas.List.{length-replicate, get_or-replicate, get_or_at}

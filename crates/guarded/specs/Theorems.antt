@@ -1,5 +1,5 @@
--- What is proved about guarded words, sentence by sentence, for every search that meets the demands: over RM(r,m), over a shortened set that has the all_ones_lem
--- word, and for first-order words. That it holds is proved in TheoremsMet.
+-- What is proved about guarded words, sentence by sentence, for every search that meets the demands: over RM(r,m), over a shortened set that has the
+-- word of ones, and for first-order words. That it holds is proved in TheoremsMet.
 use Rattle.std.specs.Prelude.{◌≡◌, ◌↔◌, List, map, ℕ, suc, ◌*◌, ◌^◌, ◌≤◌, ◌<◌, ℤ, neg_ℤ, length, replicate}
 use Rattle.numbers.specs.Sums.{sum}
 use Rattle.words.specs.Bits.{Bits}
@@ -26,7 +26,7 @@ own_search s allowed l room = s.by allowed l (replicate (suc (length room)) 0) (
 abbrev pub reading : Searching → ℕ → List ℤ → List ℕ → GuardedOutcome
 reading s allowed l room = guarded (own_search s allowed l room) room
 
--- what is required of the search: it answers by the words of its row of kinds, of which all_ones_lem is one
+-- what is required of the search: it answers by the words of its row of kinds, of which the word of ones is one
 pub record Guards (s : Searching) : Type 0 where
   pub long_kinds : length s.kinds ≡ 2 ^ s.code.m
   pub are_kinds : Bits s.kinds

@@ -58,7 +58,8 @@ pub bits_of_are : (m s e : ℕ) → InformationBits (kinds 1 m) (bits_of m s e)
 unfolding bits_of
 bits_of_are m s e = (
   length-append (digits m s) ((ones m s + e) % 2 ∷ []) ∙ omega (arith, length_digits m s, sum-first_order m),
-  bits_append (digits m s) ((ones m s + e) % 2 ∷ []) (bits_digits m s) (λ i. elim i as (λ j. get_or ((ones m s + e) % 2 ∷ []) j 0 < 2) [ zero ↦ omega arith | suc i ↦ omega arith ]),
+  bits_append (digits m s) ((ones m s + e) % 2 ∷ []) (bits_digits m s)
+      (λ i. elim i as (λ j. get_or ((ones m s + e) % 2 ∷ []) j 0 < 2) [ zero ↦ omega arith | suc i ↦ omega arith ]),
 )
 
 pub sign-bits_of : (m s e : ℕ) → e < 2 → sum (bits_of m s e) % 2 ≡ e

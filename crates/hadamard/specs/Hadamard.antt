@@ -1,6 +1,7 @@
 -- The Hadamard transform of a row of 2^m whole numbers, the words of RM(1,m) that its entries stand for, and what looking at all its entries finds.
 -- A word of RM(1,m) is named by a place s below 2^m and a bit e; its correlation with the row is entry s, negated where e is 1.
-use Rattle.std.specs.Prelude.{◌≡◌, cond, List, [], ◌∷◌, ◌++◌, map, ℕ, zero, suc, ◌+◌, ◌-◌, ◌*◌, ◌^◌, ◌%◌, ◌/◌, ◌≤◌, ◌<◌, ℤ, pos, nat_abs, ◌+ℤ◌, ◌*ℤ◌, eqb, length, get_or, take, drop}
+use Rattle.std.specs.Prelude.{◌≡◌, cond, List, [], ◌∷◌, ◌++◌, map, ℕ, zero, suc, ◌+◌, ◌-◌, ◌*◌, ◌^◌, ◌%◌, ◌/◌, ◌≤◌, ◌<◌, ℤ, pos, nat_abs, ◌+ℤ◌, ◌*ℤ◌, eqb}
+use Rattle.std.specs.Prelude.{length, get_or, take, drop}
 use Rattle.numbers.specs.Sums.{sum, tabulate}
 use Rattle.words.specs.Bits.{digit, digits, ones}
 use Rattle.words.specs.Kinds.{kinds, encoded, all_bits}

@@ -1,6 +1,7 @@
 -- Laws of the loops over the arrays of images, places and columns: what holds before each pass, and what a pass does.
 use Rattle.std.specs.Prelude.{◌≡◌, refl, true, false, List, [], ℕ, zero, suc, ◌+◌, ◌-◌, ◌*◌, ◌^◌, ◌%◌, ◌/◌, ◌≤◌, ◌<◌, length, get_or, set}
-use Rattle.std.proofs.Common.{ap, ap₂, sym, ◌∙◌, ⊎_elim, arith, le_refl, mul-le-mul_right, mod-eq_of_lt, mod-lt, div-one, one-mul, add-one, pow_mono, get_or-set_same, get_or-set_other, eq-eqb, ne_eqb}
+use Rattle.std.proofs.Common.{ap, ap₂, sym, ◌∙◌, ⊎_elim, arith, le_refl, mul-le-mul_right, mod-eq_of_lt, mod-lt, div-one, one-mul, add-one, pow_mono}
+use Rattle.std.proofs.Common.{get_or-set_same, get_or-set_other, eq-eqb, ne_eqb}
 use Rattle.std.proofs.Math.Nat.{two-pow-succ, mod-one}
 use Rattle.std.proofs.Math.Decide.{ℕ_discrete}
 use Rattle.std.specs.Int.Bits.{bit_xor}

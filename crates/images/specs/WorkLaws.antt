@@ -166,7 +166,8 @@ module _ (m : ℕ) (A b : List ℕ) (small : m ≤ largest_m) (places : List ℕ
   undone_map can bits C c put = (
     put.table_is ∙ undone_table,
     put.row_is
-        ∙ tabulate_same (λ p. digit p (get_or places (number m (λ q. get_or b q 0)) 0)) (image_bit m (undo_table m A) [] (λ q. get_or b q 0)) m (undone_bit can bits),
+        ∙ tabulate_same (λ p. digit p (get_or places (number m (λ q. get_or b q 0)) 0)) (image_bit m (undo_table m A) [] (λ q. get_or b q 0)) m
+        (undone_bit can bits),
   )
 
 -- ---- the product

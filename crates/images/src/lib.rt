@@ -2,7 +2,8 @@
 // and columns of tables.
 #![tactic(auto)]
 
-ghost use Rattle.std.specs.Prelude.{◌≡◌, [], ◌+◌, ◌*◌, ◌^◌, ◌%◌, ◌/◌, ◌≤◌, ◌<◌, length, get_or, pos};
+ghost use Rattle.std.specs.Prelude.{◌≡◌, [], ◌+◌, ◌*◌, ◌^◌, ◌%◌, ◌/◌, ◌≤◌, ◌<◌, length, get_or};
+ghost use Rattle.std.specs.Prelude.{pos};
 ghost use Rattle.words.specs.Bits.{Bits};
 ghost use Rattle.code.specs.Sound.{largest_m};
 ghost use Rattle.maps.specs.Maps.{number, image, all_apart};

@@ -165,6 +165,7 @@ module _ (index : Index) (r m : ℕ) (l : List ℤ) (capture table : List ℕ) w
   unfolding appending
   append_demand_1 =
       record {
-        checked = demand_1 (capture ∷ table ∷ []) (appended_view (appending index r m l capture table)) (append_checks index r m l capture table) append_decides;
+        checked =
+            demand_1 (capture ∷ table ∷ []) (appended_view (appending index r m l capture table)) (append_checks index r m l capture table) append_decides;
         unsaid = append-none (writable r m l (length capture) index.used);
       }

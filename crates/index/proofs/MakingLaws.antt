@@ -160,12 +160,14 @@ module _ (s table : List ℕ) where
   made-refused why (refused why') e = let same : why ≡ why' = cc in ap (λ (w : Refusal). outcome_of (Refused w) table) same
   made-refused why (these l) e = let z : ◌≡◌ {A = ℕ} 0 1 = cc in absurd (omega arith)
 
-  made_short : (t : Starts) → t ≡ these (list_of t) → length table < length (entries_of (list_of t)) → outcome_of (Refused OutputLength) table ≡ made_by t s table
+  made_short : (t : Starts) → t ≡ these (list_of t) → length table < length (entries_of (list_of t))
+      → outcome_of (Refused OutputLength) table ≡ made_by t s table
   made_short (refused why) e h = let z : ◌≡◌ {A = ℕ} 0 1 = cc in absurd (omega arith)
   made_short (these l) e h = rw (lt-ltb (length table) (length (entries_of l)) h)
 
   pub made_whole : (t : Starts) → t ≡ these (list_of t) → length (entries_of (list_of t)) ≤ length table
-      → outcome_of (Done (index_of (length (list_of t)) (length s))) (entries_of (list_of t) ++ drop (length (entries_of (list_of t))) table) ≡ made_by t s table
+      → outcome_of (Done (index_of (length (list_of t)) (length s))) (entries_of (list_of t) ++ drop (length (entries_of (list_of t))) table)
+      ≡ made_by t s table
   made_whole (refused why) e h = let z : ◌≡◌ {A = ℕ} 0 1 = cc in absurd (omega arith)
   made_whole (these l) e h = rw (le-ltb (length table) (length (entries_of l)) h)
 

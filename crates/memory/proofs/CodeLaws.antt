@@ -1,6 +1,7 @@
 -- Laws of the memory's functions in the words of the code, where h is 2^t.
 use Rattle.std.specs.Prelude.{◌≡◌, List, ◌++◌, ℕ, suc, ◌+◌, ◌-◌, ◌*◌, ◌^◌, ◌/◌, ◌%◌, ◌≤◌, ◌<◌, ℤ, pos, length, get_or, take, drop}
-use Rattle.std.proofs.Common.{ap, sym, ◌∙◌, subst, ⊎_elim, arith, div-mul-le_self, length-drop, take_at, take-take, length-take-le, get_or-take, pow_mono, SFits, to_z, of_z}
+use Rattle.std.proofs.Common.{ap, sym, ◌∙◌, subst, ⊎_elim, arith, div-mul-le_self, length-drop, take_at, take-take, length-take-le, get_or-take, pow_mono}
+use Rattle.std.proofs.Common.{SFits, to_z, of_z}
 use Rattle.std.proofs.Math.Nat.{two-pow-succ}
 use borrow.Rule.Slice.PartMut.{mid_of}
 use Rattle.std.specs.Int.{w16, w32}

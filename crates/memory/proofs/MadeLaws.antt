@@ -87,7 +87,8 @@ pub last_entry : {m i : ℕ} {y : List ℕ} {l s : List ℤ} → 0 < m → i < 2
 last_entry {m} {i} {y} {l} {s} more h path f =
     let none : m - 0 ≡ m = omega arith in
     let row : row_of 1 s ≡ row_at m i y l m = f.made 0 (omega arith) (omega arith) ∙ ap (row_at m i y l) none in
-    sym (value_row m i y l h path ∙ ap (λ (k : List ℤ). get_or k 0 (pos 0)) (sym row) ∙ get_or-take 1 (drop 1 s) 0 (pos 0) (omega arith) ∙ get_or-drop 1 s 0 (pos 0))
+    sym (value_row m i y l h path ∙ ap (λ (k : List ℤ). get_or k 0 (pos 0)) (sym row) ∙ get_or-take 1 (drop 1 s) 0 (pos 0) (omega arith)
+    ∙ get_or-drop 1 s 0 (pos 0))
 
 -- as the machine reads it
 pub last_row_lem : {m i : ℕ} {y : List ℕ} {l s : List ℤ} → 0 < m → i < 2 ^ m → i ≤ length y → sizes l < sum_limit → Made m l y i 0 s

@@ -250,7 +250,8 @@ module _ (named ks : List ℕ) (same : length named ≡ length ks) where
     unfolding left
     left-next = rw (drop-cons named i 0 h, drop-cons ks i 0 (omega arith))
 
-    frozen_next : names_frozen (drop i named) (drop i ks) ≡ (named_frozen (get_or named i 0) (get_or ks i 0) || names_frozen (drop (suc i) named) (drop (suc i) ks))
+    frozen_next : names_frozen (drop i named) (drop i ks)
+        ≡ (named_frozen (get_or named i 0) (get_or ks i 0) || names_frozen (drop (suc i) named) (drop (suc i) ks))
     unfolding names_frozen
     frozen_next = rw (drop-cons named i 0 h, drop-cons ks i 0 (omega arith))
 

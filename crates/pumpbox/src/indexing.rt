@@ -6,7 +6,8 @@ ghost use Rattle.index.specs.Making.{making};
 ghost use Rattle.index.specs.Fronting.{fronting};
 ghost use Rattle.index.specs.Appending.{appending};
 ghost use Rattle.answers.specs.Reported.{reported};
-ghost use Rattle.answers.specs.Indexed.{index_in, shown_made, shown_front, shown_entry, shown_appended};
+ghost use Rattle.answers.specs.Indexed.{index_in, shown_made, shown_front, shown_entry};
+ghost use Rattle.answers.specs.Indexed.{shown_appended};
 
 use answers::{put_appended, put_entry, put_front, put_made};
 use index::Index;
@@ -29,7 +30,8 @@ pub extern "C" fn cinorbis_index_front(
     table: &mut [usize],
     out: &mut [u64; 3],
 ) -> u32
-    ensures { reported result out.new (table.new ∷ []) ≡ shown_front (fronting capture.now table.old) }
+    ensures { reported result out.new (table.new ∷ []) ≡ shown_front
+        (fronting capture.now table.old) }
 {
     let answer = index::front(capture, table);
     put_front(answer, out)

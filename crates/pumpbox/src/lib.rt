@@ -21,7 +21,8 @@ ghost use Rattle.record.specs.Reader.{header_of, part_by};
 ghost use Rattle.record.specs.Searching.{searching_record_with_runner_up};
 ghost use Rattle.search.specs.RunnerUp.{searching_with_runner_up};
 ghost use Rattle.code.specs.Sound.{default_allowance};
-ghost use Rattle.answers.specs.Reported.{reported, shown, shown_quick, shown_with_runner_up, shown_part};
+ghost use Rattle.answers.specs.Reported.{reported, shown, shown_quick, shown_with_runner_up};
+ghost use Rattle.answers.specs.Reported.{shown_part};
 
 use answers::{put_completed, put_header, put_read, put_with_runner_up};
 

@@ -55,7 +55,8 @@ pub extern "C" fn cinorbis_telegram_of_bits(
     telegram: &mut [u64; 3],
     out: &mut [u64; 4],
 ) -> u32
-    ensures { reported result out.new (telegram.new ∷ []) ≡ shown_read (Tilt.reading_bits bits.now) }
+    ensures { reported result
+        out.new (telegram.new ∷ []) ≡ shown_read (Tilt.reading_bits bits.now) }
 {
     let answer = telegram::of_bits(bits);
     put_heard(answer, telegram, out)

@@ -1,6 +1,7 @@
 -- Laws of the quick reading's recursion: the parts that are lent for a half, and the word put together from its halves.
 use Rattle.std.specs.Prelude.{◌≡◌, refl, List, [], ◌∷◌, ◌++◌, ℕ, zero, suc, ◌+◌, ◌-◌, ◌^◌, ◌/◌, ◌≤◌, ◌<◌, ℤ, pos, length, get_or, set, take, drop}
-use Rattle.std.proofs.Common.{ap, ap₂, sym, ◌∙◌, subst, arith, suc-ne-zero, length-drop, length-append, length-take-le, take_at, drop_at, take-take, get_or-take, get_or-drop, to_z, of_z, to_z-of_z}
+use Rattle.std.proofs.Common.{ap, ap₂, sym, ◌∙◌, subst, arith, suc-ne-zero, length-drop, length-append, length-take-le, take_at, drop_at, take-take}
+use Rattle.std.proofs.Common.{get_or-take, get_or-drop, to_z, of_z, to_z-of_z}
 use Rattle.std.specs.Int.{w32}
 use borrow.Rule.Slice.PartMut.{mid_of, put_mid}
 use Rattle.numbers.specs.Halves.{Halved, halved}
@@ -90,7 +91,8 @@ module _ (m : ℕ) (rows : List ℤ) (kinds word : List ℕ) (r : HalfReady m ro
 
   pub second_back : (w : List ℕ)
       → w ≡ quick_word (m - 1) (mid_of (mid word) (length kinds - mid word) kinds) (row_of (2 ^ (m - 1)) (mid_of 0 (length word - 0) rows))
-      → put_mid (mid word) (length word - mid word) word w ≡ take (2 ^ (m - 1)) word ++ quick_word (m - 1) (drop (2 ^ (m - 1)) kinds) (row_of (2 ^ (m - 1)) rows)
+      → put_mid (mid word) (length word - mid word) word w
+      ≡ take (2 ^ (m - 1)) word ++ quick_word (m - 1) (drop (2 ^ (m - 1)) kinds) (row_of (2 ^ (m - 1)) rows)
   second_back w e =
       back_from (mid word) word w
       ∙ ap (λ (x : List ℕ). take (mid word) word ++ x) (e ∙ ap₂ (quick_word (m - 1)) (lent_from (mid word) kinds) same_row)

@@ -56,7 +56,8 @@ RecordDemand1 allowed s bits word = Demand1 (record_checks allowed s bits word) 
 -- a larger allowance changes no answer and no refusal except 6, as with the search of plain readings: numbers, buffers and runner-up stay the same
 abbrev pub RecordLargerAllowance : List ℕ → List ℕ → List ℕ → Type 0
 RecordLargerAllowance s bits word = (allowed more : ℕ) → allowed ≤ more
-    → ((searching_record allowed s bits word).number ≡ 6 → ⊥) → searching_record_with_runner_up more s bits word ≡ searching_record_with_runner_up allowed s bits word
+    → ((searching_record allowed s bits word).number ≡ 6 → ⊥)
+    → searching_record_with_runner_up more s bits word ≡ searching_record_with_runner_up allowed s bits word
 
 -- neither the header nor the search gives 4, whatever the bytes are
 pub record Never4 (allowed : ℕ) (s bits word : List ℕ) : Type 0 where

@@ -1,6 +1,8 @@
 -- Laws of the program's state: what is next, a record that is taken, and the bytes after which a read puts new ones.
-use Rattle.std.specs.Prelude.{◌≡◌, refl, List, ◌++◌, ◌⊎◌, Bool, true, false, cond, ℕ, zero, suc, ◌+◌, ◌-◌, ◌≤◌, ◌<◌, ℤ, pos, negsuc, length, get_or, take, drop, ltb, leb, eqb}
-use Rattle.std.proofs.Common.{ap, sym, ◌∙◌, subst, inl, inr, ⊎_elim, arith, length-append, length-drop, length-take-le, take_at, eq-eqb, ne_eqb, eqb-true, leb-false, leb-true, ltb-true}
+use Rattle.std.specs.Prelude.{◌≡◌, refl, List, ◌++◌, ◌⊎◌, Bool, true, false, cond, ℕ, zero, suc, ◌+◌, ◌-◌, ◌≤◌, ◌<◌, ℤ, pos, negsuc, length, get_or, take, drop}
+use Rattle.std.specs.Prelude.{ltb, leb, eqb}
+use Rattle.std.proofs.Common.{ap, sym, ◌∙◌, subst, inl, inr, ⊎_elim, arith, length-append, length-drop, length-take-le, take_at, eq-eqb, ne_eqb, eqb-true}
+use Rattle.std.proofs.Common.{leb-false, leb-true, ltb-true}
 use Rattle.std.specs.Int.Signed.{lt_z}
 use Rattle.io.specs.Counts.{clamp_len}
 use borrow.Rule.Slice.PartMut.{mid_of, put_mid}

@@ -1,7 +1,9 @@
 -- Laws of the steps on a pair, and of the loops that fill a row: what a pass reads and what it stores, whichever list l of 2h entries it reads;
 -- of signs.
-use Rattle.std.specs.Prelude.{◌≡◌, refl, true, false, List, map, ℕ, zero, suc, ◌+◌, ◌-◌, ◌^◌, ◌≤◌, ◌<◌, ℤ, pos, negsuc, nat_abs, ◌-ℤ◌, length, get_or, set, take, drop, T}
-use Rattle.std.proofs.Common.{ap, ap₂, sym, ◌∙◌, arith, add-one, take-append-drop, length-drop, drop_of_length-le, get_or-take, get_or-drop, length-take-le, SFits, to_z, of_z, to_z-of_z}
+use Rattle.std.specs.Prelude.{◌≡◌, refl, true, false, List, map, ℕ, zero, suc, ◌+◌, ◌-◌, ◌^◌, ◌≤◌, ◌<◌, ℤ, pos, negsuc, nat_abs, ◌-ℤ◌, length, get_or, set}
+use Rattle.std.specs.Prelude.{take, drop, T}
+use Rattle.std.proofs.Common.{ap, ap₂, sym, ◌∙◌, arith, add-one, take-append-drop, length-drop, drop_of_length-le, get_or-take, get_or-drop, length-take-le}
+use Rattle.std.proofs.Common.{SFits, to_z, of_z, to_z-of_z}
 use Rattle.std.proofs.lemmas.List.{length-map}
 use Rattle.std.proofs.Math.ListN.{get_or-map}
 use Rattle.std.specs.Int.Signed.{lt_z, non_neg}

@@ -23,7 +23,8 @@ use Rattle.search.specs.RunnerUp.{roomy, runner_up, shown_with, runner_up_outcom
 use Rattle.search.specs.Work.{with_bits, Pickable}
 
 -- a refusal shows no runner-up
-pub none-shown : (x : List ℕ) (why : Refusal) (bits word : List ℕ) → shown_with x (refused why bits word) ≡ runner_up_outcome_of (with_none (Refused why)) bits word
+pub none-shown : (x : List ℕ) (why : Refusal) (bits word : List ℕ)
+    → shown_with x (refused why bits word) ≡ runner_up_outcome_of (with_none (Refused why)) bits word
 none-shown x why bits word = rw (ne_eqb (number_of why) 0 (λ e. omega (arith, number_above why)))
 
 -- an array of zeros that is left as it was shows none

@@ -12,7 +12,8 @@ ghost use Rattle.telegram.specs.Outcome.{writing_telegram};
 ghost use Rattle.telegram.specs.Outcome.{outcome_of, judged, reading_telegram, reading_bits};
 
 use code::Refusal;
-use guarded::{Fault, Written, number_of};
+use guarded::number_of;
+pub use guarded::{Fault, Written};
 use search::Searched;
 
 // What the tilt head says. Direction 1 is to port; the tilt is in hundredths of a degree.

@@ -1,6 +1,8 @@
 -- Laws of frozen indices taken at once: what the call that takes them gives, what it is asked, and where the frozen step is after it.
-use Rattle.std.specs.Prelude.{◌≡◌, refl, Bool, true, false, ◌&&◌, List, ◌++◌, ◌⊎◌, ℕ, ◌+◌, ◌-◌, ◌*◌, ◌^◌, ◌/◌, ◌%◌, ◌≤◌, ◌<◌, ℤ, length, get_or, take, drop, eqb, ltb}
-use Rattle.std.proofs.Common.{ap, sym, ◌∙◌, subst, append_assoc, ⊎_elim, arith, mul-le-mul_right, length-append, length-take, length-drop, length-take-le, take_all, take_at, take-take, get_or-take, get_or-drop, pow-add, eq-eqb, ne_eqb, eqb-true, ltb-true, leb-true}
+use Rattle.std.specs.Prelude.{◌≡◌, refl, Bool, true, false, ◌&&◌, List, ◌++◌, ◌⊎◌, ℕ, ◌+◌, ◌-◌, ◌*◌, ◌^◌, ◌/◌, ◌%◌, ◌≤◌, ◌<◌, ℤ, length, get_or, take, drop}
+use Rattle.std.specs.Prelude.{eqb, ltb}
+use Rattle.std.proofs.Common.{ap, sym, ◌∙◌, subst, append_assoc, ⊎_elim, arith, mul-le-mul_right, length-append, length-take, length-drop, length-take-le}
+use Rattle.std.proofs.Common.{take_all, take_at, take-take, get_or-take, get_or-drop, pow-add, eq-eqb, ne_eqb, eqb-true, ltb-true, leb-true}
 use Rattle.std.proofs.lemmas.List.{length-replicate, replicate-append-replicate}
 use Rattle.std.proofs.Math.Seq.{paste}
 use Rattle.std.proofs.lemmas.List.Edits.{length-paste}

@@ -81,7 +81,8 @@ module _ {l₀ : List ℤ} {k₀ : List ℕ} {s : List ℤ} {y best second σ : 
         long = long;
         stepped = record {
           walks = shown ∙ ap ended f.holds ∙ ap (λ (u : List ℕ). ended (finished u p (state_of (seen σ) best second))) (sym whole)
-              ∙ sym (walk_end (get_or σ 7 0) (get_or σ 6 0) (front σ l₀) (front σ k₀) i (take i y) p (state_of (seen σ) best second) (omega (arith, r.long_kinds)));
+              ∙ sym (walk_end (get_or σ 7 0) (get_or σ 6 0) (front σ l₀) (front σ k₀) i (take i y) p (state_of (seen σ) best second)
+              (omega (arith, r.long_kinds)));
           same_m = ap (λ (k : Progress). k.m) f.rest;
           same_allowed = ap (λ (k : Progress). k.allowed) f.rest;
           spent = λ h. true_false (sym h ∙ o);

@@ -1,7 +1,9 @@
 -- Laws of information indices that are taken at once, one or a block of them, where the other bit at the first of them is dropped: what the step behind
 -- them asks, and what the step at the first of them gives with it.
-use Rattle.std.specs.Prelude.{◌≡◌, refl, Bool, true, false, ◌&&◌, List, [], ◌∷◌, ◌++◌, ℕ, zero, suc, ◌+◌, ◌-◌, ◌%◌, ◌^◌, ◌≤◌, ◌<◌, ℤ, nat_abs, length, get_or, set, take, drop, eqb, ltb}
-use Rattle.std.proofs.Common.{ap, sym, ◌∙◌, subst, ⊎_elim, append_assoc, append-nil, arith, length-append, length-drop, length-set, length-take-le, take-take, take_at, take_all, get_or-take, drop-set-lt, drop-drop, pow_pos, eqb-true, ltb-true, leb-true, leb-false}
+use Rattle.std.specs.Prelude.{◌≡◌, refl, Bool, true, false, ◌&&◌, List, [], ◌∷◌, ◌++◌, ℕ, zero, suc, ◌+◌, ◌-◌, ◌%◌, ◌^◌, ◌≤◌, ◌<◌, ℤ, nat_abs, length, get_or}
+use Rattle.std.specs.Prelude.{set, take, drop, eqb, ltb}
+use Rattle.std.proofs.Common.{ap, sym, ◌∙◌, subst, ⊎_elim, append_assoc, append-nil, arith, length-append, length-drop, length-set, length-take-le, take-take}
+use Rattle.std.proofs.Common.{take_at, take_all, get_or-take, drop-set-lt, drop-drop, pow_pos, eqb-true, ltb-true, leb-true, leb-false}
 use Rattle.std.proofs.lemmas.List.{take-set-le}
 use Rattle.words.specs.Bits.{Bits}
 use Rattle.words.specs.TransformLaws.{bits_take, bits_drop, bits_append}

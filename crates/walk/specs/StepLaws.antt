@@ -1,7 +1,8 @@
 -- Laws of the walk's steps: an extension is out, dropped, or gone on with; what the next step asks; what the deeper one leaves.
 use Rattle.std.specs.Prelude.{◌≡◌, refl, Bool, true, false, List, [], ◌∷◌, ◌++◌, ℤ, nat_abs, length, set, take, drop, T, leb}
 use Rattle.std.proofs.Math.Path.{ap}
-use Rattle.std.proofs.Common.{ap₂, sym, ◌∙◌, subst, lt_of_le_of_lt, add-one, drop_of_length-le, length-set, take-take, take-suc-set, length-take-le, ltb-false, ltb-true}
+use Rattle.std.proofs.Common.{ap₂, sym, ◌∙◌, subst, lt_of_le_of_lt, add-one, drop_of_length-le, length-set, take-take, take-suc-set, length-take-le, ltb-false}
+use Rattle.std.proofs.Common.{ltb-true}
 use Prim.Native.Nat.{ℕ, zero, suc, ◌+◌, ◌-◌, ◌^◌, ◌≤◌, ◌<◌}
 use native.Mathlib.Omega.{arith}
 use Rattle.std.proofs.Math.ListN.{get_or}

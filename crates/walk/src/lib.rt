@@ -12,7 +12,8 @@
 // back, so that the last call of a step takes no stack of its own.
 #![tactic(auto)]
 
-ghost use Rattle.std.specs.Prelude.{◌≡◌, true, ◌+◌, ◌^◌, ◌/◌, ◌%◌, ◌≤◌, ◌<◌, length, get_or, take, set, replicate, eqb, ltb};
+ghost use Rattle.std.specs.Prelude.{◌≡◌, true, ◌+◌, ◌^◌, ◌/◌, ◌%◌, ◌≤◌, ◌<◌, length, get_or, take};
+ghost use Rattle.std.specs.Prelude.{set, replicate, eqb, ltb};
 ghost use Rattle.walk.specs.Progress.{allows_more, counted_by, counted_more, drops, seen};
 ghost use Rattle.walk.specs.Progress.{made_for};
 ghost use Rattle.walk.specs.Progress.{Finished, Shows, StepAsked, StepGiven, Visited};

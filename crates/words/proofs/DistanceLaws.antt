@@ -1,6 +1,7 @@
 -- A word of RM(r,m) that is not the zero row has at least 2^(m-r) ones, and one has exactly that many; so the least distance of two words is 2^(m-r).
 use Rattle.std.specs.Prelude.{◌≡◌, refl, ◌⊎◌, cond, List, [], ◌∷◌, ◌++◌, ℕ, zero, suc, ◌+◌, ◌-◌, ◌*◌, ◌^◌, ◌%◌, ◌≤◌, ◌<◌, length, take, drop, replicate, eqb}
-use Rattle.std.proofs.Common.{ap, ap₂, sym, subst, ◌∙◌, inl, inr, ⊎_elim, arith, suc-ne-zero, mul-le-mul_right, le_of_mul-le-mul_right, take-append-drop, pow_pos, pow-add}
+use Rattle.std.proofs.Common.{ap, ap₂, sym, subst, ◌∙◌, inl, inr, ⊎_elim, arith, suc-ne-zero, mul-le-mul_right, le_of_mul-le-mul_right, take-append-drop}
+use Rattle.std.proofs.Common.{pow_pos, pow-add}
 use Rattle.std.proofs.Math.Nat.{two-pow-succ, sub-zero, suc-sub-suc}
 use Rattle.std.proofs.lemmas.List.{replicate-append-replicate}
 use Rattle.numbers.specs.Sums.{sum}

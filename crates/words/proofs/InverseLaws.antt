@@ -2,7 +2,8 @@
 -- Words are the rows whose transform is 0 at every frozen index; sums of words are words.
 use Rattle.std.proofs.Math.Path.{◌≡◌, subst}
 use Rattle.std.specs.Prelude.{refl, ◌⊎◌, ℕ, zero, suc, ◌^◌, ◌≤◌, ◌<◌, length, replicate}
-use Rattle.std.proofs.Common.{get_or, ap, ap₂, sym, ◌∙◌, inl, inr, suc-le-suc, arith, suc-ne-zero, le_of_suc-le-suc, not-suc-le-zero, zero-lt-suc, lt-ltb, le-ltb}
+use Rattle.std.proofs.Common.{get_or, ap, ap₂, sym, ◌∙◌, inl, inr, suc-le-suc, arith, suc-ne-zero, le_of_suc-le-suc, not-suc-le-zero, zero-lt-suc, lt-ltb}
+use Rattle.std.proofs.Common.{le-ltb}
 use Rattle.std.proofs.Math.Logic.{⊎_elim}
 use mathlib.Core.List.{List, [], ◌∷◌}
 use Rattle.std.proofs.Math.Nat.{suc_inj, le_antisymm}

@@ -1,6 +1,7 @@
 -- The words of RM(r,m) are the value tables of the polynomials of degree at most r in m variables.
 use Rattle.std.specs.Prelude.{◌≡◌, refl, cond, List, [], ◌∷◌, ◌++◌, ℕ, zero, suc, ◌+◌, ◌-◌, ◌*◌, ◌^◌, ◌≤◌, ◌<◌, length, get_or, take, drop, eqb}
-use Rattle.std.proofs.Common.{ap, ap₂, sym, subst, ◌∙◌, ⊎_elim, arith, suc-ne-zero, le_refl, mul-one, mul-zero, length-append, take-append-drop, take_at, drop_at, get_or-take, get_or-drop}
+use Rattle.std.proofs.Common.{ap, ap₂, sym, subst, ◌∙◌, ⊎_elim, arith, suc-ne-zero, le_refl, mul-one, mul-zero, length-append, take-append-drop, take_at}
+use Rattle.std.proofs.Common.{drop_at, get_or-take, get_or-drop}
 use Rattle.std.proofs.Math.Nat.{two-pow-succ}
 use Rattle.std.proofs.Math.ListN.{get_or-eq_default}
 use Rattle.numbers.specs.Choice.{lt_or_le}

@@ -1,5 +1,6 @@
 -- The three published forms of a word agree, for every m: bit by bit, by the Kronecker power of [1 0; 1 1], and by halves.
-use Rattle.std.specs.Prelude.{◌≡◌, refl, Bool, true, false, cond, ◌&&◌, List, [], ◌∷◌, ◌++◌, ℕ, zero, suc, ◌+◌, ◌*◌, ◌^◌, ◌%◌, ◌/◌, ◌<◌, length, get_or, take, drop, leb}
+use Rattle.std.specs.Prelude.{◌≡◌, refl, Bool, true, false, cond, ◌&&◌, List, [], ◌∷◌, ◌++◌, ℕ, zero, suc, ◌+◌, ◌*◌, ◌^◌, ◌%◌, ◌/◌, ◌<◌, length, get_or, take}
+use Rattle.std.specs.Prelude.{drop, leb}
 use Rattle.std.proofs.Common.{ap, ap₂, sym, ◌∙◌, arith, suc-ne-zero, le_refl, mul-one, one-mul, mul-zero, zero-mul, mod-eq_of_lt, pow_pos}
 use Rattle.std.proofs.Math.Nat.{two-pow-succ, add-div_left, div-eq_of_lt, add-mod_left}
 use Rattle.numbers.specs.Sums.{total, tabulate}

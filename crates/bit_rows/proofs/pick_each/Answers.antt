@@ -26,7 +26,8 @@ loop-i-preserved c =
     let b = s.args.bits.now in
     let h : l.i < length k = omega arith in
     elim c.if-kinds-i-ne0.branch [
-      | then-kinds-i-ne0 w ↦ rw (w.bits-is, w.taken-is) (pick_information k u b s.requires l.bits l.i l.taken l.invariant h (omega (arith, s.requires.bits_kinds l.i)))
+      | then-kinds-i-ne0 w ↦ rw (w.bits-is, w.taken-is)
+          (pick_information k u b s.requires l.bits l.i l.taken l.invariant h (omega (arith, s.requires.bits_kinds l.i)))
       | else-kinds-i-ne0 w ↦ rw (w.bits-is, w.taken-is) (pick_frozen k u b s.requires l.bits l.i l.taken l.invariant h (omega arith))
     ]
 

@@ -4,7 +4,9 @@ use Rattle.cinorbis.specs.StreamsLaws.{Streaming}
 use Rattle.cinorbis.proofs.run.Given as goal
 
 abbrev pub invariant-loop-left : goal.invariant-loop-left
-invariant-loop-left g l = Streaming l.left l.s l.input l.output (g.R.Read.remaining l.initial.from) (g.R.Read.remaining l.from) (g.W.Write.contents l.initial.to) (g.W.Write.contents l.to)
+invariant-loop-left g l =
+    Streaming l.left l.s l.input l.output (g.R.Read.remaining l.initial.from) (g.R.Read.remaining l.from) (g.W.Write.contents l.initial.to)
+    (g.W.Write.contents l.to)
     × (length l.input ≡ length l.initial.input) × (length l.output ≡ length l.initial.output)
 
 abbrev pub decreases-loop-left : goal.decreases-loop-left

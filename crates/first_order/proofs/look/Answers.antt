@@ -23,13 +23,16 @@ slice_set_of-row c = omega (arith, (found-place ((goal.at.slice_set_of-row c).Af
 
 pub top_size-second-requires : goal.top_size-second-requires
 top_size-second-requires c =
-    within_wiped (2 ^ 24 - 1) c.args.row.now (c.top_key-key.result % 256) (found-place ((goal.at.top_size-second-requires c).After-top_key-key)).within c.requires.2
+    within_wiped (2 ^ 24 - 1) c.args.row.now (c.top_key-key.result % 256)
+    (found-place ((goal.at.top_size-second-requires c).After-top_key-key)).within c.requires.2
 
 pub returns : goal.returns
 returns c =
     let row = c.args.row.now in
     let place = c.top_key-key.result % 256 in
     record {
-      largest = both_found row c.top_key-key.result c.top_size-second.result c.requires.0 (found-place ((goal.at.returns c).After-top_key-key)) c.top_size-second.ensures;
+      largest =
+          both_found row c.top_key-key.result c.top_size-second.result c.requires.0
+          (found-place ((goal.at.returns c).After-top_key-key)) c.top_size-second.ensures;
       sign-is = c.sign_of-sign.ensures ∙ ap hard (to_z-of_z {w = w32} {z = get_or row place (pos 0)} (record { sfits = c.sign_of-arg-1.given }));
     }

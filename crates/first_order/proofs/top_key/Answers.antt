@@ -40,7 +40,8 @@ pub loop-j-preserved : goal.loop-j-preserved
 loop-j-preserved c =
     let o = c.loop-j in
     let f = key_at c.args.row.now in
-    let e : c.larger-most.result ≡ max o.most (f o.j) = c.larger-most.ensures ∙ ap (λ (s : ℕ). max o.most (s * 256 + o.j)) (sized ((goal.at.loop-j-preserved c).After-size)) in
+    let e : c.larger-most.result ≡ max o.most (f o.j) = c.larger-most.ensures
+    ∙ ap (λ (s : ℕ). max o.most (s * 256 + o.j)) (sized ((goal.at.loop-j-preserved c).After-size)) in
     (omega arith, rw e (top_more f o.j o.most o.invariant.1))
 
 pub returns : goal.returns

@@ -27,7 +27,8 @@ greater-requires c =
     let x = whole_of s.args.x in
     let y = whole_of s.args.y in (
       rw c.lesser.ensures (size-lesser x y sum_limit s.requires.0 s.requires.1),
-      rw (turned-is ((goal.at.greater-requires c).After-greater-turned)) (size-turned (greater x y) sum_limit (size-greater x y sum_limit s.requires.0 s.requires.1)),
+      rw (turned-is ((goal.at.greater-requires c).After-greater-turned))
+          (size-turned (greater x y) sum_limit (size-greater x y sum_limit s.requires.0 s.requires.1)),
     )
 
 pub returns : goal.returns

@@ -47,7 +47,8 @@ loop-j-preserved c =
     let d = g.args.rows.now in (
       omega arith,
       lower-stored d o.rows _ h o.j _ _ c.lower.result
-          (omega arith) (length-wholes g.args.readings.now ∙ g.requires.0) (omega arith) (pair ((goal.at.loop-j-preserved c).After-shared_slice_known-in-loop-j-2-1)) o.invariant.1 c.lower.ensures,
+          (omega arith) (length-wholes g.args.readings.now ∙ g.requires.0) (omega arith)
+          (pair ((goal.at.loop-j-preserved c).After-shared_slice_known-in-loop-j-2-1)) o.invariant.1 c.lower.ensures,
       length-set o.rows _ _ ∙ o.invariant.2,
     )
 

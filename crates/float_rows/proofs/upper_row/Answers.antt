@@ -53,7 +53,8 @@ loop-j-preserved c =
     let d = g.args.rows.now in (
       omega arith,
       upper-stored d o.rows _ h o.j _ _ c.upper.result
-          (omega arith) (length_above h d g.requires.0) (omega arith) (pair ((goal.at.loop-j-preserved c).After-shared_slice_known-in-loop-j-1)) g.args.word.now g.requires.1 o.invariant.1 c.upper.ensures,
+          (omega arith) (length_above h d g.requires.0) (omega arith)
+          (pair ((goal.at.loop-j-preserved c).After-shared_slice_known-in-loop-j-1)) g.args.word.now g.requires.1 o.invariant.1 c.upper.ensures,
       length-set o.rows _ _ ∙ o.invariant.2,
     )
 

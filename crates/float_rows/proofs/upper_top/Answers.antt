@@ -48,7 +48,8 @@ loop-j-preserved c =
     let d = g.args.rows.now in (
       omega arith,
       upper-stored d o.rows _ h o.j _ _ c.upper.result
-          (omega arith) (length-wholes g.args.readings.now ∙ g.requires.0) (omega arith) (pair ((goal.at.loop-j-preserved c).After-shared_slice_known-in-loop-j-3-1))
+          (omega arith) (length-wholes g.args.readings.now ∙ g.requires.0) (omega arith)
+          (pair ((goal.at.loop-j-preserved c).After-shared_slice_known-in-loop-j-3-1))
           g.args.word.now g.requires.2 o.invariant.1 c.upper.ensures,
       length-set o.rows _ _ ∙ o.invariant.2,
     )

@@ -117,4 +117,5 @@ returns c =
     ∙ ap₂ (λ (b x : List ℕ). beside (found_with (count end.best) (second_of end - count end.best) (get_or numbers 3 0) b x) shown)
     written.bits_are written.word-is
     ∙ runner_up-found s.m _ _ s.allowed s.bits.now s.word.now
-    (found-answer start.requires.1 walked.walk-end.ensures.0 (on else1) (λ e. if2.if-gap-eq0.false (gap_is else1 c.whole-gap.result c.whole-gap.ensures ∙ e))) is
+    (found-answer start.requires.1 walked.walk-end.ensures.0 (on else1)
+    (λ e. if2.if-gap-eq0.false (gap_is else1 c.whole-gap.result c.whole-gap.ensures ∙ e))) is

@@ -31,8 +31,11 @@ loop-j-preserved c =
     let l = c3.loop-j in
     let x = g.args.from.now in
     let t = g.args.to.now in
-    let f : ℕ → ℕ = λ j. get_or x (bit_xor (get_or g.args.images.now j 0) g.args.x) 0 in
-    (omega arith, rw l.invariant.1 (filled_more 0 f (length x) t g.requires.room l.j _ (omega (arith, g.requires.room)) refl), length-set l.to _ _ ∙ l.invariant.2)
+    let f : ℕ → ℕ = λ j. get_or x (bit_xor (get_or g.args.images.now j 0) g.args.x) 0 in (
+      omega arith,
+      rw l.invariant.1 (filled_more 0 f (length x) t g.requires.room l.j _ (omega (arith, g.requires.room)) refl),
+      length-set l.to _ _ ∙ l.invariant.2,
+    )
 
 pub shape_of-to : goal.shape_of-to
 shape_of-to c = c.loop-j.invariant.2

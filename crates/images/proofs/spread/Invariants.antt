@@ -8,7 +8,8 @@ use Rattle.images.proofs.spread.Given as goal
 
 abbrev pub invariant-loop-i : goal.invariant-loop-i
 invariant-loop-i l =
-    (l.i ≤ length l.initial.table) × (l.table ≡ front l.initial.table (spread_of l.columns l.width (length l.initial.table)) l.i) × (length l.table ≡ length l.initial.table)
+    (l.i ≤ length l.initial.table) × (l.table ≡ front l.initial.table (spread_of l.columns l.width (length l.initial.table)) l.i)
+    × (length l.table ≡ length l.initial.table)
 
 abbrev pub decreases-loop-i : goal.decreases-loop-i
 decreases-loop-i l = length l.initial.table - l.i

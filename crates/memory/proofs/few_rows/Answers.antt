@@ -44,7 +44,8 @@ low_rows-requires-then-high-gt0 c =
     let start = made in
     let some = c.if-high-gt0.true in
     let e : suc (start.args.high - 1) ≡ start.args.high = omega (arith, some) in
-    let ready = low_asked (next made some) (arrays made) (omega (arith, start.requires.0, start.requires.4.some)) (omega (arith, start.requires.4.some, some)) in
+    let ready =
+    low_asked (next made some) (arrays made) (omega (arith, start.requires.0, start.requires.4.some)) (omega (arith, start.requires.4.some, some)) in
     let here = subst (λ (k : ℕ). LowReady k start.args.i start.args.path.now made.first_row.new.rows) e ready in
     (some, here, omega (arith, start.requires.3, made.first_row.auto))
 

@@ -8,7 +8,8 @@ use Rattle.named.specs.Named.{left}
 use Rattle.named.proofs.put_left.Given as goal
 
 abbrev pub invariant-loop-i : goal.invariant-loop-i
-invariant-loop-i l = (l.i ≤ length l.initial.row) × (l.row ≡ front l.initial.row (left l.named (kinds l.code.r l.code.m)) l.i) × (length l.row ≡ length l.initial.row)
+invariant-loop-i l = (l.i ≤ length l.initial.row) × (l.row ≡ front l.initial.row (left l.named (kinds l.code.r l.code.m)) l.i)
+    × (length l.row ≡ length l.initial.row)
 
 abbrev pub decreases-loop-i : goal.decreases-loop-i
 decreases-loop-i l = length l.initial.row - l.i

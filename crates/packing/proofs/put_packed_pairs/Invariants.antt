@@ -8,7 +8,8 @@ use Rattle.packing.proofs.put_packed_pairs.Given as goal
 
 abbrev pub invariant-loop-j : goal.invariant-loop-j
 invariant-loop-j l =
-    (l.pairs ≡ length l.readings / 2) × (l.j ≤ l.pairs) × (l.part ≡ front l.initial.part (packed l.readings) (3 * l.j)) × (length l.part ≡ length l.initial.part)
+    (l.pairs ≡ length l.readings / 2) × (l.j ≤ l.pairs) × (l.part ≡ front l.initial.part (packed l.readings) (3 * l.j))
+    × (length l.part ≡ length l.initial.part)
 
 abbrev pub decreases-loop-j : goal.decreases-loop-j
 decreases-loop-j l = l.pairs - l.j

@@ -24,8 +24,10 @@ first_half-returns t c =
     let m = c.args.m in
     let rows = c.args.rows.now in
     let kinds = c.args.kinds.now in
-    let word = c.args.word.now in
-    (behind_kept m rows kinds word c.requires c.quick_row.new.rows c.quick_row.auto.rows, first_back m rows kinds word c.requires c.quick_row.new.word c.quick_row.ensures)
+    let word = c.args.word.now in (
+      behind_kept m rows kinds word c.requires c.quick_row.new.rows c.quick_row.auto.rows,
+      first_back m rows kinds word c.requires c.quick_row.new.word c.quick_row.ensures,
+    )
 
 pub quick_row-returns-then-m-eq0 : goal.quick_row-returns-then-m-eq0
 quick_row-returns-then-m-eq0 t c =

@@ -6,7 +6,8 @@ use Rattle.numbers.specs.Front.{front}
 use Rattle.quick.proofs.put_zeros.Given as goal
 
 abbrev pub invariant-loop-i : goal.invariant-loop-i
-invariant-loop-i l = (l.i ≤ length l.initial.word) × (l.word ≡ front l.initial.word (replicate (length l.initial.word) 0) l.i) × (length l.word ≡ length l.initial.word)
+invariant-loop-i l = (l.i ≤ length l.initial.word) × (l.word ≡ front l.initial.word (replicate (length l.initial.word) 0) l.i)
+    × (length l.word ≡ length l.initial.word)
 
 abbrev pub decreases-loop-i : goal.decreases-loop-i
 decreases-loop-i l = length l.initial.word - l.i

@@ -51,8 +51,12 @@ put_record-requires c =
     let f = fine ((goal.at.put_record-requires c).In-Allowed) in
     let g = c.args in
     let k = 1 + c.part_length.result in
-    let lent : (g.place + k) - g.place ≡ k = omega arith in
-    (f.sound, f.within, mid_len g.place (g.place + k) g.buffer.now (within ((goal.at.put_record-requires c).After-part_length)) ∙ lent ∙ sym (size ((goal.at.put_record-requires c).After-part_length)))
+    let lent : (g.place + k) - g.place ≡ k = omega arith in (
+      f.sound,
+      f.within,
+      mid_len g.place (g.place + k) g.buffer.now (within ((goal.at.put_record-requires c).After-part_length)) ∙ lent
+          ∙ sym (size ((goal.at.put_record-requires c).After-part_length)),
+    )
 
 pub returns-in-Allowed : goal.returns-in-Allowed
 unfolding writing

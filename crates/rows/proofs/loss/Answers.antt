@@ -34,7 +34,14 @@ returns-then-value-lt0 c =
     let s = c in
     let v = s.args.value in
     rw (to_z-of_z (overflow_sub-result c), to_z-of_z s.ranges.value, c.if-bit-eq0.true)
-    (omega (arith, parts v, parts (pos 0 -ℤ v), negated v, sum_parts (pos 0) (neg_ℤ v), less_parts v (pos 0) (rw (to_z-of_z s.ranges.value) at c.if-value-lt0.true)))
+    (omega (
+      arith,
+      parts v,
+      parts (pos 0 -ℤ v),
+      negated v,
+      sum_parts (pos 0) (neg_ℤ v),
+      less_parts v (pos 0) (rw (to_z-of_z s.ranges.value) at c.if-value-lt0.true),
+    ))
 
 pub returns-then-bit-eq0 : goal.returns-then-bit-eq0
 returns-then-bit-eq0 c =

@@ -28,7 +28,8 @@ returns c =
     let least = c.lesser in
     let is_most : most.result ≡ greater x y = rw (to_z-of_z s.ranges.x, to_z-of_z s.ranges.y) at most.ensures in
     let is-least : least.result ≡ lesser x y = least.ensures ∙ ap₂ lesser (to_z-of_z s.ranges.x) (to_z-of_z s.ranges.y) in
-    let turned = to_z-of_z {w = w32} (overflow_sub-turned ((goal.at.returns c).After-greater-turned)) ∙ ap (λ (z : ℤ). pos 0 -ℤ z) (to_z-of_z {w = w32} (record { sfits = most.type_inv }) ∙ is_most) in
+    let turned = to_z-of_z {w = w32} (overflow_sub-turned ((goal.at.returns c).After-greater-turned))
+    ∙ ap (λ (z : ℤ). pos 0 -ℤ z) (to_z-of_z {w = w32} (record { sfits = most.type_inv }) ∙ is_most) in
     to_z-of_z {w = w32} (record { sfits = c.greater.type_inv })
     ∙ c.greater.ensures
     ∙ ap₂ greater (to_z-of_z {w = w32} (record { sfits = least.type_inv }) ∙ is-least) turned

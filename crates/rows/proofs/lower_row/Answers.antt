@@ -56,7 +56,8 @@ loop-j-preserved c =
     let d = g.args.rows.now in
     let l = row_of (h + h) d in (
       omega arith,
-      lower-turn d o.rows l h o.j _ _ _ (omega arith) (length-row_of (h + h) d g.requires.0) (omega arith) (pair ((goal.at.loop-j-preserved c).After-y-1)) o.invariant.1
+      lower-turn d o.rows l h o.j _ _ _ (omega arith) (length-row_of (h + h) d g.requires.0) (omega arith)
+          (pair ((goal.at.loop-j-preserved c).After-y-1)) o.invariant.1
           (to_z-of_z {w = w32} (record { sfits = c.lower.type_inv }) ∙ c.lower.ensures),
       length-set o.rows _ _ ∙ o.invariant.2,
     )

@@ -8,7 +8,8 @@ use Rattle.rows.specs.Rows.{row_of}
 use Rattle.rows.proofs.upper_row.Given as goal
 
 abbrev pub invariant-loop-j : goal.invariant-loop-j
-invariant-loop-j l = (l.j ≤ l.h) × (l.rows ≡ paste l.initial.rows l.h (upper_row l.h (row_of (l.h + l.h) l.initial.rows) (take l.h l.word)) l.j) × (length l.rows ≡ length l.initial.rows)
+invariant-loop-j l = (l.j ≤ l.h) × (l.rows ≡ paste l.initial.rows l.h (upper_row l.h (row_of (l.h + l.h) l.initial.rows) (take l.h l.word)) l.j)
+    × (length l.rows ≡ length l.initial.rows)
 
 abbrev pub decreases-loop-j : goal.decreases-loop-j
 decreases-loop-j l = l.h - l.j

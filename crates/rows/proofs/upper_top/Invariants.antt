@@ -7,7 +7,8 @@ use Rattle.decoding.specs.Quick.{upper_row}
 use Rattle.rows.proofs.upper_top.Given as goal
 
 abbrev pub invariant-loop-j : goal.invariant-loop-j
-invariant-loop-j l = (l.j ≤ l.h) × (l.rows ≡ paste l.initial.rows l.h (upper_row l.h l.readings (take l.h l.word)) l.j) × (length l.rows ≡ length l.initial.rows)
+invariant-loop-j l = (l.j ≤ l.h) × (l.rows ≡ paste l.initial.rows l.h (upper_row l.h l.readings (take l.h l.word)) l.j)
+    × (length l.rows ≡ length l.initial.rows)
 
 abbrev pub decreases-loop-j : goal.decreases-loop-j
 decreases-loop-j l = l.h - l.j

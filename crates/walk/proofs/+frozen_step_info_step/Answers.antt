@@ -1,5 +1,6 @@
 -- The walk's two steps, which call each other in turn, meet their contracts.
-use Rattle.std.proofs.Common.{◌≡◌, ℕ, ◌+◌, ◌-◌, ◌^◌, ◌<◌, List, Bool, true, false, not, get_or, set, take, ap, ap₂, sym, ◌∙◌, subst, arith, ℤ, to_z, of_z, to_z-of_z, w32}
+use Rattle.std.proofs.Common.{◌≡◌, ℕ, ◌+◌, ◌-◌, ◌^◌, ◌<◌, List, Bool, true, false, not, get_or, set, take, ap, ap₂, sym, ◌∙◌, subst, arith, ℤ, to_z, of_z}
+use Rattle.std.proofs.Common.{to_z-of_z, w32}
 use Rattle.std.proofs.lemmas.Bool.{eqb-true}
 use Rattle.decoding.specs.Readings.{loss}
 use Rattle.decoding.specs.Quick.{hard}
@@ -77,7 +78,8 @@ frozen_step-loss-sum-requires t c =
     let given = c.value_at-value.ensures in
     let kind = c.if-kinds-i-ne0.false in
     let at : ℤ = value (get_or c.loop-rows.state 6 0) (front c.loop-rows.state c.args.readings.now) (take c.loop-rows.i c.loop-rows.path) in
-    let is : to_z w32 (of_z w32 c.value_at-value.result) ≡ at = to_z-of_z {w = w32} (record { sfits = c.value_at-value.type_inv }) ∙ value-is r.asked inside visited given in
+    let is : to_z w32 (of_z w32 c.value_at-value.result) ≡ at = to_z-of_z {w = w32} (record { sfits = c.value_at-value.type_inv })
+    ∙ value-is r.asked inside visited given in
     rw is (value_small r.asked.ready)
 
 pub frozen_step-overflow_add-sum : goal.frozen_step-overflow_add-sum
@@ -88,7 +90,8 @@ frozen_step-overflow_add-sum t c =
     let given = c.value_at-value.ensures in
     let kind = c.if-kinds-i-ne0.false in
     let at : ℤ = value (get_or c.loop-rows.state 6 0) (front c.loop-rows.state c.args.readings.now) (take c.loop-rows.i c.loop-rows.path) in
-    let is : to_z w32 (of_z w32 c.value_at-value.result) ≡ at = to_z-of_z {w = w32} (record { sfits = c.value_at-value.type_inv }) ∙ value-is r.asked inside visited given in
+    let is : to_z w32 (of_z w32 c.value_at-value.result) ≡ at = to_z-of_z {w = w32} (record { sfits = c.value_at-value.type_inv })
+    ∙ value-is r.asked inside visited given in
     let adds : c.loop-rows.sum + c.loss-sum.result ≡ c.loop-rows.sum + loss at 0 =
     ap (λ (n : ℕ). c.loop-rows.sum + n) (c.loss-sum.ensures ∙ ap (λ (v : ℤ). loss v 0) is) in
     record { fits = omega (arith, adds, sum_small r.asked.ready 0 inside (omega arith)) }
@@ -101,7 +104,8 @@ frozen_step-returns-then-dropped t c =
     let given = c.value_at-value.ensures in
     let kind = c.if-kinds-i-ne0.false in
     let at : ℤ = value (get_or c.loop-rows.state 6 0) (front c.loop-rows.state c.args.readings.now) (take c.loop-rows.i c.loop-rows.path) in
-    let is : to_z w32 (of_z w32 c.value_at-value.result) ≡ at = to_z-of_z {w = w32} (record { sfits = c.value_at-value.type_inv }) ∙ value-is r.asked inside visited given in
+    let is : to_z w32 (of_z w32 c.value_at-value.result) ≡ at = to_z-of_z {w = w32} (record { sfits = c.value_at-value.type_inv })
+    ∙ value-is r.asked inside visited given in
     let adds : c.loop-rows.sum + c.loss-sum.result ≡ c.loop-rows.sum + loss at 0 =
     ap (λ (n : ℕ). c.loop-rows.sum + n) (c.loss-sum.ensures ∙ ap (λ (v : ℤ). loss v 0) is) in
     let going = value_going r.asked inside visited given in
@@ -124,7 +128,8 @@ frozen_step-loop-rows-preserved t c =
     let given = c.value_at-value.ensures in
     let kind = c.if-kinds-i-ne0.false in
     let at : ℤ = value (get_or c.loop-rows.state 6 0) (front c.loop-rows.state c.args.readings.now) (take c.loop-rows.i c.loop-rows.path) in
-    let is : to_z w32 (of_z w32 c.value_at-value.result) ≡ at = to_z-of_z {w = w32} (record { sfits = c.value_at-value.type_inv }) ∙ value-is r.asked inside visited given in
+    let is : to_z w32 (of_z w32 c.value_at-value.result) ≡ at = to_z-of_z {w = w32} (record { sfits = c.value_at-value.type_inv })
+    ∙ value-is r.asked inside visited given in
     let adds : c.loop-rows.sum + c.loss-sum.result ≡ c.loop-rows.sum + loss at 0 =
     ap (λ (n : ℕ). c.loop-rows.sum + n) (c.loss-sum.ensures ∙ ap (λ (v : ℤ). loss v 0) is) in
     let going = value_going r.asked inside visited given in
@@ -159,7 +164,8 @@ info_step-loss-requires t c =
     let visited = may_visit (ap not c.if-not-visit.false) c.visit.ensures in
     let given = c.value_at-value.ensures in
     let at : ℤ = value (get_or c.args.state.now 6 0) (front c.args.state.now c.args.readings.now) (take c.args.i c.args.path.now) in
-    let is : to_z w32 (of_z w32 c.value_at-value.result) ≡ at = to_z-of_z {w = w32} (record { sfits = c.value_at-value.type_inv }) ∙ value-is a.0 a.1 visited given in
+    let is : to_z w32 (of_z w32 c.value_at-value.result) ≡ at = to_z-of_z {w = w32} (record { sfits = c.value_at-value.type_inv })
+    ∙ value-is a.0 a.1 visited given in
     rw is (value_small a.0.ready)
 
 pub info_step-overflow_add-after : goal.info_step-overflow_add-after
@@ -168,7 +174,8 @@ info_step-overflow_add-after t c =
     let visited = may_visit (ap not c.if-not-visit.false) c.visit.ensures in
     let given = c.value_at-value.ensures in
     let at : ℤ = value (get_or c.args.state.now 6 0) (front c.args.state.now c.args.readings.now) (take c.args.i c.args.path.now) in
-    let is : to_z w32 (of_z w32 c.value_at-value.result) ≡ at = to_z-of_z {w = w32} (record { sfits = c.value_at-value.type_inv }) ∙ value-is a.0 a.1 visited given in
+    let is : to_z w32 (of_z w32 c.value_at-value.result) ≡ at = to_z-of_z {w = w32} (record { sfits = c.value_at-value.type_inv })
+    ∙ value-is a.0 a.1 visited given in
     let first : c.hard-first.result ≡ hard at = c.hard-first.ensures.0 ∙ ap hard is in
     let other : c.args.penalty + c.loss.result ≡ c.args.penalty + loss at (1 - hard at) =
     ap (λ (n : ℕ). c.args.penalty + n) (c.loss.ensures ∙ ap₂ (λ (v : ℤ) (b : ℕ). loss v (1 - b)) is first) in
@@ -181,7 +188,8 @@ info_step-returns-then-not-visit_many t c =
     let visited = may_visit (ap not c.if-not-visit.false) c.visit.ensures in
     let given = c.value_at-value.ensures in
     let at : ℤ = value (get_or c.args.state.now 6 0) (front c.args.state.now c.args.readings.now) (take c.args.i c.args.path.now) in
-    let is : to_z w32 (of_z w32 c.value_at-value.result) ≡ at = to_z-of_z {w = w32} (record { sfits = c.value_at-value.type_inv }) ∙ value-is a.0 a.1 visited given in
+    let is : to_z w32 (of_z w32 c.value_at-value.result) ≡ at = to_z-of_z {w = w32} (record { sfits = c.value_at-value.type_inv })
+    ∙ value-is a.0 a.1 visited given in
     let first : c.hard-first.result ≡ hard at = c.hard-first.ensures.0 ∙ ap hard is in
     let other : c.args.penalty + c.loss.result ≡ c.args.penalty + loss at (1 - hard at) =
     ap (λ (n : ℕ). c.args.penalty + n) (c.loss.ensures ∙ ap₂ (λ (v : ℤ) (b : ℕ). loss v (1 - b)) is first) in
@@ -199,7 +207,8 @@ info_step-frozen_step-requires t c =
     let visited = may_visit (ap not c.if-not-visit.false) c.visit.ensures in
     let given = c.value_at-value.ensures in
     let at : ℤ = value (get_or c.args.state.now 6 0) (front c.args.state.now c.args.readings.now) (take c.args.i c.args.path.now) in
-    let is : to_z w32 (of_z w32 c.value_at-value.result) ≡ at = to_z-of_z {w = w32} (record { sfits = c.value_at-value.type_inv }) ∙ value-is a.0 a.1 visited given in
+    let is : to_z w32 (of_z w32 c.value_at-value.result) ≡ at = to_z-of_z {w = w32} (record { sfits = c.value_at-value.type_inv })
+    ∙ value-is a.0 a.1 visited given in
     let first : c.hard-first.result ≡ hard at = c.hard-first.ensures.0 ∙ ap hard is in
     let other : c.args.penalty + c.loss.result ≡ c.args.penalty + loss at (1 - hard at) =
     ap (λ (n : ℕ). c.args.penalty + n) (c.loss.ensures ∙ ap₂ (λ (v : ℤ) (b : ℕ). loss v (1 - b)) is first) in
@@ -222,7 +231,8 @@ info_step-returns-then-gone t c =
     let visited = may_visit (ap not c.if-not-visit.false) c.visit.ensures in
     let given = c.value_at-value.ensures in
     let at : ℤ = value (get_or c.args.state.now 6 0) (front c.args.state.now c.args.readings.now) (take c.args.i c.args.path.now) in
-    let is : to_z w32 (of_z w32 c.value_at-value.result) ≡ at = to_z-of_z {w = w32} (record { sfits = c.value_at-value.type_inv }) ∙ value-is a.0 a.1 visited given in
+    let is : to_z w32 (of_z w32 c.value_at-value.result) ≡ at = to_z-of_z {w = w32} (record { sfits = c.value_at-value.type_inv })
+    ∙ value-is a.0 a.1 visited given in
     let first : c.hard-first.result ≡ hard at = c.hard-first.ensures.0 ∙ ap hard is in
     let other : c.args.penalty + c.loss.result ≡ c.args.penalty + loss at (1 - hard at) =
     ap (λ (n : ℕ). c.args.penalty + n) (c.loss.ensures ∙ ap₂ (λ (v : ℤ) (b : ℕ). loss v (1 - b)) is first) in
@@ -242,7 +252,8 @@ info_step-frozen_step-requires-2 t c =
     let visited = may_visit (ap not c.if-not-visit.false) c.visit.ensures in
     let given = c.value_at-value.ensures in
     let at : ℤ = value (get_or c.args.state.now 6 0) (front c.args.state.now c.args.readings.now) (take c.args.i c.args.path.now) in
-    let is : to_z w32 (of_z w32 c.value_at-value.result) ≡ at = to_z-of_z {w = w32} (record { sfits = c.value_at-value.type_inv }) ∙ value-is a.0 a.1 visited given in
+    let is : to_z w32 (of_z w32 c.value_at-value.result) ≡ at = to_z-of_z {w = w32} (record { sfits = c.value_at-value.type_inv })
+    ∙ value-is a.0 a.1 visited given in
     let first : c.hard-first.result ≡ hard at = c.hard-first.ensures.0 ∙ ap hard is in
     let other : c.args.penalty + c.loss.result ≡ c.args.penalty + loss at (1 - hard at) =
     ap (λ (n : ℕ). c.args.penalty + n) (c.loss.ensures ∙ ap₂ (λ (v : ℤ) (b : ℕ). loss v (1 - b)) is first) in
@@ -261,7 +272,8 @@ info_step-returns-then-not-visit-2 t c =
     let visited = may_visit (ap not c.if-not-visit.false) c.visit.ensures in
     let given = c.value_at-value.ensures in
     let at : ℤ = value (get_or c.args.state.now 6 0) (front c.args.state.now c.args.readings.now) (take c.args.i c.args.path.now) in
-    let is : to_z w32 (of_z w32 c.value_at-value.result) ≡ at = to_z-of_z {w = w32} (record { sfits = c.value_at-value.type_inv }) ∙ value-is a.0 a.1 visited given in
+    let is : to_z w32 (of_z w32 c.value_at-value.result) ≡ at = to_z-of_z {w = w32} (record { sfits = c.value_at-value.type_inv })
+    ∙ value-is a.0 a.1 visited given in
     let first : c.hard-first.result ≡ hard at = c.hard-first.ensures.0 ∙ ap hard is in
     let other : c.args.penalty + c.loss.result ≡ c.args.penalty + loss at (1 - hard at) =
     ap (λ (n : ℕ). c.args.penalty + n) (c.loss.ensures ∙ ap₂ (λ (v : ℤ) (b : ℕ). loss v (1 - b)) is first) in
@@ -278,7 +290,8 @@ info_step-returns-then-dropped t c =
     let visited = may_visit (ap not c.if-not-visit.false) c.visit.ensures in
     let given = c.value_at-value.ensures in
     let at : ℤ = value (get_or c.args.state.now 6 0) (front c.args.state.now c.args.readings.now) (take c.args.i c.args.path.now) in
-    let is : to_z w32 (of_z w32 c.value_at-value.result) ≡ at = to_z-of_z {w = w32} (record { sfits = c.value_at-value.type_inv }) ∙ value-is a.0 a.1 visited given in
+    let is : to_z w32 (of_z w32 c.value_at-value.result) ≡ at = to_z-of_z {w = w32} (record { sfits = c.value_at-value.type_inv })
+    ∙ value-is a.0 a.1 visited given in
     let first : c.hard-first.result ≡ hard at = c.hard-first.ensures.0 ∙ ap hard is in
     let other : c.args.penalty + c.loss.result ≡ c.args.penalty + loss at (1 - hard at) =
     ap (λ (n : ℕ). c.args.penalty + n) (c.loss.ensures ∙ ap₂ (λ (v : ℤ) (b : ℕ). loss v (1 - b)) is first) in
@@ -298,7 +311,8 @@ info_step-frozen_step-requires-3 t c =
     let visited = may_visit (ap not c.if-not-visit.false) c.visit.ensures in
     let given = c.value_at-value.ensures in
     let at : ℤ = value (get_or c.args.state.now 6 0) (front c.args.state.now c.args.readings.now) (take c.args.i c.args.path.now) in
-    let is : to_z w32 (of_z w32 c.value_at-value.result) ≡ at = to_z-of_z {w = w32} (record { sfits = c.value_at-value.type_inv }) ∙ value-is a.0 a.1 visited given in
+    let is : to_z w32 (of_z w32 c.value_at-value.result) ≡ at = to_z-of_z {w = w32} (record { sfits = c.value_at-value.type_inv })
+    ∙ value-is a.0 a.1 visited given in
     let first : c.hard-first.result ≡ hard at = c.hard-first.ensures.0 ∙ ap hard is in
     let other : c.args.penalty + c.loss.result ≡ c.args.penalty + loss at (1 - hard at) =
     ap (λ (n : ℕ). c.args.penalty + n) (c.loss.ensures ∙ ap₂ (λ (v : ℤ) (b : ℕ). loss v (1 - b)) is first) in
@@ -323,7 +337,8 @@ info_step-returns t c =
     let visited = may_visit (ap not c.if-not-visit.false) c.visit.ensures in
     let given = c.value_at-value.ensures in
     let at : ℤ = value (get_or c.args.state.now 6 0) (front c.args.state.now c.args.readings.now) (take c.args.i c.args.path.now) in
-    let is : to_z w32 (of_z w32 c.value_at-value.result) ≡ at = to_z-of_z {w = w32} (record { sfits = c.value_at-value.type_inv }) ∙ value-is a.0 a.1 visited given in
+    let is : to_z w32 (of_z w32 c.value_at-value.result) ≡ at = to_z-of_z {w = w32} (record { sfits = c.value_at-value.type_inv })
+    ∙ value-is a.0 a.1 visited given in
     let first : c.hard-first.result ≡ hard at = c.hard-first.ensures.0 ∙ ap hard is in
     let other : c.args.penalty + c.loss.result ≡ c.args.penalty + loss at (1 - hard at) =
     ap (λ (n : ℕ). c.args.penalty + n) (c.loss.ensures ∙ ap₂ (λ (v : ℤ) (b : ℕ). loss v (1 - b)) is first) in

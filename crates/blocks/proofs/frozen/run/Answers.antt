@@ -20,9 +20,11 @@ fifteen c = sym c.fifteen_frozen.ensures ∙ not-false _ c.if-not-fifteen_frozen
 pub returns-then-kinds-i-eq0 : goal.returns-then-kinds-i-eq0
 returns-then-kinds-i-eq0 c =
     let g = c.args in
-    run-all (drop g.i g.kinds.now) (fifteen ((goal.at.returns-then-kinds-i-eq0 c).Else-not-fifteen_frozen)) (get_or-drop g.i g.kinds.now 15 0 ∙ c.if-kinds-i-eq0.true)
+    run-all (drop g.i g.kinds.now) (fifteen ((goal.at.returns-then-kinds-i-eq0 c).Else-not-fifteen_frozen))
+    (get_or-drop g.i g.kinds.now 15 0 ∙ c.if-kinds-i-eq0.true)
 
 pub returns : goal.returns
 returns c =
     let g = c.args in
-    run-early (drop g.i g.kinds.now) (fifteen ((goal.at.returns c).Else-not-fifteen_frozen)) (λ e. c.if-kinds-i-eq0.false (sym (get_or-drop g.i g.kinds.now 15 0) ∙ e))
+    run-early (drop g.i g.kinds.now) (fifteen ((goal.at.returns c).Else-not-fifteen_frozen))
+    (λ e. c.if-kinds-i-eq0.false (sym (get_or-drop g.i g.kinds.now 15 0) ∙ e))
