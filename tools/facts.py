@@ -109,6 +109,22 @@ def linked(text, where, files=(), crates=(), ending=".antt"):
     return re.sub(r"`([^`]+)`", lambda found: f"[{found[0]}](../{targets[found[1]]})" if found[1] in targets else found[0], text)
 
 
+def wrapped(page):
+    """The page with no line above 160 characters, as its source is: links are what make them long, and none is broken."""
+    out = []
+    for line in page.split("\n"):
+        inner = " " * len(re.match(r" *(?:- )?", line)[0])
+        while len(line) > 160:
+            # a space in a link's name, or in code, is no place to break at
+            spaces = [space.start() for space in re.finditer(r"\[[^\]]*\]|`[^`]*`| ", line) if space[0] == " " and len(inner) < space.start() <= 160]
+            if line.startswith("#") or not spaces:
+                break
+            out.append(line[: spaces[-1]])
+            line = inner + line[spaces[-1] + 1 :]
+        out.append(line)
+    return "\n".join(out)
+
+
 def demand_sentences():
     """The sentences of the three demands, by number: 1.1, 1.2 .."""
     section = re.search(r"^## The three demands\n(.*?)^## ", read("docs/RULES.md"), re.M | re.S)[1]
@@ -125,7 +141,7 @@ def theorems():
         where = f"docs/theorems.txt: {block[:62]}"
         number = re.fullmatch(r"### (\d\.\d)", block)
         if number:
-            block += " " + (sentences.pop(number[1], "") or sys.exit(f"{where}: the demands have no such sentence"))
+            block += "\n\n" + (sentences.pop(number[1], "") or sys.exit(f"{where}: the demands have no such sentence"))
         files = " ".join(re.findall(r"\n  @ (.*)", block)).split()
         head, equals, stated = re.sub(r"\n  @ .*", "", block).partition("\n  = ")
         if block.startswith("- ") and not equals:
@@ -133,7 +149,7 @@ def theorems():
         out.append(f"{head}\n  - {linked(stated, where, files)}" if equals else block)
     if sentences:
         sys.exit(f"docs/theorems.txt: nothing states sentence {' '.join(sentences)} of the demands")
-    return "<!-- Written by tools/figures --write from docs/theorems.txt. -->\n" + "\n".join(out)
+    return wrapped("<!-- Written by tools/figures --write from docs/theorems.txt. -->\n" + "\n".join(out))
 
 
 def run_by(heads, exported, where):
@@ -184,7 +200,7 @@ def promises():
     missing = [name for name in {*public_calls(), *exported} if not {name, name.split("::")[1]} & {*said, *calls}]
     if missing:
         sys.exit(f"docs/promises.txt: no section has {' '.join(sorted(missing))}")
-    return "<!-- Written by tools/figures --write from docs/promises.txt. -->\n" + "\n".join(out)
+    return wrapped("<!-- Written by tools/figures --write from docs/promises.txt. -->\n" + "\n".join(out))
 
 
 if __name__ == "__main__":
