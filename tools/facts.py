@@ -76,7 +76,10 @@ def linked(text, where, files=(), crates=(), ending=".antt"):
     """The text with each name in code marks as a link. A name that is defined in several files is a field of the record named before it, or one in the
     files given, in those of the other names, or in the crates given. A function may have the name of a definition: the ending tells which is meant."""
     marked = re.findall(r"`([^`]+)`", text)
-    names = [name for name in marked if "/" not in name and name != "requires" and not paths(f"crates/{name}")]
+    # a crate's name is that of something in it where a file is given that defines it
+    listing = {f"crates/{file}" for file in files}
+    crate = {name for name in marked if paths(f"crates/{name}") and not any(place.path in listing for place in candidates(name))}
+    names = [name for name in marked if "/" not in name and name != "requires" and name not in crate]
     meant = [[place for place in candidates(name) if place.path.endswith(ending)] or candidates(name) for name in names]
     known = {places[0].path for places in meant if len(places) == 1}
     known |= {f"crates/{path}" for path in marked if "/" in path}
