@@ -1,5 +1,5 @@
 """The rules (docs/RULES.md) in plain Python, by their text alone and sharing nothing with the crates: the code, penalties, values and the walk.
-For tests/program_reference.py and for the tests of the Python package."""
+For tests/program_reference.py; the tests of the Python package have a reference of their own, python/tests/reference.py."""
 import functools
 
 

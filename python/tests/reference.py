@@ -1,22 +1,25 @@
-"""All words in NumPy, and the walk and the quick reading of tests/rules.py: by the rules, without
-the package."""
+"""The rules (docs/RULES.md) once more in NumPy, by their definitions, without the package."""
 
-import os
-import sys
 from functools import lru_cache
 from itertools import product
-from pathlib import Path
 
 import numpy as np
 
-TOP = Path(os.environ.get("CINORBIS_TOP", Path(__file__).parents[2]))
-sys.path.insert(0, str(TOP / "tests"))
-import rules  # noqa: E402
-
 
 def kinds(r, m, named=None):
-    """The information indices."""
-    return [i for i, kind in enumerate(rules.information(r, m, named)) if kind]
+    """The information indices (§1.1), less the named ones (§15)."""
+    return [
+        i
+        for i in range(1 << m)
+        if bin(i).count("1") >= m - r and not (named is not None and named[i])
+    ]
+
+
+def word_of(m, u):
+    n = 1 << m
+    return np.array(
+        [sum(int(u[i]) for i in range(n) if i & j == j) % 2 for j in range(n)], np.uint8
+    )
 
 
 @lru_cache(None)
@@ -45,19 +48,69 @@ def best(r, m, readings, named=None):
     return bits[at], words[at], int(order[0]), int(order[1] - order[0])
 
 
-def walk(r, m, readings, named=None):
-    """What is held at the end as [(penalty, path)], the visits, and whether a value was 0 at an
-    information index."""
-    ended = rules.Walk([int(x) for x in readings], rules.information(r, m, named), 1 << 40)
-    return ended.held, ended.visits, ended.zero
+def value(readings, path):
+    """The value at index len(path), by the steps of §4."""
+    n = len(readings)
+    if n == 1:
+        return readings[0]
+    low, high = readings[: n // 2], readings[n // 2 :]
+    if len(path) < n // 2:
+        return value(
+            [
+                min(abs(x), abs(y)) * (1 if (x < 0) == (y < 0) else -1) if x and y else 0
+                for x, y in zip(low, high)
+            ],
+            path,
+        )
+    a = word_of(n.bit_length() - 2, path[: n // 2])
+    return value([y - x if bit else y + x for x, y, bit in zip(low, high, a)], path[n // 2 :])
+
+
+def walk(r, m, readings, allowed=1 << 40, named=None):
+    """§5: what is held at the end as [(penalty, path)], the visits (None: out of them), and
+    whether a value was 0 at an information index."""
+    readings, information = [int(x) for x in readings], set(kinds(r, m, named))
+    held, visits, zero = [], 0, False
+    stack = [(0, [], None)]
+    while stack:
+        loss, path, bit = stack.pop()
+        if bit is not None:
+            if visits == allowed:
+                return held, None, zero
+            visits += 1
+            if len(held) == 2 and loss >= held[1][0]:
+                continue
+            path = path + [bit]
+        if len(path) == 1 << m:
+            if not held or loss < held[0][0]:
+                held = [(loss, path)] + held[:1]
+            else:
+                held = [held[0], (loss, path)]
+            continue
+        here = value(readings, path)
+        first = int(here < 0) if len(path) in information else 0
+        zero |= here == 0 and len(path) in information
+
+        def extended(b):
+            return (
+                loss + (abs(here) if (here > 0 and b == 1) or (here < 0 and b == 0) else 0),
+                path,
+                b,
+            )
+
+        if len(path) in information:
+            stack.append(extended(1 - first))
+        stack.append(extended(first))
+    return held, visits, zero
 
 
 def quick(r, m, readings, named=None):
-    """(bits, word, penalty) of the quick reading."""
-    value, path = rules.value_from([int(x) for x in readings]), []
-    information = rules.information(r, m, named)
-    for kind in information:
-        path.append(int(value(path) < 0) if kind else 0)
-    bits = np.array([bit for bit, kind in zip(path, information) if kind], np.uint8)
-    word = np.array(rules.word_of(path, m), np.uint8)
-    return bits, word, int(penalty(readings, word))
+    path, information = [], set(kinds(r, m, named))
+    for i in range(1 << m):
+        path.append(int(value([int(x) for x in readings], path) < 0) if i in information else 0)
+    word = word_of(m, path)
+    return (
+        np.array([path[i] for i in sorted(information)], np.uint8),
+        word,
+        int(penalty(readings, word)),
+    )
