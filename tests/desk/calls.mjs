@@ -8,7 +8,8 @@ import { layout } from '../../desk/src/columns.mjs';
 import { countInto, counting, listing, nextTrouble, noCounts, whole }
     from '../../desk/src/filter.mjs';
 import { hundredthsOf, readingsOf } from '../../desk/src/hand.mjs';
-import { REFUSAL, VERSION } from '../../desk/src/header.mjs';
+import { DEFAULT_ALLOWANCE, LARGEST_M, LARGEST_READING, LARGEST_RECORD_READING, REFUSAL, VERSION }
+    from '../../desk/src/header.mjs';
 import { ALLOWANCE, Library } from '../../desk/src/library.mjs';
 import { against, bar, lettering } from '../../desk/src/picture.mjs';
 import { heading, headline } from '../../desk/src/record.mjs';
@@ -19,6 +20,7 @@ import { REFUSALS, degrees, group, numberOf, percent, messageText }
     from '../../desk/src/words.mjs';
 
 const [moduleFile, captures, made] = process.argv.slice(2);
+const header = readFileSync(new URL('../../include/cinorbis.h', import.meta.url), 'utf8');
 const module = new WebAssembly.Module(readFileSync(moduleFile));
 let passed = 0;
 let failed = 0;
@@ -34,6 +36,7 @@ function fact(what, got, expected = true) {
     if (failed <= 20) console.log(`${what}: ${short(a)}, expected ${short(b)}`);
 }
 
+const defined = (name) => Number(new RegExp(`CINORBIS_${name}\\b[ =]+(\\d+)`).exec(header)[1]);
 const library = new Library(module, VERSION);
 const read = (name) => new Uint8Array(readFileSync(name));
 const textOf = (parts) => Array.from(parts).join('');
@@ -47,11 +50,19 @@ try {
     refusedVersion = fault.message;
 }
 fact('another version', refusedVersion.startsWith('The decoder is of version'));
+fact('the version', VERSION, defined('VERSION'));
+for (const [name, number] of Object.entries(REFUSAL)) fact(name, number, defined(name));
+fact('the largest m', LARGEST_M, defined('LARGEST_M'));
+fact('the largest reading', LARGEST_READING, defined('LARGEST_READING'));
+fact('the largest reading of a record', LARGEST_RECORD_READING, defined('LARGEST_RECORD_READING'));
+fact('the allowance of a search', DEFAULT_ALLOWANCE, defined('DEFAULT_ALLOWANCE'));
 fact('imports', WebAssembly.Module.imports(module), []);
 const reader = fileURLToPath(new URL('../../tools/header.py', import.meta.url));
 const declared = execFileSync(reader, ['calls'], { encoding: 'utf8' }).trim().split('\n');
 const exported = WebAssembly.Module.exports(module).map((x) => x.name);
 fact('exports', exported.sort(), [...declared, '__heap_base', 'memory'].sort());
+const marked = [...header.matchAll(/^CINORBIS_CALL .*?(cinorbis_\w+)\(/gm)].map((x) => x[1]);
+fact('the calls that are declared', marked.sort(), declared.sort());
 for (const number of [1, 6, 7, 8, 9, 13, 14, 15]) {
     fact(`words for ${number}`, Object.values(REFUSALS[number] || {}).length, 3);
 }
