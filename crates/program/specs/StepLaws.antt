@@ -20,7 +20,7 @@ use Rattle.search.specs.DemandsMet.{sound_answered}
 use Rattle.record.specs.declared.Header.{Header}
 use Rattle.record.specs.declared.Header.TheVariants.{Record, Refused}
 use Rattle.record.specs.Reader.{readings_of, header_of}
-use Rattle.record.specs.ReaderLaws.{header_record, length-readings_of}
+use Rattle.record.specs.ReaderLaws.{framed_record, length-readings_of}
 use Rattle.record.specs.Accepted.{readings_allowed}
 use Rattle.record.specs.Searching.{searching_by}
 use Rattle.program.specs.Program as program
@@ -49,7 +49,7 @@ module _ (s : List ℕ) (c : Code) (bits word bits₀ word₀ : List ℕ) (h : h
     (long_bits : length bits₀ ≡ dimension c.r c.m) (long_word : length word₀ ≡ 2 ^ c.m) where
   is_sound : SoundSearch c.r c.m (readings_of c s) bits₀ word₀
   is_sound =
-      let f = header_record s c h in
+      let f = framed_record s c h in
       record {
         sound = f.sound;
         long_bits = long_bits;

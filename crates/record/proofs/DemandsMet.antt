@@ -25,7 +25,7 @@ use Rattle.packing.specs.Layout.{part_length, pad_of}
 use Rattle.record.specs.declared.Header.{Header}
 use Rattle.record.specs.declared.Header.TheVariants.{Record, Refused}
 use Rattle.record.specs.Reader.{part_of, readings_of, headed_by, header_of, outcome_of}
-use Rattle.record.specs.ReaderLaws.{header_torn, header_pad, header_whole, header_record, length-readings_of}
+use Rattle.record.specs.ReaderLaws.{frame_torn, frame_pad, frame_whole, framed_record, length-readings_of}
 use Rattle.record.specs.Searching.{searching_by, searching_record, searching_with_runner_up_by}
 use Rattle.record.specs.Accepted.{readings_allowed}
 use Rattle.record.specs.Demands.{said_r, said_m, header_checks, header_view, HeaderDemand1, record_checks, RecordDemand1, RecordLargerAllowance, Never4}
@@ -52,12 +52,12 @@ module _ (before : List (List ℕ)) (o : View) (rest : Checks) where
       inr (
         λ x. ⊎_elim (λ y. omega arith) (λ y. omega arith) x,
         ⊎_elim
-            (λ torn. inl (torn, stop Torn (by ∙ header_torn c s (omega arith))))
+            (λ torn. inl (torn, stop Torn (by ∙ frame_torn c s (omega arith))))
             (λ whole. inr (
               λ x. omega arith,
               elim (ℕ_discrete (pad_of m (part_of c s)) 0) [
-                | no pad ↦ inl (pad, stop Pad (by ∙ header_pad c s (omega arith) pad))
-                | yes clear ↦ inr (λ f. f clear, then sound whole (by ∙ header_whole c s (omega arith) clear))
+                | no pad ↦ inl (pad, stop Pad (by ∙ frame_pad c s (omega arith) pad))
+                | yes clear ↦ inr (λ f. f clear, then sound whole (by ∙ frame_whole c s (omega arith) clear))
               ],
             ))
             (lt_or_le (length s) (suc (part_length m))),
@@ -75,7 +75,7 @@ header_decides s =
 header_said : (s : List ℕ) (h : Header) → header_of s ≡ h → (outcome_of h).carry.number ≡ 0 → ((outcome_of h).r ≡ said_r s) × ((outcome_of h).m ≡ said_m s)
 header_said s (Refused why) is e = absurd (omega (arith, number_above why))
 header_said s (Record c) is e =
-    let same = (made_of (said_r s) (said_m s) c (header_record s c is).said).same in
+    let same = (made_of (said_r s) (said_m s) c (framed_record s c is).said).same in
     (ap (λ (d : Code). d.r) same, ap (λ (d : Code). d.m) same)
 
 pub header_none : (h : Header) → 0 < (outcome_of h).carry.number → ((outcome_of h).r ≡ 0) × ((outcome_of h).m ≡ 0)

@@ -12,7 +12,7 @@ use Rattle.record.specs.declared.Header.TheVariants.{Record}
 use Rattle.packing.specs.Layout.{bytes, nibbles, spread, NoRail, record_of, packed, unpacked, part_length, pad_of}
 use Rattle.packing.specs.LayoutLaws.{Below, unpacked-packed, packed-unpacked, unpacked_within, length-packed}
 use Rattle.record.specs.Reader.{code_of, part_of, readings_of, header_of, part_by}
-use Rattle.record.specs.ReaderLaws.{Headed, header_record, header_by, header_whole, length-readings_of, length_part}
+use Rattle.record.specs.ReaderLaws.{Framed, framed_record, frame_by, frame_whole, length-readings_of, length_part}
 
 -- the bytes s are a record of the code c with the readings l, and then the bytes after
 pub record Begins (s : List ℕ) (c : Code) (l : List ℤ) (after : List ℕ) : Type 0 where
@@ -53,8 +53,8 @@ module _ (s : List ℕ) (c : Code) (l : List ℤ) (after : List ℕ) (b : Begins
   -- bytes that begin with a record are accepted
   pub begins_accepted : header_of s ≡ Record c
   begins_accepted =
-      header_by s (Good c) (λ z. omega (arith, long, z)) begins_said
-      ∙ header_whole c s (omega (arith, long)) (ap (pad_of c.m) begins_part ∙ packed_clear c.m l b.count)
+      frame_by s (Good c) (λ z. omega (arith, long, z)) begins_said
+      ∙ frame_whole c s (omega (arith, long)) (ap (pad_of c.m) begins_part ∙ packed_clear c.m l b.count)
 
   -- and their packed part is handed back
   pub begins_handed_back : part_by (header_of s) s ≡ packed l
@@ -79,7 +79,7 @@ pub readings_allowed : (c : Code) (s : List ℕ) → Within largest_reading (rea
 readings_allowed c s i = omega (arith, readings_within c s i)
 
 -- the packed part's readings, written again
-written : (s : List ℕ) (c : Code) → Below 256 s → Headed s c → NoRail (nibbles (part_of c s))
+written : (s : List ℕ) (c : Code) → Below 256 s → Framed s c → NoRail (nibbles (part_of c s))
     → s ≡ record_of c.r c.m (readings_of c s) ++ drop (suc (part_length c.m)) s
 unfolding record_of packed
 written [] c h f n = absurd (omega (arith, f.whole))
@@ -93,7 +93,7 @@ written (first ∷ t) c h f n =
 pub accepted_begins : (s : List ℕ) (c : Code) → Below 256 s → header_of s ≡ Record c → NoRail (nibbles (part_of c s))
     → Begins s c (readings_of c s) (drop (suc (part_length c.m)) s)
 accepted_begins s c h e n =
-    let f = header_record s c e in
+    let f = framed_record s c e in
     record {
       sound = f.sound;
       count = length-readings_of c s f.whole;

@@ -15,10 +15,10 @@ use Rattle.code.specs.declared.Refusal.TheVariants.{Parameters, Torn}
 use Rattle.record.specs.declared.Header.TheVariants.{Record, Refused}
 use Rattle.packing.specs.Layout.{unpacked, part_length}
 use Rattle.record.specs.Reader.{code_of, length_by, part_of, readings_of, headed_by, header_of}
-use Rattle.record.specs.ReaderLaws.{part_small, header_torn, header_record}
+use Rattle.record.specs.ReaderLaws.{part_small, frame_torn, framed_record}
 
 pub header_sound : (s : List ℕ) (c : Code) → header_of s ≡ Record c → Sound c
-header_sound s c h = (header_record s c h).sound
+header_sound s c h = (framed_record s c h).sound
 
 length_by_lem : (first : ℕ) (k : Made) → code_of first ≡ k → length_by k ≤ 385
 length_by_lem first Bad e = omega arith
@@ -36,7 +36,7 @@ there_by : (first : ℕ) (s : List ℕ) (k : Made) → code_of first ≡ k
     → (headed_by k (first ∷ s) ≡ Refused Parameters → ⊥) → (headed_by k (first ∷ s) ≡ Refused Torn → ⊥) → (0 < length_by k) × (length_by k ≤ suc (length s))
 there_by first s Bad e p t = absurd (p refl)
 there_by first s (Good c) e p t =
-    ⊎_elim (λ k. absurd (t (header_torn c (first ∷ s) k))) (λ k. (omega arith, omega arith)) (lt_or_le (length (first ∷ s) - 1) (part_length c.m))
+    ⊎_elim (λ k. absurd (t (frame_torn c (first ∷ s) k))) (λ k. (omega arith, omega arith)) (lt_or_le (length (first ∷ s) - 1) (part_length c.m))
 
 -- if the header is refused neither as 1 nor as 8
 pub header_there : (s : List ℕ) → (header_of s ≡ Refused Parameters → ⊥) → (header_of s ≡ Refused Torn → ⊥) → There s
@@ -51,9 +51,9 @@ part-before : (c : Code) (s rest : List ℕ) → suc (part_length c.m) ≤ lengt
 part-before c [] rest h = absurd (omega arith)
 part-before c (first ∷ s) rest h = take-append-le (part_length c.m) s rest (omega arith)
 
-header_of-before : (first : ℕ) (s rest : List ℕ) (k : Made) → length_by k ≤ suc (length s) → headed_by k (first ∷ (s ++ rest)) ≡ headed_by k (first ∷ s)
-header_of-before first s rest Bad h = refl
-header_of-before first s rest (Good c) h =
+framed_before : (first : ℕ) (s rest : List ℕ) (k : Made) → length_by k ≤ suc (length s) → headed_by k (first ∷ (s ++ rest)) ≡ headed_by k (first ∷ s)
+framed_before first s rest Bad h = refl
+framed_before first s rest (Good c) h =
     let n = part_length c.m in
     rw (
       part-before c (first ∷ s) rest h,
@@ -69,7 +69,7 @@ module _ (s rest : List ℕ) where
     where
       before : (s : List ℕ) → 0 < length s → length_by (code_of (get_or s 0 0)) ≤ length s → header_of (s ++ rest) ≡ header_of s
       before [] h n = absurd (omega arith)
-      before (first ∷ s) h n = header_of-before first s rest (code_of first) n
+      before (first ∷ s) h n = framed_before first s rest (code_of first) n
 
   pub readings_before : (c : Code) → header_of s ≡ Record c → readings_of c (s ++ rest) ≡ readings_of c s
-  readings_before c h = ap unpacked (part-before c s rest (header_record s c h).whole)
+  readings_before c h = ap unpacked (part-before c s rest (framed_record s c h).whole)

@@ -20,14 +20,14 @@ part_small c s = omega (arith, length_most s)
 
 -- the three answers of a header, by its tests
 module _ (c : Code) (s : List ℕ) where
-  pub header_torn : length s - 1 < part_length c.m → headed_by (Good c) s ≡ Refused Torn
-  header_torn h = rw (lt-ltb (length s - 1) (part_length c.m) h)
+  pub frame_torn : length s - 1 < part_length c.m → headed_by (Good c) s ≡ Refused Torn
+  frame_torn h = rw (lt-ltb (length s - 1) (part_length c.m) h)
 
-  pub header_pad : part_length c.m ≤ length s - 1 → (pad_of c.m (part_of c s) ≡ 0 → ⊥) → headed_by (Good c) s ≡ Refused Pad
-  header_pad h z = rw (le-ltb (length s - 1) (part_length c.m) h, ne_eqb (pad_of c.m (part_of c s)) 0 z)
+  pub frame_pad : part_length c.m ≤ length s - 1 → (pad_of c.m (part_of c s) ≡ 0 → ⊥) → headed_by (Good c) s ≡ Refused Pad
+  frame_pad h z = rw (le-ltb (length s - 1) (part_length c.m) h, ne_eqb (pad_of c.m (part_of c s)) 0 z)
 
-  pub header_whole : part_length c.m ≤ length s - 1 → pad_of c.m (part_of c s) ≡ 0 → headed_by (Good c) s ≡ Record c
-  header_whole h z = rw (le-ltb (length s - 1) (part_length c.m) h, eq-eqb (pad_of c.m (part_of c s)) 0 z)
+  pub frame_whole : part_length c.m ≤ length s - 1 → pad_of c.m (part_of c s) ≡ 0 → headed_by (Good c) s ≡ Record c
+  frame_whole h z = rw (le-ltb (length s - 1) (part_length c.m) h, eq-eqb (pad_of c.m (part_of c s)) 0 z)
 
 -- the pad bits, as the code looks at them
 pub pad_third : (m : ℕ) (s : List ℕ) → m ≡ 0 → pad_of m (take (part_length m) (drop 1 s)) ≡ get_or s 2 0 % 16
@@ -45,43 +45,43 @@ unfolding part_length
 part_of-one m e = rw e
 
 -- what is reported for bytes whose header is accepted
-pub record Headed (s : List ℕ) (c : Code) : Type 0 where
+pub record Framed (s : List ℕ) (c : Code) : Type 0 where
   pub said : code_of (get_or s 0 0) ≡ Good c
   pub sound : Sound c
   pub whole : suc (part_length c.m) ≤ length s
   pub clear : pad_of c.m (part_of c s) ≡ 0
 
-header_record_by : (first : ℕ) (s : List ℕ) (c : Code) (k : Made) → code_of first ≡ k → headed_by k (first ∷ s) ≡ Record c → Headed (first ∷ s) c
-header_record_by first s c Bad q e = let z : ◌≡◌ {A = ℕ} 0 1 = cc in absurd (omega arith)
-header_record_by first s c (Good d) q e =
+framed_by : (first : ℕ) (s : List ℕ) (c : Code) (k : Made) → code_of first ≡ k → headed_by k (first ∷ s) ≡ Record c → Framed (first ∷ s) c
+framed_by first s c Bad q e = let z : ◌≡◌ {A = ℕ} 0 1 = cc in absurd (omega arith)
+framed_by first s c (Good d) q e =
     let t = first ∷ s in
     ⊎_elim
-    (λ k. let z : ◌≡◌ {A = ℕ} 0 1 = cc (header_torn d t k) in absurd (omega arith))
+    (λ k. let z : ◌≡◌ {A = ℕ} 0 1 = cc (frame_torn d t k) in absurd (omega arith))
     (λ k.
     ⊎_elim
-    (λ n. let z : ◌≡◌ {A = ℕ} 0 1 = cc (header_pad d t k (λ w. omega (arith, w))) in absurd (omega arith))
+    (λ n. let z : ◌≡◌ {A = ℕ} 0 1 = cc (frame_pad d t k (λ w. omega (arith, w))) in absurd (omega arith))
     (λ n.
     let z : pad_of d.m (part_of d t) ≡ 0 = omega arith in
-    let same : d ≡ c = cc (header_whole d t k z) in
-    subst (Headed t) same (record { said = q; sound = (made_of (first % 16) (first / 16) d q).sound; whole = omega arith; clear = z }))
+    let same : d ≡ c = cc (frame_whole d t k z) in
+    subst (Framed t) same (record { said = q; sound = (made_of (first % 16) (first / 16) d q).sound; whole = omega arith; clear = z }))
     (lt_or_le 0 (pad_of d.m (part_of d t))))
     (lt_or_le (length t - 1) (part_length d.m))
 
-pub header_record : (s : List ℕ) (c : Code) → header_of s ≡ Record c → Headed s c
+pub framed_record : (s : List ℕ) (c : Code) → header_of s ≡ Record c → Framed s c
 unfolding header_of
-header_record [] c e = let z : ◌≡◌ {A = ℕ} 0 1 = cc in absurd (omega arith)
-header_record (first ∷ s) c e = header_record_by first s c (code_of first) refl e
+framed_record [] c e = let z : ◌≡◌ {A = ℕ} 0 1 = cc in absurd (omega arith)
+framed_record (first ∷ s) c e = framed_by first s c (code_of first) refl e
 
 -- the answers of the first test, and by the first byte
-pub header_empty : (s : List ℕ) → length s ≡ 0 → header_of s ≡ Refused Torn
+pub frame_empty : (s : List ℕ) → length s ≡ 0 → header_of s ≡ Refused Torn
 unfolding header_of
-header_empty [] e = refl
-header_empty (first ∷ s) e = absurd (omega arith)
+frame_empty [] e = refl
+frame_empty (first ∷ s) e = absurd (omega arith)
 
-pub header_by : (s : List ℕ) (k : Made) → (length s ≡ 0 → ⊥) → code_of (get_or s 0 0) ≡ k → header_of s ≡ headed_by k s
+pub frame_by : (s : List ℕ) (k : Made) → (length s ≡ 0 → ⊥) → code_of (get_or s 0 0) ≡ k → header_of s ≡ headed_by k s
 unfolding header_of
-header_by [] k h q = absurd (h refl)
-header_by (first ∷ s) k h q = ap (λ (k : Made). headed_by k (first ∷ s)) q
+frame_by [] k h q = absurd (h refl)
+frame_by (first ∷ s) k h q = ap (λ (k : Made). headed_by k (first ∷ s)) q
 
 -- the packed part as the code takes it, and its readings
 pub part_taken : (c : Code) (s : List ℕ) (k : ℕ) → k ≡ part_length c.m → take ((1 + k) - 1) (drop 1 s) ≡ part_of c s

@@ -14,7 +14,7 @@ use Rattle.code.specs.Sound.{largest_reading, largest_record_reading}
 use Rattle.code.specs.SoundLaws.{length_most}
 use Rattle.record.specs.declared.Header.TheVariants.{Record}
 use Rattle.record.specs.Reader.{readings_of, header_of}
-use Rattle.record.specs.ReaderLaws.{header_record, length-readings_of}
+use Rattle.record.specs.ReaderLaws.{framed_record, length-readings_of}
 use Rattle.record.specs.Accepted.{readings_within}
 
 -- for at most 256 readings up to `largest`: nothing is above `most`
@@ -73,7 +73,7 @@ record_readings_most = sizes_most largest_record_reading
 pub running_sum_record : (p : List ℕ) (c : Code) → header_of p ≡ Record c
     → (s : List Step) (i : ℕ) → nat_abs (get_or (sums_after (readings_of c p) s) i (pos 0)) ≤ 524032
 running_sum_record p c is s i =
-    let f = header_record p c is in
+    let f = framed_record p c is in
     let most = running_sum_most largest_record_reading (readings_of c p) (readings_within c p) s i in
     omega (arith, most, length-readings_of c p f.whole, length_most f.sound)
 

@@ -17,7 +17,7 @@ use Rattle.packing.specs.Layout.{nibbles, NoRail, record_of, packed}
 use Rattle.packing.specs.LayoutLaws.{Below, length_record}
 use Rattle.record.specs.Reader.{code_of, length_by, part_of, readings_of, header_of, part_by}
 use Rattle.record.specs.Accepted.{Begins, begins_accepted, begins_readings, begins_handed_back, begins_said, accepted_begins, readings_within}
-use Rattle.record.specs.ReaderLaws.{header_record, length-readings_of}
+use Rattle.record.specs.ReaderLaws.{framed_record, length-readings_of}
 use Rattle.record.specs.Writing.{WrittenOutcome, outcome_of, writable, written_by, writing}
 use Rattle.record.specs.WritingLaws.{Writable, allowed_writable, writable_allowed}
 
@@ -135,7 +135,7 @@ module _ (s : List ℕ) (c : Code) (e : header_of s ≡ Record c) where
 
   asks : (d : List ℕ) (place : ℕ) → place + k ≤ length d → Asked c.r c.m l d place
   asks d place h =
-      let f = header_record s c e in
+      let f = framed_record s c e in
       let count = length-readings_of c s f.whole in
       record { sound = f.sound; long = count; within = readings_within c s; room = omega (arith, length_record c.r c.m l count) }
 
@@ -144,7 +144,7 @@ module _ (s : List ℕ) (c : Code) (e : header_of s ≡ Record c) where
       let a = asks d place h in rw (asked_writes c.r c.m l d place a) (read_done c.r c.m l d place a)
 
   pub accepted_long : k ≤ length s
-  accepted_long = (header_record s c e).whole
+  accepted_long = (framed_record s c e).whole
 
   -- and if no field is the bottom rail, the same bytes
   module _ (bytes : Below 256 s) (none : NoRail (nibbles (part_of c s))) where

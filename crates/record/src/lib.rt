@@ -48,7 +48,7 @@ pub fn record_length(first: u8) -> usize
 }
 
 // Whether all bytes of the record are there, and its pad bits are 0.
-fn header_for(s: &[u8], code: Code) -> Header
+fn framed(s: &[u8], code: Code) -> Header
     requires { Sound code × (0 < length s.now) }
     ensures { result ≡ headed_by (Made.Good code) s.now }
 {
@@ -64,14 +64,14 @@ fn header_for(s: &[u8], code: Code) -> Header
 }
 
 // The refusals 1, 8 and 9.
-fn read_header(s: &[u8]) -> Header
+fn frame(s: &[u8]) -> Header
     ensures { result ≡ header_of s.now }
 {
     if s.len() == 0 {
         return Header::Refused(Refusal::Torn);
     }
     match code_of(s[0]) {
-        Made::Good(code) => header_for(s, code),
+        Made::Good(code) => framed(s, code),
         Made::Bad => Header::Refused(Refusal::Parameters),
     }
 }
@@ -80,7 +80,7 @@ fn read_header(s: &[u8]) -> Header
 pub fn header_of(s: &[u8]) -> Header
     ensures { outcome_of result ≡ outcome_of (header_of s.now) }
 {
-    read_header(s)
+    frame(s)
 }
 
 // The part of the bytes that holds the packed values: all of the record's bytes after its first.
@@ -88,7 +88,7 @@ pub fn header_of(s: &[u8]) -> Header
 pub fn packed(s: &[u8]) -> &[u8]
     ensures { result.now ≡ part_by (header_of s.now) s.now }
 {
-    match read_header(s) {
+    match frame(s) {
         Header::Record(code) => {
             let end = 1 + packing::part_length(code);
             &s[1..end]
@@ -103,7 +103,7 @@ pub fn search_record(s: &[u8], allowed: u32, bits: &mut [u8], word: &mut [u8]) -
         ≡ searching_record_with_runner_up allowed s.now
         bits.old word.old }
 {
-    match read_header(s) {
+    match frame(s) {
         Header::Record(code) => search_framed(s, code, allowed, bits, word),
         Header::Refused(why) => WithRunnerUp::refused(why),
     }

@@ -21,7 +21,7 @@ use Rattle.reorder.specs.Demand1Met.{map_exactly, sized-zero, map-zero, entry_ze
 
 -- ---- if `reorder` or `reorder_word` is done
 -- what holds for its arguments, and what it leaves; `Fine` is what test 4 asks of the entries
-pub record ReorderDone {T : Type 0} (d : T) (Fine : List T → Type 0) (m : ℕ) (A b : List ℕ) (l out lent : List T) : Type 0 where
+pub record CallDone {T : Type 0} (d : T) (Fine : List T → Type 0) (m : ℕ) (A b : List ℕ) (l out lent : List T) : Type 0 where
   pub map_long : Mapped m A b
   pub good : Good m A b
   pub long : length l ≡ 2 ^ m
@@ -38,7 +38,7 @@ module _ {T : Type 0} (d : T) (Fine : List T → Type 0) (bad : List T → ℕ) 
   abbrev whole_call : Outcome (List T)
   whole_call = sized out m (is_long m (length A) (length b) && eqb (length l) (2 ^ m)) (eqb (length out) (2 ^ m)) long_call
 
-  call_done : whole_call.carry.number ≡ 0 → ReorderDone d Fine m A b l out whole_call.lent
+  call_done : whole_call.carry.number ≡ 0 → CallDone d Fine m A b l out whole_call.lent
   call_done e =
       let moved = done (reordered d m A b l) in
       let entries = entry_tested out (bad l) (length l) moved in
@@ -60,14 +60,28 @@ module _ {T : Type 0} (d : T) (Fine : List T → Type 0) (bad : List T → ℕ) 
             ∙ sized_right m _ _ out long_call sizes.0));
       }
 
-pub reorder_done : (m : ℕ) (A b : List ℕ) (l out : List ℤ) → (reordering m A b l out).carry.number ≡ 0
-    → ReorderDone (pos 0) (Within largest_reading) m A b l out (reordering m A b l out).lent
+pub readings_done : (m : ℕ) (A b : List ℕ) (l out : List ℤ) → (reordering m A b l out).carry.number ≡ 0
+    → CallDone (pos 0) (Within largest_reading) m A b l out (reordering m A b l out).lent
 unfolding reordering
-reorder_done m A b l out e =
+readings_done m A b l out e =
     call_done (pos 0) (Within largest_reading) (first_bad_reading largest_reading) (good_readings largest_reading) m A b l out e
 
+-- the same of `reorder` alone
+pub record ReorderDone (m : ℕ) (A b : List ℕ) (l out : List ℤ) : Type 0 where
+  pub map_long : Mapped m A b
+  pub good : Good m A b
+  pub long : length l ≡ 2 ^ m
+  pub room : length out ≡ 2 ^ m
+  pub within : Within largest_reading l
+  pub leaves : (reordering m A b l out).lent ≡ reordered (pos 0) m A b l
+
+pub reorder_done : (m : ℕ) (A b : List ℕ) (l out : List ℤ) → (reordering m A b l out).carry.number ≡ 0 → ReorderDone m A b l out
+reorder_done m A b l out e =
+    let d = readings_done m A b l out e in
+    record { map_long = d.map_long; good = d.good; long = d.long; room = d.room; within = d.fine; leaves = d.leaves }
+
 pub reorder_word_done : (m : ℕ) (A b x out : List ℕ) → (reordering_word m A b x out).carry.number ≡ 0
-    → ReorderDone 0 Bits m A b x out (reordering_word m A b x out).lent
+    → CallDone 0 Bits m A b x out (reordering_word m A b x out).lent
 unfolding reordering_word
 reorder_word_done m A b x out e = call_done 0 Bits first_bad_bit good_bits m A b x out e
 
@@ -81,8 +95,7 @@ reordered_outcomes allowed allowed' bits word bits' word' (both_found b b' x p g
 
 module _ (r m : ℕ) (r_small : r ≤ m) (A b : List ℕ) (l out : List ℤ) (is-done : (reordering m A b l out).carry.number ≡ 0) (bits word bits' word' : List ℕ)
     (buffers : Buffers r m bits word) (buffers' : Buffers r m bits' word') where
-  by_done : ReorderDone (pos 0) (Within largest_reading) m A b l out (reordering m A b l out).lent
-      → SearchReordered r m A b l (reordered (pos 0) m A b l) bits word bits' word'
+  by_done : ReorderDone m A b l out → SearchReordered r m A b l (reordered (pos 0) m A b l) bits word bits' word'
   by_done d =
       let l' = reordered (pos 0) m A b l in
       let undoable = d.good.1 in
@@ -91,13 +104,13 @@ module _ (r m : ℕ) (r_small : r ≤ m) (A b : List ℕ) (l out : List ℤ) (is
         sound = sound;
         long_bits = buffers.long_bits;
         long_word = buffers.long_word;
-        entries = record { long = d.long; within = d.fine };
+        entries = record { long = d.long; within = d.within };
       } in
       let x' : SoundSearch r m l' bits' word' = record {
         sound = sound;
         long_bits = buffers'.long_bits;
         long_word = buffers'.long_word;
-        entries = record { long = length-reordered (pos 0) m A b l; within = within_reordered largest_reading m A b l d.fine };
+        entries = record { long = length-reordered (pos 0) m A b l; within = within_reordered largest_reading m A b l d.within };
       } in
       record {
         sound = x;

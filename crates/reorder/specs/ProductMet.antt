@@ -15,9 +15,9 @@ use Rattle.maps.proofs.ReorderedBest.{within_reordered}
 use Rattle.maps.proofs.PositionOrdersMet.{position_orders}
 use Rattle.images.specs.Images.{is_map, Mapped}
 use Rattle.reorder.specs.Outcome.{Outcome, done, reordering, reordering_word, undoing, multiplying}
-use Rattle.reorder.specs.Demands.{Good, LongMap, Call, OneThenAnother, Restored, SameCode}
+use Rattle.reorder.specs.Demands.{Good, LongMap, OneThenAnother, Call, ByProduct, Restored, SameCode}
 use Rattle.reorder.specs.Demand1Met.{map_exactly}
-use Rattle.reorder.specs.DemandsMet.{ReorderDone, reorder_done, reorder_word_done}
+use Rattle.reorder.specs.DemandsMet.{CallDone, readings_done, ReorderDone, reorder_done, reorder_word_done}
 
 all_within : (l : List ℤ) → Within largest_reading l → length l ≤ first_bad_reading largest_reading l
 all_within l h = let place = first-none (pos 0) nat_abs largest_reading l (length l) (λ j k. h j) refl in omega (arith, place)
@@ -87,9 +87,9 @@ module _ {T : Type 0} (d : T) (Fine : List T → Type 0) (call : Call T)
     (does : (m : ℕ) (A b : List ℕ) (l out : List T) → Mapped m A b → Good m A b → length l ≡ 2 ^ m → Fine l → length out ≡ 2 ^ m
     → call m A b l out ≡ done (reordered d m A b l)) where
   another : (m : ℕ) (A b C c : List ℕ) (l out out' out'' : List T) (D e : List ℕ) → Orders d m A b l
-      → ReorderDone d Fine m A b l out (call m A b l out).lent
-      → ReorderDone d Fine m C c (call m A b l out).lent out' (call m C c (call m A b l out).lent out').lent
-      → length out'' ≡ 2 ^ m → LongMap m D e → OneThenAnother call m A b C c l out out' out'' D e
+      → CallDone d Fine m A b l out (call m A b l out).lent
+      → CallDone d Fine m C c (call m A b l out).lent out' (call m C c (call m A b l out).lent out').lent
+      → length out'' ≡ 2 ^ m → LongMap m D e → ByProduct call m A b C c l out out' out'' D e
   another m A b C c l out out' out'' D e orders x y room'' room =
       let l' = (call m A b l out).lent in
       let again = (position_orders m A b).maps_again in
@@ -113,7 +113,7 @@ module _ {T : Type 0} (d : T) (Fine : List T → Type 0) (call : Call T)
       }
 
   back : (m : ℕ) (A b : List ℕ) (l out out' : List T) (C c : List ℕ) → Orders d m A b l → Fine (reordered d m A b l)
-      → ReorderDone d Fine m A b l out (call m A b l out).lent → length out' ≡ 2 ^ m → LongMap m C c → Restored call m A b l out out' C c
+      → CallDone d Fine m A b l out (call m A b l out).lent → length out' ≡ 2 ^ m → LongMap m C c → Restored call m A b l out out' C c
   back m A b l out out' C c orders fine x room' room =
       let again = (position_orders m A b).maps_again in
       let U = undo_table m A in
@@ -132,17 +132,29 @@ module _ {T : Type 0} (d : T) (Fine : List T → Type 0) (call : Call T)
       }
 
 -- ---- of `reorder`: the calls are done, and the buffers for the product, for the undo map and for one call more have their lengths
-module _ (m : ℕ) (A b : List ℕ) (l out : List ℤ) (first_done : (reordering m A b l out).carry.number ≡ 0) where
-  pub one_then_another_done : (C c : List ℕ) (out' out'' : List ℤ) (D d : List ℕ)
-      → (reordering m C c (reordering m A b l out).lent out').carry.number ≡ 0
-      → length out'' ≡ 2 ^ m → LongMap m D d → OneThenAnother reordering m A b C c l out out' out'' D d
-  one_then_another_done C c out' out'' D d e =
-      another (pos 0) (Within largest_reading) reordering reorder_does m A b C c l out out' out'' D d ((position_orders m A b).readings l)
-      (reorder_done m A b l out first_done) (reorder_done m C c (reordering m A b l out).lent out' e)
+done_readings : (m : ℕ) (A b : List ℕ) (l out : List ℤ) → ReorderDone m A b l out
+    → CallDone (pos 0) (Within largest_reading) m A b l out (reordering m A b l out).lent
+done_readings m A b l out d =
+    record { map_long = d.map_long; good = d.good; long = d.long; room = d.room; fine = d.within; leaves = d.leaves }
 
+module _ (m : ℕ) (A b C c : List ℕ) (l out out' out'' : List ℤ) (D d : List ℕ) where
+  one_then_another : ReorderDone m A b l out → ReorderDone m C c (reordering m A b l out).lent out' → length out'' ≡ 2 ^ m → LongMap m D d
+      → OneThenAnother m A b C c l out out' out'' D d
+  one_then_another x y room'' room =
+      let made =
+      another (pos 0) (Within largest_reading) reordering reorder_does m A b C c l out out' out'' D d ((position_orders m A b).readings l)
+      (done_readings m A b l out x) (done_readings m C c (reordering m A b l out).lent out' y) room'' room in
+      record { product_done = made.product_done; same = made.same }
+
+  -- the two calls are done, and the buffers for the product and for the one call have their lengths
+  pub one_then_another_done : (reordering m A b l out).carry.number ≡ 0 → (reordering m C c (reordering m A b l out).lent out').carry.number ≡ 0
+      → length out'' ≡ 2 ^ m → LongMap m D d → OneThenAnother m A b C c l out out' out'' D d
+  one_then_another_done e f = one_then_another (reorder_done m A b l out e) (reorder_done m C c (reordering m A b l out).lent out' f)
+
+module _ (m : ℕ) (A b : List ℕ) (l out : List ℤ) (first_done : (reordering m A b l out).carry.number ≡ 0) where
   pub restored_done : (out' : List ℤ) (C c : List ℕ) → length out' ≡ 2 ^ m → LongMap m C c → Restored reordering m A b l out out' C c
   restored_done out' C c =
-      let x = reorder_done m A b l out first_done in
+      let x = readings_done m A b l out first_done in
       back (pos 0) (Within largest_reading) reordering reorder_does m A b l out out' C c ((position_orders m A b).readings l)
       (within_reordered largest_reading m A b l x.fine) x
 
@@ -154,7 +166,7 @@ bits_reordered m A b x h = bits_values (λ j. get_or x (image m A b j) 0) (2 ^ m
 module _ (m : ℕ) (A b x out : List ℕ) (first_done : (reordering_word m A b x out).carry.number ≡ 0) where
   pub word_then_another_done : (C c out' out'' D d : List ℕ)
       → (reordering_word m C c (reordering_word m A b x out).lent out').carry.number ≡ 0
-      → length out'' ≡ 2 ^ m → LongMap m D d → OneThenAnother reordering_word m A b C c x out out' out'' D d
+      → length out'' ≡ 2 ^ m → LongMap m D d → ByProduct reordering_word m A b C c x out out' out'' D d
   word_then_another_done C c out' out'' D d e =
       another 0 Bits reordering_word reorder_word_does m A b C c x out out' out'' D d ((position_orders m A b).bits x)
       (reorder_word_done m A b x out first_done) (reorder_word_done m C c (reordering_word m A b x out).lent out' e)

@@ -199,7 +199,7 @@ fn count(state: &mut [u32; 8], n: u32)
 }
 
 // n visits more; or where not all are allowed, as many as are, and out.
-fn visit_many(state: &mut [u32; 8], n: u32) -> bool
+fn visits(state: &mut [u32; 8], n: u32) -> bool
     requires { length state.old ≡ 8 }
     ensures { (result ≡ allows_more n state.old)
         × Shows state.new (counted_by n (seen state.old)) }
@@ -323,11 +323,9 @@ fn hard_blocks(
     1
 }
 
-// What is taken at once at i, for which the rows are made and a visit is counted: the penalty after
-// it times 256, and how many indices. Frozen ones are those of zeros. Information indices get the
-// bits that their values speak for, which add nothing, and no visit of theirs is counted here.
-// It serves both steps, so that the compiler keeps it out of them, and one number is handed back:
-// a function for each step would be put into it, and a struct lie in its frame, for each open step.
+// What is taken at once at i, for which the rows are made and a visit is counted: of frozen indices
+// as zeros gives it, of information indices how many, and nothing is counted. It serves both steps,
+// so that the compiler keeps it out of them, and their frames stay as small as they are without it.
 fn taken(
     kinds: &[u8; 256],
     rows: &[i32; 256],
@@ -344,20 +342,18 @@ fn taken(
         → ZerosGiven kinds.now rows.now path.old
         state.old i penalty result path.new state.new)
         × ((get_or kinds.now i 0 ≡ 0 → ⊥)
-        → (state.new ≡ state.old) × (result / 256 ≡ penalty)
+        → (state.new ≡ state.old)
         × BlockGiven kinds.now rows.now state.old
-        path.old i (result % 256) path.new) }
+        path.old i result path.new) }
 {
     if kinds[i] == 0 {
         return zeros(kinds, rows, path, state, i, penalty);
     }
-    let n = hard_blocks(kinds, rows, path, state, i);
-    (penalty as u64) * 256 + n as u64
+    hard_blocks(kinds, rows, path, state, i) as u64
 }
 
 // How many information indices from i on have the bits that their values speak for, where that at i
-// is put: those of the largest block that starts there, or i alone. Asked for with penalty 0, what
-// taken gives is their number.
+// is put: those of the largest block that starts there, or i alone. Only zeros need a penalty.
 fn hard_here(
     kinds: &[u8; 256],
     rows: &[i32; 256],
@@ -470,7 +466,7 @@ fn info_step(
     let gone = dropped(state, after);
     if gone {
         let n = hard_here(kinds, rows, path, state, i);
-        if !visit_many(state, n + n - 1) {
+        if !visits(state, n + n - 1) {
             return;
         }
         frozen_step(

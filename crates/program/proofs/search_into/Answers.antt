@@ -1,7 +1,7 @@
 -- `program::search_into` meets its contract: the answer says what becomes of the record.
 use mathlib.Core.Path.{◌≡◌, ap, sym, ◌∙◌, subst}
 use native.Mathlib.Omega.{arith}
-use Rattle.record.specs.ReaderLaws.{header_record}
+use Rattle.record.specs.ReaderLaws.{framed_record}
 use Rattle.search.specs.declared.Searched.{Searched}
 use Rattle.search.specs.RunnerUp.{RunnerUpOutcome}
 use Rattle.program.specs.Program.{Result, answered, result_of}
@@ -12,7 +12,7 @@ use Rattle.program.proofs.search_into.Goals.{After-search_framed-answer, In-Foun
 
 pub search_framed-answer-requires : goal.search_framed-answer-requires
 search_framed-answer-requires c =
-    let f = header_record c.args.s.now c.args.code c.requires.s_value.0 in
+    let f = framed_record c.args.s.now c.args.code c.requires.s_value.0 in
     (f.sound, f.whole)
 
 -- what the answer says

@@ -4,4 +4,4 @@ use Rattle.record.specs.Reader.{outcome_of}
 use Rattle.record.proofs.header_of.Goals as goal
 
 pub returns : goal.returns
-returns c = ap outcome_of c.read_header.ensures
+returns c = ap outcome_of c.frame.ensures

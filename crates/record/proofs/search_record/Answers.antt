@@ -6,13 +6,13 @@ use Rattle.search.specs.RunnerUp.{runner_up_outcome_of}
 use Rattle.search.proofs.RunnerUpLaws.{none-shown}
 use Rattle.record.specs.declared.Header.{Header}
 use Rattle.record.specs.Searching.{searching_with_runner_up_by, searching_record}
-use Rattle.record.specs.ReaderLaws.{header_record}
+use Rattle.record.specs.ReaderLaws.{framed_record}
 use Rattle.record.proofs.search_record.Goals as goal
 
 pub search_framed-requires : goal.search_framed-requires
 search_framed-requires c =
     let s = c.args.s.now in
-    let f = header_record s _ (sym c.read_header.ensures ∙ c.in-Record.is) in
+    let f = framed_record s _ (sym c.frame.ensures ∙ c.in-Record.is) in
     (f.sound, f.whole)
 
 pub returns-in-Record : goal.returns-in-Record
@@ -22,7 +22,7 @@ returns-in-Record c =
     let g = f.args in
     c.search_framed.ensures
     ∙ ap (λ (h : Header). searching_with_runner_up_by h g.allowed g.s.now g.bits.now g.word.now)
-    (sym (sym f.read_header.ensures ∙ c.in-Record.is))
+    (sym (sym f.frame.ensures ∙ c.in-Record.is))
 
 pub returns-in-Refused : goal.returns-in-Refused
 unfolding searching_record
@@ -32,4 +32,4 @@ returns-in-Refused c =
     ap (λ (a : WithRunnerUp). runner_up_outcome_of a g.bits.now g.word.now) c.refused.ensures
     ∙ sym (none-shown [] known.in-Refused.why g.bits.now g.word.now)
     ∙ ap (λ (h : Header). searching_with_runner_up_by h g.allowed g.s.now g.bits.now g.word.now)
-    (sym (sym known.read_header.ensures ∙ known.in-Refused.is))
+    (sym (sym known.frame.ensures ∙ known.in-Refused.is))

@@ -182,8 +182,8 @@ info_step-overflow_add-after t c =
     record { fits = omega (arith, other, sum_small a.0.ready (1 - hard at) a.1 (omega arith)) }
 
 -- the other bit is dropped: the indices that are taken, and their visits
-pub info_step-returns-then-not-visit_many : goal.info_step-returns-then-not-visit_many
-info_step-returns-then-not-visit_many t c =
+pub info_step-returns-then-not-visits : goal.info_step-returns-then-not-visits
+info_step-returns-then-not-visits t c =
     let a = c.requires in
     let visited = may_visit (ap not c.if-not-visit.false) c.visit.ensures in
     let given = c.value_at-value.ensures in
@@ -197,9 +197,9 @@ info_step-returns-then-not-visit_many t c =
     let gone : drops (seen c.value_at-value.new.state) (c.args.penalty + c.loss.result) ≡ true = sym c.dropped-gone.ensures ∙ c.if-gone.true in
     let n = c.hard_here-n.result in
     let block = c.hard_here-n.ensures.1 in
-    let counted = subst (λ (σ : List ℕ). (c.visit_many.result ≡ allows_more (n + n - 1) σ) × Shows c.visit_many.new.state (counted_by (n + n - 1) (seen σ)))
-    c.hard_here-n.ensures.0 c.visit_many.ensures in
-    behind_out a.0 a.1 visited given a.2 put block other gone counted.1 (sym counted.0 ∙ c.if-not-visit_many.true)
+    let counted = subst (λ (σ : List ℕ). (c.visits.result ≡ allows_more (n + n - 1) σ) × Shows c.visits.new.state (counted_by (n + n - 1) (seen σ)))
+    c.hard_here-n.ensures.0 c.visits.ensures in
+    behind_out a.0 a.1 visited given a.2 put block other gone counted.1 (sym counted.0 ∙ c.if-not-visits.true)
 
 pub info_step-frozen_step-requires : goal.info_step-frozen_step-requires
 info_step-frozen_step-requires t c =
@@ -216,9 +216,9 @@ info_step-frozen_step-requires t c =
     let gone : drops (seen c.value_at-value.new.state) (c.args.penalty + c.loss.result) ≡ true = sym c.dropped-gone.ensures ∙ c.if-gone.true in
     let n = c.hard_here-n.result in
     let block = c.hard_here-n.ensures.1 in
-    let counted = subst (λ (σ : List ℕ). (c.visit_many.result ≡ allows_more (n + n - 1) σ) × Shows c.visit_many.new.state (counted_by (n + n - 1) (seen σ)))
-    c.hard_here-n.ensures.0 c.visit_many.ensures in
-    let may : allows_more (n + n - 1) c.value_at-value.new.state ≡ true = sym counted.0 ∙ c.if-not-visit_many.false in
+    let counted = subst (λ (σ : List ℕ). (c.visits.result ≡ allows_more (n + n - 1) σ) × Shows c.visits.new.state (counted_by (n + n - 1) (seen σ)))
+    c.hard_here-n.ensures.0 c.visits.ensures in
+    let may : allows_more (n + n - 1) c.value_at-value.new.state ≡ true = sym counted.0 ∙ c.if-not-visits.false in
     let same = hard_m a.0 a.1 visited given a.2 put block other gone counted.1 may in
     let later : c.args.i < c.args.i + c.wide.result = omega (arith, c.wide.ensures, (block-length block).0) in (
       omega (arith, c.decreases, information_call c.args.kinds.now same c.args.i _ a.0.ready.long_kinds a.1 a.2 later),
@@ -240,9 +240,9 @@ info_step-returns-then-gone t c =
     let gone : drops (seen c.value_at-value.new.state) (c.args.penalty + c.loss.result) ≡ true = sym c.dropped-gone.ensures ∙ c.if-gone.true in
     let n = c.hard_here-n.result in
     let block = c.hard_here-n.ensures.1 in
-    let counted = subst (λ (σ : List ℕ). (c.visit_many.result ≡ allows_more (n + n - 1) σ) × Shows c.visit_many.new.state (counted_by (n + n - 1) (seen σ)))
-    c.hard_here-n.ensures.0 c.visit_many.ensures in
-    let may : allows_more (n + n - 1) c.value_at-value.new.state ≡ true = sym counted.0 ∙ c.if-not-visit_many.false in
+    let counted = subst (λ (σ : List ℕ). (c.visits.result ≡ allows_more (n + n - 1) σ) × Shows c.visits.new.state (counted_by (n + n - 1) (seen σ)))
+    c.hard_here-n.ensures.0 c.visits.ensures in
+    let may : allows_more (n + n - 1) c.value_at-value.new.state ≡ true = sym counted.0 ∙ c.if-not-visits.false in
     behind_given a.0 a.1 visited given a.2 put block other gone counted.1 may c.wide.ensures c.frozen_step.ensures
 
 -- the other bit is not dropped yet: first the step below

@@ -1,4 +1,4 @@
--- `record::read_header` meets its contract: with no byte at all it is 8, else the first byte decides.
+-- `record::frame` meets its contract: with no byte at all it is 8, else the first byte decides.
 use mathlib.Core.Path.{◌≡◌, sym, ◌∙◌}
 use Prim.Native.Nat.{◌/◌, ◌%◌}
 use native.Mathlib.Omega.{arith}
@@ -6,14 +6,14 @@ use lib.ListN.{get_or}
 use Rattle.code.specs.declared.Made.TheVariants.{Good, Bad}
 use Rattle.record.specs.Reader.{code_of}
 use Rattle.code.specs.SoundLaws.{made_of}
-use Rattle.record.specs.ReaderLaws.{header_empty, header_by}
-use Rattle.record.proofs.read_header.Goals as goal
+use Rattle.record.specs.ReaderLaws.{frame_empty, frame_by}
+use Rattle.record.proofs.frame.Goals as goal
 
 pub returns-then-s-eq0 : goal.returns-then-s-eq0
-returns-then-s-eq0 c = sym (header_empty c.args.s.now c.if-s-eq0.true)
+returns-then-s-eq0 c = sym (frame_empty c.args.s.now c.if-s-eq0.true)
 
-pub header_for-requires : goal.header_for-requires
-header_for-requires c =
+pub framed-requires : goal.framed-requires
+framed-requires c =
     let first = get_or c.args.s.now 0 0 in
     ((made_of (first % 16) (first / 16) _ (sym c.code_of.ensures ∙ c.in-Good.is)).sound, omega arith)
 
@@ -22,10 +22,10 @@ returns-in-Good c =
     let s = c.args.s.now in
     let is : code_of (get_or s 0 0) ≡ Good c.in-Good.code =
     sym c.code_of.ensures ∙ c.in-Good.is in
-    c.header_for.ensures ∙ sym (header_by s _ c.if-s-eq0.false is)
+    c.framed.ensures ∙ sym (frame_by s _ c.if-s-eq0.false is)
 
 pub returns-in-Bad : goal.returns-in-Bad
 returns-in-Bad c =
     let s = c.args.s.now in
     let is : code_of (get_or s 0 0) ≡ Bad = sym c.code_of.ensures ∙ c.in-Bad.is in
-    sym (header_by s Bad c.if-s-eq0.false is)
+    sym (frame_by s Bad c.if-s-eq0.false is)

@@ -1,7 +1,7 @@
--- `visit_many`: all of them, or as many as are allowed.
+-- `visits`: all of them, or as many as are allowed.
 use mathlib.Core.Path.{sym, ◌∙◌}
 use Rattle.walk.specs.ProgressLaws.{counted_more_lem, counted_out}
-use Rattle.walk.proofs.visit_many.Goals as goal
+use Rattle.walk.proofs.visits.Goals as goal
 
 pub count-requires : goal.count-requires
 count-requires c = sym c.allows.ensures ∙ c.if-allows.true
