@@ -1,35 +1,33 @@
 -- The number of each answer, and the numbers that its values become. No contract of an export needs them.
-use Rattle.std.specs.Prelude.{List, ℕ}
+use Rattle.std.specs.Prelude.{List, ℕ, Result, Ok, Err}
 use Rattle.code.specs.Sound.{carried}
-use Rattle.quick.specs.declared.Read.{Read}
-use Rattle.quick.specs.declared.Read.TheVariants as read
-use Rattle.record.specs.declared.Header.{Header}
 use Rattle.record.specs.Reader as Reader
-use Rattle.search.specs.declared.Searched.{Searched}
-use Rattle.search.specs.declared.Searched.TheVariants.{Found, Refused}
 use Rattle.answers.specs.Reported.{numbers}
+use Rattle.code.specs.declared.Code.{Code}
+use Rattle.code.specs.declared.Refusal.{Refusal}
+use Rattle.search.specs.declared.Found.{Found}
 
 -- ---- of a header, beside a packed part of this many bytes
-abbrev pub header_number : Header → ℕ
+abbrev pub header_number : Result Code Refusal → ℕ
 header_number h = (Reader.outcome_of h).carry.number
 
-abbrev pub header_numbers : Header → ℕ → List ℕ
+abbrev pub header_numbers : Result Code Refusal → ℕ → List ℕ
 header_numbers h n = let t = Reader.outcome_of h in numbers t.r t.m n t.carry.place
 
 -- ---- of a quick reading's answer
-abbrev pub read_number : Read → ℕ
-read_number (read.Done penalty) = 0
-read_number (read.Refused why) = (carried why).number
+abbrev pub read_number : Result ℕ Refusal → ℕ
+read_number (Ok penalty) = 0
+read_number (Err why) = (carried why).number
 
-abbrev pub read_numbers : Read → List ℕ
-read_numbers (read.Done penalty) = numbers penalty 0 0 0
-read_numbers (read.Refused why) = let c = carried why in numbers c.penalty 0 0 c.place
+abbrev pub read_numbers : Result ℕ Refusal → List ℕ
+read_numbers (Ok penalty) = numbers penalty 0 0 0
+read_numbers (Err why) = let c = carried why in numbers c.penalty 0 0 c.place
 
 -- ---- of a search's answer
-abbrev pub searched_number : Searched → ℕ
-searched_number (Found penalty gap visits) = 0
-searched_number (Refused why) = (carried why).number
+abbrev pub searched_number : Result Found Refusal → ℕ
+searched_number (FOUND penalty gap visits) = 0
+searched_number (Err why) = (carried why).number
 
-abbrev pub searched_numbers : Searched → List ℕ
-searched_numbers (Found penalty gap visits) = numbers penalty gap visits 0
-searched_numbers (Refused why) = let c = carried why in numbers c.penalty 0 c.visits c.place
+abbrev pub searched_numbers : Result Found Refusal → List ℕ
+searched_numbers (FOUND penalty gap visits) = numbers penalty gap visits 0
+searched_numbers (Err why) = let c = carried why in numbers c.penalty 0 c.visits c.place

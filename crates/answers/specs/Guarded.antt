@@ -1,18 +1,17 @@
 -- What the exports of guarded words report, as C sees it: telegrams and rod positions.
-use Rattle.std.specs.Prelude.{List, [], ◌∷◌, ℕ}
-use Rattle.guarded.specs.declared.Written.{Written}
-use Rattle.guarded.specs.declared.Written.TheVariants.{Done, Refused}
+use Rattle.std.specs.Prelude.{List, [], ◌∷◌, ℕ, Result, Ok, Err}
 use Rattle.guarded.specs.Faults.{fault_carries}
 use Rattle.guarded.specs.Written.{WriteOutcome}
 use Rattle.telegram.specs.declared.Telegram.{Telegram}
 use Rattle.telegram.specs.Outcome.{ReadOutcome}
 use Rattle.rod.specs.Outcome.{RodOutcome}
 use Rattle.answers.specs.Reported.{Reported, reported, numbers}
+use Rattle.guarded.specs.declared.Fault.{Fault}
 
 -- the number of a writer's answer
-abbrev pub written_number : Written → ℕ
-written_number Done = 0
-written_number (Refused why) = (fault_carries why).number
+abbrev pub written_number : Result (Unit {0}) Fault → ℕ
+written_number (Ok _) = 0
+written_number (Err why) = (fault_carries why).number
 
 -- an outcome of a writer, whose refusals carry only their number
 abbrev pub shown_written : WriteOutcome → Reported

@@ -1,17 +1,15 @@
 -- What C sees of an index: the number returned, the numbers, and what was lent.
-use Rattle.std.specs.Prelude.{List, [], ◌∷◌, cond, ℕ, length, get_or, eqb}
+use Rattle.std.specs.Prelude.{List, [], ◌∷◌, cond, ℕ, length, get_or, eqb, Result, Ok, Err}
 use Rattle.code.specs.Sound.{carried}
-use Rattle.record.specs.declared.Header.{Header}
 use Rattle.record.specs.Reader as Reader
 use Rattle.index.specs.declared.Index.{Index}
-use Rattle.index.specs.declared.Indexed.{Indexed}
-use Rattle.index.specs.declared.Indexed.TheVariants.{Done, Refused}
-use Rattle.index.specs.declared.Fronted.{Fronted}
-use Rattle.index.specs.declared.Fronted.TheVariants as fronted
 use Rattle.index.specs.Making.{IndexOutcome, index_of}
 use Rattle.index.specs.Fronting.{FrontOutcome}
 use Rattle.index.specs.Appending.{AppendOutcome}
 use Rattle.answers.specs.Reported.{Reported, reported}
+use Rattle.code.specs.declared.Code.{Code}
+use Rattle.code.specs.declared.Refusal.{Refusal}
+use Rattle.index.specs.declared.FrontIndex.{FrontIndex}
 
 -- records and used: the header's struct
 abbrev pub pair : Index → List ℕ
@@ -31,10 +29,10 @@ abbrev pub shown_front : FrontOutcome → Reported
 shown_front o = reported o.made.carry.number (front_numbers o.made.index o.ended) (o.made.table ∷ [])
 
 -- what a record says and where its packed part starts: r, m, start, length, place
-abbrev pub entry_numbers : Header → ℕ → ℕ → List ℕ
+abbrev pub entry_numbers : Result Code Refusal → ℕ → ℕ → List ℕ
 entry_numbers h start n = let t = Reader.outcome_of h in t.r ∷ t.m ∷ start ∷ n ∷ t.carry.place ∷ []
 
-abbrev pub shown_entry : Header → ℕ → List ℕ → Reported
+abbrev pub shown_entry : Result Code Refusal → ℕ → List ℕ → Reported
 shown_entry h start part = reported (Reader.outcome_of h).carry.number (entry_numbers h start (length part)) []
 
 -- the new end and the place under 4; the index, which stays as it is on refusal; both buffers
@@ -44,26 +42,26 @@ shown_appended before o =
     (cond (eqb o.carry.number 0) (pair o.index) before ∷ o.capture ∷ o.table ∷ [])
 
 -- ---- the number of an answer, and the numbers that its values become
-abbrev pub indexed_number : Indexed → ℕ
-indexed_number (Done index) = 0
-indexed_number (Refused why) = (carried why).number
+abbrev pub indexed_number : Result Index Refusal → ℕ
+indexed_number (Ok index) = 0
+indexed_number (Err why) = (carried why).number
 
-abbrev pub made_numbers : Indexed → List ℕ
-made_numbers (Done index) = pair index
-made_numbers (Refused why) = 0 ∷ 0 ∷ []
+abbrev pub made_numbers : Result Index Refusal → List ℕ
+made_numbers (Ok index) = pair index
+made_numbers (Err why) = 0 ∷ 0 ∷ []
 
-abbrev pub fronted_number : Fronted → ℕ
-fronted_number (fronted.Done front) = 0
-fronted_number (fronted.Refused why) = (carried why).number
+abbrev pub fronted_number : Result FrontIndex Refusal → ℕ
+fronted_number (Ok front) = 0
+fronted_number (Err why) = (carried why).number
 
-abbrev pub fronted_numbers : Fronted → List ℕ
-fronted_numbers (fronted.Done front) = front_numbers front.index front.ended
-fronted_numbers (fronted.Refused why) = 0 ∷ 0 ∷ 0 ∷ []
+abbrev pub fronted_numbers : Result FrontIndex Refusal → List ℕ
+fronted_numbers (Ok front) = front_numbers front.index front.ended
+fronted_numbers (Err why) = 0 ∷ 0 ∷ 0 ∷ []
 
-abbrev pub appended_numbers : Indexed → List ℕ
-appended_numbers (Done index) = index.used ∷ 0 ∷ []
-appended_numbers (Refused why) = 0 ∷ (carried why).place ∷ []
+abbrev pub appended_numbers : Result Index Refusal → List ℕ
+appended_numbers (Ok index) = index.used ∷ 0 ∷ []
+appended_numbers (Err why) = 0 ∷ (carried why).place ∷ []
 
-abbrev pub pair_after : List ℕ → Indexed → List ℕ
-pair_after before (Done index) = pair index
-pair_after before (Refused why) = before
+abbrev pub pair_after : List ℕ → Result Index Refusal → List ℕ
+pair_after before (Ok index) = pair index
+pair_after before (Err why) = before

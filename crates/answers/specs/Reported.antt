@@ -1,11 +1,12 @@
 -- What the exports report: the outcome of each public call, as C sees it.
-use Rattle.std.specs.Prelude.{List, [], ◌∷◌, ℕ, length}
+use Rattle.std.specs.Prelude.{List, [], ◌∷◌, ℕ, length, Result}
 use Rattle.encode.specs.Outcome as Encode
 use Rattle.quick.specs.Outcome as Quick
-use Rattle.record.specs.declared.Header.{Header}
 use Rattle.record.specs.Reader as Reader
 use Rattle.search.specs.Outcome as Search
 use Rattle.search.specs.RunnerUp.{RunnerUpOutcome}
+use Rattle.code.specs.declared.Code.{Code}
+use Rattle.code.specs.declared.Refusal.{Refusal}
 
 -- penalty, gap, visits, place: the header's struct
 abbrev pub numbers : ℕ → ℕ → ℕ → ℕ → List ℕ
@@ -43,5 +44,5 @@ shown_with_runner_up w =
     reported o.number (numbers o.penalty o.gap o.visits o.place) (o.bits ∷ o.word ∷ w.runner_up ∷ [])
 
 -- what a record's bytes say, and its packed part: r, m, the part's length, place
-abbrev pub shown_part : Header → List ℕ → Reported
+abbrev pub shown_part : Result Code Refusal → List ℕ → Reported
 shown_part h part = let t = Reader.outcome_of h in reported t.carry.number (numbers t.r t.m (length part) t.carry.place) []

@@ -4,6 +4,7 @@
 
 ghost use Rattle.std.specs.Prelude.{◌≡◌, [], ◌∷◌};
 ghost use Rattle.code.specs.Sound.{carried, completed};
+ghost use Rattle.guarded.specs.Faults.{fault_carries};
 ghost use Rattle.telegram.specs.Outcome as Tilt;
 ghost use Rattle.rod.specs.Outcome as Rod;
 ghost use Rattle.answers.specs.Reported.{numbers, reported};
@@ -17,13 +18,10 @@ ghost use Rattle.answers.specs.Indexed.{fronted_number, fronted_numbers};
 ghost use Rattle.answers.specs.Written.{wrote_number, wrote_numbers};
 ghost use Rattle.answers.specs.Guarded.{written_number, fields, shown_read, shown_rod};
 
-use code::{Completed, Refusal};
-use early::Answered;
-use guarded::Written;
-use index::{Fronted, Indexed};
-use quick::Read;
-use record::Header;
-use search::{Searched, WithRunnerUp};
+use code::{Code, Refusal};
+use guarded::Fault;
+use index::{FrontIndex, Index};
+use search::{Found, WithRunnerUp};
 use telegram::{Heard, Telegram};
 
 // Penalty, gap, visits and place.
@@ -38,8 +36,9 @@ fn put_place(why: Refusal, out: &mut [u64; 4]) -> u32
     ensures { (result ≡ (carried why).number)
         × (out.new ≡ numbers 0 0 0 (carried why).place) }
 {
-    put_numbers(out, 0, 0, 0, why.place());
-    why.number()
+    let shown = why.shown();
+    put_numbers(out, 0, 0, 0, shown.place);
+    shown.number
 }
 
 // A refusal by a search.
@@ -47,53 +46,52 @@ fn put_refused(why: Refusal, out: &mut [u64; 4]) -> u32
     ensures { (result ≡ (carried why).number) × (out.new
         ≡ numbers (carried why).penalty 0 (carried why).visits (carried why).place) }
 {
-    put_numbers(out, why.penalty(), 0, why.visits(), why.place());
-    why.number()
+    let shown = why.shown();
+    put_numbers(out, shown.penalty, 0, shown.visits, shown.place);
+    shown.number
 }
 
 // A call that is done, or its refusal.
-pub fn put_completed(answer: Completed, out: &mut [u64; 4]) -> u32
+pub fn put_completed(answer: Result<(), Refusal>, out: &mut [u64; 4]) -> u32
     ensures { (result ≡ (completed answer).number)
         × (out.new ≡ numbers 0 0 0 (completed answer).place) }
 {
     match answer {
-        Completed::Done => {
+        Ok(()) => {
             put_numbers(out, 0, 0, 0, 0);
             0
         }
-        Completed::Refused(why) => put_place(why, out),
+        Err(why) => put_place(why, out),
     }
 }
 
-pub fn put_read(answer: Read, out: &mut [u64; 4]) -> u32
+// A quick reading's penalty, or its refusal.
+pub fn put_read(answer: Result<u32, Refusal>, out: &mut [u64; 4]) -> u32
     ensures { (result ≡ read_number answer) × (out.new ≡ read_numbers answer) }
 {
     match answer {
-        Read::Done { penalty } => {
+        Ok(penalty) => {
             put_numbers(out, penalty, 0, 0, 0);
             0
         }
-        Read::Refused(why) => {
-            put_numbers(out, why.penalty(), 0, 0, why.place());
-            why.number()
+        Err(why) => {
+            let shown = why.shown();
+            put_numbers(out, shown.penalty, 0, 0, shown.place);
+            shown.number
         }
     }
 }
 
-pub fn put_searched(answer: Searched, out: &mut [u64; 4]) -> u32
+pub fn put_searched(answer: Result<Found, Refusal>, out: &mut [u64; 4]) -> u32
     ensures { (result ≡ searched_number answer)
         × (out.new ≡ searched_numbers answer) }
 {
     match answer {
-        Searched::Found {
-            penalty,
-            gap,
-            visits,
-        } => {
-            put_numbers(out, penalty, gap, visits, 0);
+        Ok(found) => {
+            put_numbers(out, found.penalty, found.gap, found.visits, 0);
             0
         }
-        Searched::Refused(why) => put_refused(why, out),
+        Err(why) => put_refused(why, out),
     }
 }
 
@@ -113,16 +111,17 @@ pub fn put_with_runner_up(
     put_searched(result, out)
 }
 
-pub fn put_answered(answer: Answered, out: &mut [u64; 4]) -> u32
+// An early answer's penalty, or its refusal, which may be the search's.
+pub fn put_answered(answer: Result<u32, Refusal>, out: &mut [u64; 4]) -> u32
     ensures { (result ≡ answered_number answer)
         × (out.new ≡ answered_numbers answer) }
 {
     match answer {
-        Answered::Best { penalty } => {
+        Ok(penalty) => {
             put_numbers(out, penalty, 0, 0, 0);
             0
         }
-        Answered::Refused(why) => put_refused(why, out),
+        Err(why) => put_refused(why, out),
     }
 }
 
@@ -133,18 +132,19 @@ fn put_part(out: &mut [u64; 4], r: u32, m: u32, length: usize, place: usize)
     *out = [r as u64, m as u64, length as u64, place as u64];
 }
 
-pub fn put_header(header: Header, length: usize, out: &mut [u64; 4]) -> u32
+pub fn put_header(header: Result<Code, Refusal>, length: usize, out: &mut [u64; 4]) -> u32
     ensures { (result ≡ header_number header)
         × (out.new ≡ header_numbers header length) }
 {
     match header {
-        Header::Record(code) => {
+        Ok(code) => {
             put_part(out, code.r, code.m, length, 0);
             0
         }
-        Header::Refused(why) => {
-            put_part(out, 0, 0, length, why.place());
-            why.number()
+        Err(why) => {
+            let shown = why.shown();
+            put_part(out, 0, 0, length, shown.place);
+            shown.number
         }
     }
 }
@@ -156,31 +156,44 @@ fn put_places(out: &mut [u64; 2], next: usize, place: usize)
     *out = [next as u64, place as u64];
 }
 
-pub fn put_wrote(answer: record::Written, out: &mut [u64; 2]) -> u32
+// The place after a record that was written, or a refusal.
+pub fn put_wrote(answer: Result<usize, Refusal>, out: &mut [u64; 2]) -> u32
     ensures { (result ≡ wrote_number answer)
         × (out.new ≡ wrote_numbers answer) }
 {
     match answer {
-        record::Written::Next(next) => {
+        Ok(next) => {
             put_places(out, next, 0);
             0
         }
-        record::Written::Refused(why) => {
-            put_places(out, 0, why.place());
-            why.number()
+        Err(why) => {
+            let shown = why.shown();
+            put_places(out, 0, shown.place);
+            shown.number
         }
     }
 }
 
 // A writer of guarded words reports only its number.
-pub fn put_written(answer: Written, out: &mut [u64; 4]) -> u32
+pub fn put_written(answer: Result<(), Fault>, out: &mut [u64; 4]) -> u32
     ensures { (result ≡ written_number answer) × (out.new ≡ numbers 0 0 0 0) }
 {
     put_numbers(out, 0, 0, 0, 0);
     match answer {
-        Written::Done => 0,
-        Written::Refused(why) => why.number(),
+        Ok(()) => 0,
+        Err(why) => why.shown().number,
     }
+}
+
+// A fault of a guarded word's reader, which may be the search's refusal.
+fn put_fault(why: Fault, out: &mut [u64; 4]) -> u32
+    ensures { (result ≡ (fault_carries why).number) × (out.new
+        ≡ numbers (fault_carries why).penalty 0 (fault_carries why).visits
+        (fault_carries why).place) }
+{
+    let shown = why.shown();
+    put_numbers(out, shown.penalty, 0, shown.visits, shown.place);
+    shown.number
 }
 
 // Cylinder, direction and tilt.
@@ -190,65 +203,63 @@ fn put_telegram(out: &mut [u64; 3], t: Telegram)
     *out = [t.cylinder as u64, t.direction as u64, t.tilt as u64];
 }
 
-pub fn put_heard(answer: Heard, telegram: &mut [u64; 3], out: &mut [u64; 4]) -> u32
+pub fn put_heard(
+    answer: Result<Heard, Fault>,
+    telegram: &mut [u64; 3],
+    out: &mut [u64; 4],
+) -> u32
     ensures { reported result out.new (telegram.new ∷ [])
         ≡ shown_read (Tilt.outcome_of answer) }
 {
     match answer {
-        Heard::Shown {
-            telegram: shown,
-            penalty,
-            gap,
-            visits,
-        } => {
-            put_numbers(out, penalty, gap, visits, 0);
-            put_telegram(telegram, shown);
+        Ok(heard) => {
+            let found = heard.found;
+            put_numbers(out, found.penalty, found.gap, found.visits, 0);
+            put_telegram(telegram, heard.telegram);
             0
         }
-        Heard::Refused(why) => {
-            put_numbers(out, why.penalty(), 0, why.visits(), why.place());
+        Err(why) => {
             *telegram = [0, 0, 0];
-            why.number()
+            put_fault(why, out)
         }
     }
 }
 
 // A rod position goes into a number of its own.
-pub fn put_rod(answer: rod::Heard, position: &mut [u64; 1], out: &mut [u64; 4]) -> u32
+pub fn put_rod(
+    answer: Result<rod::Heard, Fault>,
+    position: &mut [u64; 1],
+    out: &mut [u64; 4],
+) -> u32
     ensures { reported result out.new (position.new ∷ [])
         ≡ shown_rod (Rod.outcome_of answer) }
 {
     match answer {
-        rod::Heard::Shown {
-            position: shown,
-            penalty,
-            gap,
-        } => {
-            put_numbers(out, penalty, gap, 0, 0);
-            *position = [shown as u64];
+        Ok(heard) => {
+            put_numbers(out, heard.penalty, heard.gap, 0, 0);
+            *position = [heard.position as u64];
             0
         }
-        rod::Heard::Refused(why) => {
-            put_numbers(out, why.penalty(), 0, why.visits(), why.place());
+        Err(why) => {
             *position = [0];
-            why.number()
+            put_fault(why, out)
         }
     }
 }
 
 // The index that was made: records and used.
-pub fn put_made(answer: Indexed, out: &mut [u64; 2]) -> u32
+pub fn put_made(answer: Result<Index, Refusal>, out: &mut [u64; 2]) -> u32
     ensures { (result ≡ indexed_number answer)
         × (out.new ≡ made_numbers answer) }
 {
     match answer {
-        Indexed::Done(index) => {
+        Ok(index) => {
             put_places(out, index.records, index.used);
             0
         }
-        Indexed::Refused(why) => {
+        Err(why) => {
             put_places(out, 0, 0);
-            why.number()
+            why.shown().number
         }
     }
 }
@@ -261,18 +272,18 @@ fn put_three(out: &mut [u64; 3], records: usize, used: usize, ended: u32)
 }
 
 // The index of a capture's front: records, used and ended.
-pub fn put_front(answer: Fronted, out: &mut [u64; 3]) -> u32
+pub fn put_front(answer: Result<FrontIndex, Refusal>, out: &mut [u64; 3]) -> u32
     ensures { (result ≡ fronted_number answer)
         × (out.new ≡ fronted_numbers answer) }
 {
     match answer {
-        Fronted::Done(front) => {
+        Ok(front) => {
             put_three(out, front.index.records, front.index.used, front.ended);
             0
         }
-        Fronted::Refused(why) => {
+        Err(why) => {
             put_three(out, 0, 0, 0);
-            why.number()
+            why.shown().number
         }
     }
 }
@@ -291,37 +302,48 @@ fn put_five(out: &mut [u64; 5], r: u32, m: u32, start: usize, length: usize, pla
 }
 
 // A record that was found, and where its packed part starts.
-pub fn put_entry(header: Header, start: usize, length: usize, out: &mut [u64; 5]) -> u32
+pub fn put_entry(
+    header: Result<Code, Refusal>,
+    start: usize,
+    length: usize,
+    out: &mut [u64; 5],
+) -> u32
     ensures { (result ≡ header_number header)
         × (out.new ≡ entry_numbers header start length) }
 {
     match header {
-        Header::Record(code) => {
+        Ok(code) => {
             put_five(out, code.r, code.m, start, length, 0);
             0
         }
-        Header::Refused(why) => {
-            put_five(out, 0, 0, start, length, why.place());
-            why.number()
+        Err(why) => {
+            let shown = why.shown();
+            put_five(out, 0, 0, start, length, shown.place);
+            shown.number
         }
     }
 }
 
 // The index after an append, which stays as it is on refusal; the new end and the place under 4.
-pub fn put_appended(answer: Indexed, index: &mut [u64; 2], out: &mut [u64; 2]) -> u32
+pub fn put_appended(
+    answer: Result<Index, Refusal>,
+    index: &mut [u64; 2],
+    out: &mut [u64; 2],
+) -> u32
     ensures { (result ≡ indexed_number answer)
         × (index.new ≡ pair_after index.old answer)
         × (out.new ≡ appended_numbers answer) }
 {
     match answer {
-        Indexed::Done(after) => {
+        Ok(after) => {
             put_places(index, after.records, after.used);
             put_places(out, after.used, 0);
             0
         }
-        Indexed::Refused(why) => {
-            put_places(out, 0, why.place());
-            why.number()
+        Err(why) => {
+            let shown = why.shown();
+            put_places(out, 0, shown.place);
+            shown.number
         }
     }
 }

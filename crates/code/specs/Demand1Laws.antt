@@ -1,15 +1,13 @@
 -- Demand 1 follows if the checks are made in their order, each on what the checks before it leave.
-use Rattle.std.specs.Prelude.{◌≡◌, refl, ◌⊎◌, ℕ, zero, suc, ◌^◌, ◌≤◌, ◌<◌, ℤ, pos, nat_abs, length, get_or}
+use Rattle.std.specs.Prelude.{◌≡◌, refl, ◌⊎◌, ℕ, zero, suc, ◌^◌, ◌≤◌, ◌<◌, ℤ, pos, nat_abs, length, get_or, Err}
 use Rattle.std.proofs.Common.{ap, sym, subst, ◌∙◌, inl, inr, arith, not-suc-le-zero, le_of_suc-le-suc, lt-ltb, le-ltb}
 use Rattle.std.proofs.Math.Logic.{⊎_elim}
 use mathlib.Core.List.{List, [], ◌∷◌}
 use Rattle.std.proofs.Math.Decide.{ℕ_discrete}
 use Rattle.numbers.specs.Choice.{lt_or_le}
 use Rattle.code.specs.declared.Code.{Code}
-use Rattle.code.specs.declared.Made.TheVariants.{Bad}
 use Rattle.code.specs.declared.Refusal.{Refusal}
 use Rattle.code.specs.declared.Refusal.TheVariants.{Parameters, InputLength, OutputLength, Entry}
-use Rattle.code.specs.declared.Admitted.TheVariants.{Refused}
 use Rattle.code.specs.Sound.{Sound, largest_m, largest_reading, made, number_of, rm}
 use Rattle.code.specs.SoundInput.{dimension_of, GoodReadings, SoundFor, SoundReadings}
 use Rattle.code.specs.SoundLaws.{made_large, made-crossed, made_good}
@@ -124,7 +122,7 @@ module _ {A : Type 0} (d : A) (size : A → ℕ) (limit : ℕ) where
   -- each check by the call, on what the checks before it leave
   pub record MadeFirst (r m : ℕ) (l : List A) (expected : ℕ) (outputs : Type 0) (before : List (List ℕ)) (o : View) (rest : Checks) : Type 0 where
     pub decidable : outputs ⊎ (outputs → ⊥)
-    pub one : made r m ≡ Bad → o ≡ refused_as Parameters before
+    pub one : made r m ≡ Err Parameters → o ≡ refused_as Parameters before
     pub two : Sound (rm r m) → (length l ≡ expected → ⊥) → o ≡ refused_as InputLength before
     pub three : Sound (rm r m) → length l ≡ expected → (outputs → ⊥) → o ≡ refused_as OutputLength before
     pub four : Sound (rm r m) → length l ≡ expected → outputs → first_above size limit l < length l → o ≡ refused_as (Entry (first_above size limit l)) before
@@ -171,7 +169,7 @@ module _ (expected : Code → ℕ) (r m : ℕ) (l : List ℤ) (k n : ℕ) where
       ]
 
   pub decides_readings_for : (before : List (List ℕ)) (o : View) (rest : Checks)
-      → ((why : Refusal) → Refused why ≡ admitted_for expected r m l k n → o ≡ refused_as why before)
+      → ((why : Refusal) → Err why ≡ admitted_for expected r m l k n → o ≡ refused_as why before)
       → (SoundFor (rm r m) (expected (rm r m)) k n (GoodReadings (rm r m) l) → Decides before o rest)
       → Decides before o (reading_checks_for (expected (rm r m)) r m l k n rest)
   decides_readings_for before o rest by then =
@@ -197,6 +195,6 @@ module _ (expected : Code → ℕ) (r m : ℕ) (l : List ℤ) (k n : ℕ) where
       })
 
 pub decides_readings : (r m : ℕ) (l : List ℤ) (k n : ℕ) (before : List (List ℕ)) (o : View) (rest : Checks)
-    → ((why : Refusal) → Refused why ≡ admitted r m l k n → o ≡ refused_as why before) → (SoundReadings (rm r m) l k n → Decides before o rest)
+    → ((why : Refusal) → Err why ≡ admitted r m l k n → o ≡ refused_as why before) → (SoundReadings (rm r m) l k n → Decides before o rest)
     → Decides before o (reading_checks r m l k n rest)
 decides_readings = decides_readings_for dimension_of

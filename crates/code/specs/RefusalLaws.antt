@@ -1,11 +1,9 @@
 -- A refusal is determined by its number and the values that it carries. Only 6 and 7 carry more than a place.
-use Rattle.std.specs.Prelude.{◌≡◌, refl, cond, ◌<◌, eqb}
+use Rattle.std.specs.Prelude.{◌≡◌, refl, cond, ◌<◌, eqb, Result, Ok, Err}
 use Rattle.std.proofs.Common.{ap, sym, ◌∙◌, arith}
 use Rattle.code.specs.declared.Refusal.{Refusal}
 use Rattle.code.specs.declared.Refusal.TheVariants.{Parameters, InputLength, OutputLength, Entry, NotAWord, OutOfVisits, Tied, Torn, Pad}
 use Rattle.code.specs.declared.Refusal.TheVariants.{NoEntry, Map, Named}
-use Rattle.code.specs.declared.Completed.{Completed}
-use Rattle.code.specs.declared.Completed.TheVariants.{Done, Refused}
 use Rattle.code.specs.Sound.{Carried, carrying, carried, completed, number_of}
 
 -- the refusal of a number that carries these values
@@ -56,11 +54,11 @@ number_above Map = omega arith
 number_above Named = omega arith
 
 -- an answer is determined by what it carries
-pub completed_only : (a b : Completed) → completed a ≡ completed b → a ≡ b
-completed_only Done Done e = refl
-completed_only Done (Refused why) e = absurd (omega (arith, number_above why, ap (λ (c : Carried). c.number) e))
-completed_only (Refused why) Done e = absurd (omega (arith, number_above why, ap (λ (c : Carried). c.number) e))
-completed_only (Refused why) (Refused why') e = ap Refused (refusal_only why why' e)
+pub completed_only : (a b : Result (Unit {0}) Refusal) → completed a ≡ completed b → a ≡ b
+completed_only (Ok _) (Ok _) e = refl
+completed_only (Ok _) (Err why) e = absurd (omega (arith, number_above why, ap (λ (c : Carried). c.number) e))
+completed_only (Err why) (Ok _) e = absurd (omega (arith, number_above why, ap (λ (c : Carried). c.number) e))
+completed_only (Err why) (Err why') e = ap Err (refusal_only why why' e)
 
 -- no penalty and no visits but under 6 and 7
 pub carries_none : (why : Refusal) → (number_of why ≡ 6 → ⊥) → (number_of why ≡ 7 → ⊥) → carried why ≡ carrying (number_of why) (carried why).place 0 0

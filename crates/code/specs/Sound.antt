@@ -1,13 +1,9 @@
 -- Sound parameters, the limits, and the refusals' numbers and values (docs/RULES.md, §6).
-use Rattle.std.specs.Prelude.{cond, ◌&&◌, ℕ, ◌≤◌, leb}
+use Rattle.std.specs.Prelude.{cond, ◌&&◌, ℕ, ◌≤◌, leb, Result, Ok, Err}
 use Rattle.code.specs.declared.Code.{Code}
-use Rattle.code.specs.declared.Made.{Made}
-use Rattle.code.specs.declared.Made.TheVariants.{Good, Bad}
 use Rattle.code.specs.declared.Refusal.{Refusal}
 use Rattle.code.specs.declared.Refusal.TheVariants.{Parameters, InputLength, OutputLength, Entry, NotAWord, OutOfVisits, Tied, Torn, Pad}
 use Rattle.code.specs.declared.Refusal.TheVariants.{NoEntry, Map, Named}
-use Rattle.code.specs.declared.Completed.{Completed}
-use Rattle.code.specs.declared.Completed.TheVariants.{Done, Refused}
 
 -- the limits; nothing else repeats them
 abbrev pub largest_m : ℕ
@@ -32,8 +28,8 @@ abbrev pub rm : ℕ → ℕ → Code
 rm r m = record { r = r; m = m }
 
 -- the code of r and m, refused exactly if m > 8 or r > m
-unfoldable pub made : ℕ → ℕ → Made
-made r m = cond (leb m largest_m && leb r m) (Good (rm r m)) Bad
+unfoldable pub made : ℕ → ℕ → Result Code Refusal
+made r m = cond (leb m largest_m && leb r m) (Ok (rm r m)) (Err Parameters)
 
 -- what a refusal reports: its number, and the place, penalty and visits that it carries, 0 for those that it does not carry
 pub record Carried : Type 0 where
@@ -61,9 +57,9 @@ carried Map = carrying 11 0 0 0
 carried Named = carrying 12 0 0 0
 
 -- a call that is done carries nothing
-abbrev pub completed : Completed → Carried
-completed Done = carrying 0 0 0 0
-completed (Refused why) = carried why
+abbrev pub completed : Result (Unit {0}) Refusal → Carried
+completed (Ok _) = carrying 0 0 0 0
+completed (Err why) = carried why
 
 abbrev pub number_of : Refusal → ℕ
 number_of why = (carried why).number

@@ -8,21 +8,14 @@ ghost use Rattle.numbers.specs.Sums.{tabulate};
 ghost use Rattle.words.specs.Kinds.{kind, kinds, dimension};
 ghost use Rattle.code.specs.Sound.{Sound, largest_m, made, carried};
 ghost use Rattle.code.specs.Sound.{largest_reading, largest_record_reading};
-ghost use Rattle.code.specs.Entries.{some_bad_bit, first_bad_bit};
-ghost use Rattle.code.specs.Entries.{some_bad_reading, first_bad_reading};
-ghost use Rattle.code.specs.Admitted.{admitted_by, admitted};
+ghost use Rattle.code.specs.Entries.{some_bad_bit, some_bad_reading};
+ghost use Rattle.code.specs.Admitted.{bits_tested, readings_tested, admitted_by, admitted};
 
 // The parameters of RM(r,m).
 #[derive(Clone, Copy)]
 pub struct Code {
     pub r: u32,
     pub m: u32,
-}
-
-#[derive(Clone, Copy)]
-pub enum Made {
-    Good(Code),
-    Bad,
 }
 
 // Why a call refuses, in the order of the rules' table.
@@ -50,26 +43,12 @@ pub enum Refusal {
 
 // What a refusal reports: the rules' number, and the place, penalty and visits that it carries, 0
 // for those that it does not carry.
-#[derive(Clone, Copy)]
+#[derive(Clone, Copy, Default)]
 pub struct Shown {
     pub number: u32,
     pub place: usize,
     pub penalty: u32,
     pub visits: u32,
-}
-
-// The answer of a call that reports only a refusal.
-#[derive(Clone, Copy)]
-pub enum Completed {
-    Done,
-    Refused(Refusal),
-}
-
-// What the tests on readings leave.
-#[derive(Clone, Copy)]
-pub enum Admitted {
-    Allowed(Code),
-    Refused(Refusal),
 }
 
 // The numbers k of information bits of RM(0,m), RM(1,m), .. RM(8,m). A match, since a constant
@@ -104,16 +83,17 @@ impl Code {
 
     pub const DEFAULT_ALLOWANCE: u32 = 200000;
 
-    pub fn new(r: u32, m: u32) -> Made
+    // Test 1.
+    pub fn new(r: u32, m: u32) -> Result<Code, Refusal>
         ensures { result ≡ made r m }
     {
         if Code::LARGEST_M < m {
-            return Made::Bad;
+            return Err(Refusal::Parameters);
         }
         if m < r {
-            return Made::Bad;
+            return Err(Refusal::Parameters);
         }
-        Made::Good(Code { r, m })
+        Ok(Code { r, m })
     }
 
     // n, the number of positions.
@@ -153,10 +133,8 @@ pub fn put_kinds(code: Code, row: &mut [u8])
     requires { Sound code × (length row.old ≡ 2 ^ code.m) }
     ensures { row.new ≡ kinds code.r code.m }
 {
-    let mut i = 0;
-    while i < row.len() {
+    for i in 0..row.len() {
         row[i] = code.kind(i);
-        i += 1;
     }
 }
 
@@ -165,29 +143,25 @@ fn some_bad_bit(bits: &[u8]) -> bool
     ensures { result ≡ some_bad_bit bits.now }
 {
     let mut some = false;
-    let mut i = 0;
-    while i < bits.len() {
-        some = some | (1 < bits[i]);
-        i += 1;
+    for bit in bits {
+        some = some | (1 < *bit);
     }
     some
 }
 
-// The lowest place of a byte above 1, or the length if there is none.
-pub fn first_bad_bit(bits: &[u8]) -> usize
-    ensures { result ≡ first_bad_bit bits.now }
+// Test 4 on bits: refuses the lowest place of a byte above 1.
+pub fn test_bits(bits: &[u8]) -> Result<(), Refusal>
+    ensures { result ≡ bits_tested bits.now }
 {
     if !some_bad_bit(bits) {
-        return bits.len();
+        return Ok(());
     }
-    let mut i = 0;
-    while i < bits.len() {
-        if 1 < bits[i] {
-            return i;
+    for (i, bit) in bits.iter().enumerate() {
+        if 1 < *bit {
+            return Err(Refusal::Entry(i));
         }
-        i += 1;
     }
-    i
+    Ok(())
 }
 
 // Whether a reading is beyond the largest, of either sign.
@@ -207,52 +181,47 @@ fn some_beyond(readings: &[i16], largest: i16) -> bool
     ensures { result ≡ some_bad_reading (up largest) readings.now }
 {
     let mut some = false;
-    let mut i = 0;
-    while i < readings.len() {
-        some = some | beyond(readings[i], largest);
-        i += 1;
+    for reading in readings {
+        some = some | beyond(*reading, largest);
     }
     some
 }
 
-// The lowest place of a reading beyond the largest, or the length if there is none.
-fn first_beyond(readings: &[i16], largest: i16) -> usize
+// Refuses the lowest place of a reading beyond the largest.
+fn test_within(readings: &[i16], largest: i16) -> Result<(), Refusal>
     requires { down largest ≡ 0 }
-    ensures { result ≡ first_bad_reading (up largest) readings.now }
+    ensures { result ≡ readings_tested (up largest) readings.now }
 {
     if !some_beyond(readings, largest) {
-        return readings.len();
+        return Ok(());
     }
-    let mut i = 0;
-    while i < readings.len() {
-        if beyond(readings[i], largest) {
-            return i;
+    for (i, reading) in readings.iter().enumerate() {
+        if beyond(*reading, largest) {
+            return Err(Refusal::Entry(i));
         }
-        i += 1;
     }
-    i
+    Ok(())
 }
 
-pub fn first_bad_reading(readings: &[i16]) -> usize
-    ensures { result ≡ first_bad_reading largest_reading readings.now }
+// Test 4 on readings.
+pub fn test_readings(readings: &[i16]) -> Result<(), Refusal>
+    ensures { result ≡ readings_tested largest_reading readings.now }
 {
-    first_beyond(readings, Code::LARGEST_READING)
+    test_within(readings, Code::LARGEST_READING)
 }
 
 // The same for readings that are to go into a record, or came out of one.
-pub fn first_bad_record_reading(readings: &[i16]) -> usize
-    ensures { result ≡ first_bad_reading largest_record_reading readings.now }
+pub fn test_record_readings(readings: &[i16]) -> Result<(), Refusal>
+    ensures { result ≡ readings_tested largest_record_reading readings.now }
 {
-    first_beyond(readings, Code::LARGEST_RECORD_READING)
+    test_within(readings, Code::LARGEST_RECORD_READING)
 }
 
 // The tests 1 to 4 in their order, for readings and lent outputs of these lengths.
-pub fn admit(r: u32, m: u32, readings: &[i16], bits: usize, word: usize) -> Admitted
+pub fn admit(r: u32, m: u32, readings: &[i16], bits: usize, word: usize) -> Result<Code, Refusal>
     ensures { result ≡ admitted r m readings.now bits word }
 {
-    let Made::Good(code) = Code::new(r, m) else {
-        return Admitted::Refused(Refusal::Parameters);
-    };
+    let code = Code::new(r, m)?;
     admit_for(code, code.dimension(), readings, bits, word)
 }
 
@@ -263,25 +232,22 @@ pub fn admit_for(
     readings: &[i16],
     bits: usize,
     word: usize,
-) -> Admitted
+) -> Result<Code, Refusal>
     requires { Sound code }
     ensures { result ≡ admitted_by code expected readings.now bits word }
 {
     let n = code.length();
     if readings.len() != n {
-        return Admitted::Refused(Refusal::InputLength);
+        return Err(Refusal::InputLength);
     }
     if bits != expected {
-        return Admitted::Refused(Refusal::OutputLength);
+        return Err(Refusal::OutputLength);
     }
     if word != n {
-        return Admitted::Refused(Refusal::OutputLength);
+        return Err(Refusal::OutputLength);
     }
-    let place = first_bad_reading(readings);
-    if place < n {
-        return Admitted::Refused(Refusal::Entry(place));
-    }
-    Admitted::Allowed(code)
+    test_readings(readings)?;
+    Ok(code)
 }
 
 impl Refusal {
@@ -290,12 +256,7 @@ impl Refusal {
         ensures { (result.number ≡ (carried self).number) × (result.place ≡ (carried self).place)
             × (result.penalty ≡ (carried self).penalty) × (result.visits ≡ (carried self).visits) }
     {
-        let none = Shown {
-            number: 0,
-            place: 0,
-            penalty: 0,
-            visits: 0,
-        };
+        let none = Shown::default();
         match self {
             Refusal::Parameters => Shown { number: 1, ..none },
             Refusal::InputLength => Shown { number: 2, ..none },
@@ -327,33 +288,5 @@ impl Refusal {
             Refusal::Map => Shown { number: 11, ..none },
             Refusal::Named => Shown { number: 12, ..none },
         }
-    }
-
-    pub fn number(self) -> u32
-        ensures { result ≡ (carried self).number }
-    {
-        let shown = self.shown();
-        shown.number
-    }
-
-    pub fn place(self) -> usize
-        ensures { result ≡ (carried self).place }
-    {
-        let shown = self.shown();
-        shown.place
-    }
-
-    pub fn penalty(self) -> u32
-        ensures { result ≡ (carried self).penalty }
-    {
-        let shown = self.shown();
-        shown.penalty
-    }
-
-    pub fn visits(self) -> u32
-        ensures { result ≡ (carried self).visits }
-    {
-        let shown = self.shown();
-        shown.visits
     }
 }

@@ -1,5 +1,5 @@
 -- The outcomes of the early answer meet demand 1.
-use Rattle.std.specs.Prelude.{◌≡◌, refl, true, false, List, [], ◌∷◌, ℕ, ℤ, length}
+use Rattle.std.specs.Prelude.{◌≡◌, refl, true, false, List, [], ◌∷◌, ℕ, ℤ, length, Err}
 use Rattle.std.proofs.Math.Path.{ap}
 use Rattle.std.proofs.Common.{◌∙◌, arith}
 use Rattle.std.proofs.Math.Logic.{inl, inr, ⊎_elim}
@@ -12,7 +12,6 @@ use Rattle.decoding.specs.Walk.{needed}
 use Rattle.decoding.specs.Answer.{answer}
 use Rattle.sure.specs.Test.{passes}
 use Rattle.code.specs.declared.Refusal.{Refusal}
-use Rattle.code.specs.declared.Admitted.TheVariants.{Refused}
 use Rattle.code.specs.Admitted.{admitted}
 use Rattle.code.specs.Demand1.{refused_as}
 use Rattle.code.specs.Demand1Laws.{Decides, demand_1, decides_readings}
@@ -24,7 +23,7 @@ use Rattle.early.proofs.WayLaws.{true_or_false, passed_is, failed_is}
 use Rattle.early.specs.Demands.{late_checks, early_checks, EarlyDemand1}
 
 module _ (r m allowed : ℕ) (l : List ℤ) (bits word : List ℕ) where
-  tests_refuse : (why : Refusal) → Refused why ≡ admitted r m l (length bits) (length word)
+  tests_refuse : (why : Refusal) → Err why ≡ admitted r m l (length bits) (length word)
       → view (answering r m allowed l bits word) ≡ refused_as why (bits ∷ word ∷ [])
   tests_refuse why e = ap view (answering-refused r m allowed l bits word why e)
 

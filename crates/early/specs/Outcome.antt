@@ -1,26 +1,24 @@
 -- What `early_within` reports and leaves, for every input (docs/RULES.md, §10): the quick reading if the test passes, else
 -- what the search gives.
-use Rattle.std.specs.Prelude.{cond, List, ℕ, ℤ, length, eqb}
+use Rattle.std.specs.Prelude.{cond, List, ℕ, ℤ, length, eqb, Result, Ok, Err}
 use Rattle.words.specs.Kinds.{kinds}
 use Rattle.decoding.specs.Quick.{quick_word, quick_bits, quick_penalty}
 use Rattle.decoding.specs.Answer.{answer}
 use Rattle.sure.specs.Test.{passes}
 use Rattle.code.specs.declared.Code.{Code}
 use Rattle.code.specs.Admitted.{admitted, after_test}
-use Rattle.search.specs.declared.Searched.{Searched}
-use Rattle.search.specs.declared.Searched.TheVariants as search
 use Rattle.search.specs.Outcome.{Outcome, found_with, refused, by_answer}
 use Rattle.search.specs.Outcome as Search
-use Rattle.early.specs.declared.Answered.{Answered}
-use Rattle.early.specs.declared.Answered.TheVariants.{Best, Refused}
+use Rattle.code.specs.declared.Refusal.{Refusal}
+use Rattle.search.specs.declared.Found.{Found}
 
 -- the answer as a search's, without gap and visits
-abbrev pub as_searched : Answered → Searched
-as_searched (Best penalty) = search.Found penalty 0 0
-as_searched (Refused why) = search.Refused why
+abbrev pub as_searched : Result ℕ Refusal → Result Found Refusal
+as_searched (Ok penalty) = FOUND penalty 0 0
+as_searched (Err why) = Err why
 
 -- the answer in the rules' numbers
-abbrev pub outcome_of : Answered → List ℕ → List ℕ → Outcome
+abbrev pub outcome_of : Result ℕ Refusal → List ℕ → List ℕ → Outcome
 outcome_of a bits word = Search.outcome_of (as_searched a) bits word
 
 -- a search's outcome: on success only word, bits and penalty

@@ -1,10 +1,9 @@
 -- The outcome at each place where `early_within` returns.
-use Rattle.search.specs.declared.Searched.{Searched}
-use Rattle.search.specs.declared.Searched.TheVariants as search
-use Rattle.early.specs.declared.Answered.{Answered}
-use Rattle.early.specs.declared.Answered.TheVariants.{Best, Refused}
+use Rattle.std.specs.Prelude.{Result, Ok, Err}
+use Rattle.code.specs.declared.Refusal.{Refusal}
+use Rattle.search.specs.declared.Found.{Found}
 
 -- what is kept of a search's answer
-abbrev pub penalty_only : Searched → Answered
-penalty_only (search.Found penalty gap visits) = Best penalty
-penalty_only (search.Refused why) = Refused why
+abbrev pub penalty_only : Result Found Refusal → Result ℕ Refusal
+penalty_only (FOUND penalty gap visits) = Ok penalty
+penalty_only (Err why) = Err why

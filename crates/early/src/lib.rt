@@ -12,18 +12,12 @@ ghost use Rattle.early.specs.Outcome.{outcome_of, early_by, answering};
 ghost use Rattle.early.specs.OutcomeLaws.{penalty_only};
 ghost use Rattle.early.specs.Work.{Testable, Summable};
 
-use code::{Admitted, Code, Refusal};
-use search::Searched;
-
-#[derive(Clone, Copy)]
-pub enum Answered {
-    Best { penalty: u32 },
-    Refused(Refusal),
-}
+use code::{Code, Refusal};
+use search::Found;
 
 // Writes the information bits and the word of least penalty into the lent buffers: without a walk
 // if the quick reading is surely right, else if no other word has that penalty and the walk
-// needs no more visits than allowed.
+// needs no more visits than allowed. Gives the penalty.
 pub fn early_within(
     r: u32,
     m: u32,
@@ -31,19 +25,23 @@ pub fn early_within(
     readings: &[i16],
     bits: &mut [u8],
     word: &mut [u8],
-) -> Answered
+) -> Result<u32, Refusal>
     ensures { outcome_of result bits.new word.new
         ≡ answering r m allowed readings.now
         bits.old word.old }
 {
-    match code::admit(r, m, readings, bits.len(), word.len()) {
-        Admitted::Refused(why) => Answered::Refused(why),
-        Admitted::Allowed(code) => answer_sound(code, allowed, readings, bits, word),
-    }
+    let code = code::admit(r, m, readings, bits.len(), word.len())?;
+    answer_sound(code, allowed, readings, bits, word)
 }
 
 // The same, with the default allowance.
-pub fn early(r: u32, m: u32, readings: &[i16], bits: &mut [u8], word: &mut [u8]) -> Answered
+pub fn early(
+    r: u32,
+    m: u32,
+    readings: &[i16],
+    bits: &mut [u8],
+    word: &mut [u8],
+) -> Result<u32, Refusal>
     ensures { outcome_of result bits.new word.new
         ≡ answering r m default_allowance readings.now
         bits.old word.old }
@@ -59,7 +57,7 @@ fn answer_sound(
     readings: &[i16],
     bits: &mut [u8],
     word: &mut [u8],
-) -> Answered
+) -> Result<u32, Refusal>
     requires { SoundReadings code readings.now (length bits.old) (length word.old) }
     ensures { outcome_of result bits.new word.new
         ≡ early_by code allowed readings.now
@@ -83,7 +81,7 @@ fn test_first(
     read_word: &mut [u8],
     bits: &mut [u8],
     word: &mut [u8],
-) -> Answered
+) -> Result<u32, Refusal>
     requires { SoundReadings code readings.now (length bits.old) (length word.old)
         × (length read_bits.old ≡ length bits.old)
         × (length read_word.old ≡ length word.old) }
@@ -95,7 +93,7 @@ fn test_first(
     if surely_right(code, readings, read_word) {
         bit_rows::copy(read_bits, bits);
         bit_rows::copy(read_word, word);
-        return Answered::Best { penalty };
+        return Ok(penalty);
     }
     let answer = search::search_sound(code, allowed, readings, bits, word);
     let result = answer.result;
@@ -103,17 +101,11 @@ fn test_first(
 }
 
 // Only word, bits and penalty of a search are given.
-fn penalty_only(answer: Searched) -> Answered
+fn penalty_only(answer: Result<Found, Refusal>) -> Result<u32, Refusal>
     ensures { result ≡ penalty_only answer }
 {
-    match answer {
-        Searched::Found {
-            penalty,
-            gap: _,
-            visits: _,
-        } => Answered::Best { penalty },
-        Searched::Refused(why) => Answered::Refused(why),
-    }
+    let found = answer?;
+    Ok(found.penalty)
 }
 
 // Whether the sum along the word is below M times the code's distance, with the largest size as M.

@@ -1,5 +1,5 @@
 -- The outcomes of `encode` and `inverse` meet demand 1.
-use Rattle.std.specs.Prelude.{◌≡◌, refl, ◌⊎◌, List, [], ◌∷◌, ℕ, ◌^◌, length}
+use Rattle.std.specs.Prelude.{◌≡◌, refl, ◌⊎◌, List, [], ◌∷◌, ℕ, ◌^◌, length, Ok}
 use Rattle.std.proofs.Common.{ap, sym, inl, inr, ⊎_elim, arith, lt-ltb, le-ltb}
 use Rattle.std.proofs.Math.Decide.{ℕ_discrete}
 use Rattle.numbers.specs.Choice.{lt_or_le}
@@ -9,7 +9,6 @@ use Rattle.words.specs.Kinds.{kinds, dimension, pick, encoded}
 use Rattle.words.proofs.KindLaws.{length-kinds, bits_kinds}
 use Rattle.words.specs.Inverse.{taken, frozen_one, first_frozen_one, taken_back}
 use Rattle.words.proofs.InverseLaws.{refused_lowest, lowest_refused}
-use Rattle.code.specs.declared.Made.TheVariants.{Good}
 use Rattle.code.specs.Sound.{Sound, made, rm}
 use Rattle.code.specs.SoundLaws.{made_good}
 use Rattle.code.specs.EntriesLaws.{good_bits}
@@ -24,7 +23,7 @@ long_or_not a b = elim (ℕ_discrete a b) [ yes e ↦ inl e | no e ↦ inr e ]
 
 -- the tests of an input of bits, and then the rest
 module _ (r m : ℕ) (input : List ℕ) (expected : ℕ) (output : List ℕ) (room : ℕ) (rest : Outcome) (more : Checks) where
-  good : Sound (rm r m) → made r m ≡ Good (rm r m)
+  good : Sound (rm r m) → made r m ≡ Ok (rm r m)
   good s = made_good r m s.m_small s.r_small
 
   pub decides_tested : (length input ≡ expected → Bits input → Decides (output ∷ []) (view rest) more)

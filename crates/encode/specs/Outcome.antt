@@ -1,15 +1,12 @@
 -- What `encode` and `inverse` report and leave, for every input, in the rules' numbers (docs/RULES.md, §6).
-use Rattle.std.specs.Prelude.{List, Bool, true, false, not, cond, ℕ, ◌^◌, length, ltb, eqb}
+use Rattle.std.specs.Prelude.{List, Bool, true, false, not, cond, ℕ, ◌^◌, length, ltb, eqb, Result, Ok, Err}
 use Rattle.words.specs.Kinds.{kinds, dimension, encoded}
 use Rattle.words.specs.Inverse.{TakenBack, taken, frozen_one, taken_back}
-use Rattle.code.specs.declared.Made.{Made}
-use Rattle.code.specs.declared.Made.TheVariants.{Good, Bad}
 use Rattle.code.specs.declared.Refusal.{Refusal}
 use Rattle.code.specs.declared.Refusal.TheVariants.{Parameters, InputLength, OutputLength, Entry, NotAWord}
 use Rattle.code.specs.Sound.{made, carried}
 use Rattle.code.specs.Entries.{first_bad_bit}
-use Rattle.code.specs.declared.Completed.{Completed}
-use Rattle.code.specs.declared.Completed.TheVariants.{Done, Refused}
+use Rattle.code.specs.declared.Code.{Code}
 
 pub record Outcome : Type 0 where
   -- 0 if the call is done, else the refusal's number
@@ -27,13 +24,13 @@ abbrev pub refused : Refusal → List ℕ → Outcome
 refused why buffer = record { number = (carried why).number; place = (carried why).place; buffer = buffer }
 
 -- the answer in the rules' numbers
-abbrev pub outcome_of : Completed → List ℕ → Outcome
-outcome_of Done = done
-outcome_of (Refused why) = refused why
+abbrev pub outcome_of : Result (Unit {0}) Refusal → List ℕ → Outcome
+outcome_of (Ok _) = done
+outcome_of (Err why) = refused why
 
-abbrev pub is_good : Made → Bool
-is_good (Good code) = true
-is_good Bad = false
+abbrev pub is_good : Result Code Refusal → Bool
+is_good (Ok code) = true
+is_good (Err _) = false
 
 -- tests 1 to 4 in their order, over an input of bits and a lent output with the lengths that they should have; `rest` if no test applies
 unfoldable pub tested : ℕ → ℕ → List ℕ → ℕ → List ℕ → ℕ → Outcome → Outcome

@@ -1,5 +1,5 @@
 -- The outcome at each place where a call returns, and what an outcome says about the tests 1 to 4.
-use Rattle.std.specs.Prelude.{◌≡◌, refl, List, ◌⊎◌, true, false, cond, ℕ, ◌^◌, ◌≤◌, ◌<◌, length, ltb}
+use Rattle.std.specs.Prelude.{◌≡◌, refl, List, ◌⊎◌, true, false, cond, ℕ, ◌^◌, ◌≤◌, ◌<◌, length, ltb, Result, Ok, Err}
 use Rattle.std.proofs.Common.{ap, ◌∙◌, subst, inl, inr, ⊎_elim, arith}
 use Rattle.std.proofs.Math.Path.{sym}
 use Rattle.std.proofs.Math.Decide.{ℕ_discrete}
@@ -10,8 +10,6 @@ use Rattle.words.specs.Word.{transform}
 use Rattle.words.specs.Kinds.{kinds, dimension, pick, encoded}
 use Rattle.words.specs.Inverse.{taken, frozen_one, first_frozen_one, taken_back}
 use Rattle.code.specs.declared.Code.{Code}
-use Rattle.code.specs.declared.Made.{Made}
-use Rattle.code.specs.declared.Made.TheVariants.{Good, Bad}
 use Rattle.code.specs.declared.Refusal.{Refusal}
 use Rattle.code.specs.declared.Refusal.TheVariants.{Parameters, InputLength, OutputLength, Entry, NotAWord}
 use Rattle.code.specs.Sound.{Sound, made, number_of, rm}
@@ -25,11 +23,11 @@ use Rattle.encode.specs.Work.{taking_row}
 
 -- ---- the tests, one after the other, with the numbers k and n that the code compares
 module _ (r m : ℕ) (input : List ℕ) (long : ℕ) (output : List ℕ) (room : ℕ) (rest : Outcome) where
-  pub tested_parameters : made r m ≡ Bad → refused Parameters output ≡ tested r m input long output room rest
+  pub tested_parameters : made r m ≡ Err Parameters → refused Parameters output ≡ tested r m input long output room rest
   unfolding tested
   tested_parameters e = rw e
 
-  module _ {c : Code} (good : made r m ≡ Good c) {k : ℕ} (e : k ≡ long) where
+  module _ {c : Code} (good : made r m ≡ Ok c) {k : ℕ} (e : k ≡ long) where
     pub tested_input : (length input ≡ k → ⊥) → refused InputLength output ≡ tested r m input long output room rest
     unfolding tested
     tested_input wrong = rw (good, ne_eqb (length input) long (λ h. wrong (h ∙ sym e)))
@@ -51,16 +49,16 @@ module _ (r m : ℕ) (input : List ℕ) (long : ℕ) (output : List ℕ) (room :
             rw (good, eq-eqb (length input) long (a ∙ e), eq-eqb (length output) room (b ∙ f), ← place, le-ltb i (length input) h)
 
 -- n and k of a made code are those of r and m
-module _ (r m : ℕ) {c : Code} (good : made r m ≡ Good c) where
+module _ (r m : ℕ) {c : Code} (good : made r m ≡ Ok c) where
   pub its_length : {n : ℕ} → n ≡ 2 ^ c.m → n ≡ 2 ^ m
   its_length e = e ∙ ap (λ (d : Code). 2 ^ d.m) (made_of r m c good).same
 
   pub its_dimension : {k : ℕ} → k ≡ dimension c.r c.m → k ≡ dimension r m
   its_dimension e = e ∙ ap (λ (d : Code). dimension d.r d.m) (made_of r m c good).same
 
-good_or_bad : (x : Made) → ((c : Code) × (x ≡ Good c)) ⊎ (x ≡ Bad)
-good_or_bad (Good c) = inl (c, refl)
-good_or_bad Bad = inr refl
+good_or_bad : (x : Result Code Refusal) → ((c : Code) × (x ≡ Ok c)) ⊎ (x ≡ Err Parameters)
+good_or_bad (Ok c) = inl (c, refl)
+good_or_bad (Err _) = inr refl
 
 module _ (r m : ℕ) (input : List ℕ) (long : ℕ) (output : List ℕ) (room : ℕ) (rest : Outcome) where
   pub passes-all : Sound (rm r m) → length input ≡ long → length output ≡ room → Bits input → tested r m input long output room rest ≡ rest
@@ -77,7 +75,7 @@ module _ (r m : ℕ) (input : List ℕ) (long : ℕ) (output : List ℕ) (room :
       ⊎ ((0 < (tested r m input long output room rest).number) × ((tested r m input long output room rest).number < 5))
   decided =
       ⊎_elim
-      (λ (g : (c : Code) × (made r m ≡ Good c)). elim (ℕ_discrete (length input) long) [
+      (λ (g : (c : Code) × (made r m ≡ Ok c)). elim (ℕ_discrete (length input) long) [
         | yes i ↦ elim (ℕ_discrete (length output) room) [
           | yes o ↦ ⊎_elim
               (λ h. refuses (Entry (first_bad_bit input)) (omega arith) (tested-entry r m input long output room rest g.1 refl i refl o refl h))

@@ -10,48 +10,38 @@ ghost use Rattle.code.specs.SoundInput.{SoundInput};
 ghost use Rattle.encode.specs.Outcome.{outcome_of, encoding, inverting, taking_back};
 ghost use Rattle.encode.specs.Work.{taking_row};
 
-use code::{Code, Completed, Made, Refusal};
+use code::{Code, Refusal};
 
 // Writes the word of the information bits into the lent buffer.
-pub fn encode(r: u32, m: u32, bits: &[u8], word: &mut [u8]) -> Completed
+pub fn encode(r: u32, m: u32, bits: &[u8], word: &mut [u8]) -> Result<(), Refusal>
     ensures { outcome_of result word.new
         ≡ encoding r m bits.now word.old }
 {
-    let Made::Good(code) = Code::new(r, m) else {
-        return Completed::Refused(Refusal::Parameters);
-    };
+    let code = Code::new(r, m)?;
     if bits.len() != code.dimension() {
-        return Completed::Refused(Refusal::InputLength);
+        return Err(Refusal::InputLength);
     }
     if word.len() != code.length() {
-        return Completed::Refused(Refusal::OutputLength);
+        return Err(Refusal::OutputLength);
     }
-    let place = code::first_bad_bit(bits);
-    if place < bits.len() {
-        return Completed::Refused(Refusal::Entry(place));
-    }
+    code::test_bits(bits)?;
     put_word(code, bits, word);
-    Completed::Done
+    Ok(())
 }
 
 // Writes the information bits of the word into the lent buffer.
-pub fn inverse(r: u32, m: u32, word: &[u8], bits: &mut [u8]) -> Completed
+pub fn inverse(r: u32, m: u32, word: &[u8], bits: &mut [u8]) -> Result<(), Refusal>
     ensures { outcome_of result bits.new
         ≡ inverting r m word.now bits.old }
 {
-    let Made::Good(code) = Code::new(r, m) else {
-        return Completed::Refused(Refusal::Parameters);
-    };
+    let code = Code::new(r, m)?;
     if word.len() != code.length() {
-        return Completed::Refused(Refusal::InputLength);
+        return Err(Refusal::InputLength);
     }
     if bits.len() != code.dimension() {
-        return Completed::Refused(Refusal::OutputLength);
+        return Err(Refusal::OutputLength);
     }
-    let place = code::first_bad_bit(word);
-    if place < word.len() {
-        return Completed::Refused(Refusal::Entry(place));
-    }
+    code::test_bits(word)?;
     take_back(code, word, bits)
 }
 
@@ -80,7 +70,7 @@ fn put_word(code: Code, bits: &[u8], word: &mut [u8])
     bit_rows::transform(word, code.m as usize);
 }
 
-fn take_back(code: Code, word: &[u8], bits: &mut [u8]) -> Completed
+fn take_back(code: Code, word: &[u8], bits: &mut [u8]) -> Result<(), Refusal>
     requires { SoundInput code (length bits.old) (length word.now) (Bits word.now) }
     ensures { outcome_of result bits.new
         ≡ taking_back (taken_back code.m (kinds code.r code.m) word.now)
@@ -95,7 +85,7 @@ fn take_back(code: Code, word: &[u8], bits: &mut [u8]) -> Completed
 }
 
 // Nothing is written before every frozen index has been found to be 0.
-pub fn take_row(kinds: &[u8], row: &[u8], bits: &mut [u8]) -> Completed
+pub fn take_row(kinds: &[u8], row: &[u8], bits: &mut [u8]) -> Result<(), Refusal>
     requires { (length row.now ≡ length kinds.now)
         × (length bits.old ≡ sum kinds.now) × Bits kinds.now }
     ensures { outcome_of result bits.new
@@ -103,8 +93,8 @@ pub fn take_row(kinds: &[u8], row: &[u8], bits: &mut [u8]) -> Completed
 {
     let index = bit_rows::first_frozen_one(kinds, row);
     if index < kinds.len() {
-        return Completed::Refused(Refusal::NotAWord(index));
+        return Err(Refusal::NotAWord(index));
     }
     bit_rows::pick(kinds, row, bits);
-    Completed::Done
+    Ok(())
 }

@@ -1,14 +1,13 @@
 -- The numbers of the rules that no other law fixes: the largest m, the standing allowance, and the refusals' numbers.
-use Rattle.std.specs.Prelude.{◌≡◌, refl, ℕ}
-use Rattle.code.specs.declared.Made.TheVariants.{Good, Bad}
+use Rattle.std.specs.Prelude.{◌≡◌, refl, ℕ, Ok, Err}
 use Rattle.code.specs.declared.Refusal.TheVariants.{Parameters, InputLength, OutputLength, Entry, NotAWord, OutOfVisits, Tied, Torn, Pad, NoEntry, Map, Named}
 use Rattle.code.specs.Sound.{default_allowance, rm, made, number_of}
 
 pub record RuleNumbers : Type 0 where
   -- 0 ≤ r ≤ m ≤ 8
-  pub longest_code : made 8 8 ≡ Good (rm 8 8)
-  pub m_too_large : made 0 9 ≡ Bad
-  pub r_too_large : made 8 7 ≡ Bad
+  pub longest_code : made 8 8 ≡ Ok (rm 8 8)
+  pub m_too_large : made 0 9 ≡ Err Parameters
+  pub r_too_large : made 8 7 ≡ Err Parameters
   pub standing : default_allowance ≡ 200000
   pub n1 : number_of Parameters ≡ 1
   pub n2 : number_of InputLength ≡ 2

@@ -1,5 +1,5 @@
 -- The outcome at each place where `first_order` returns.
-use Rattle.std.specs.Prelude.{◌≡◌, refl, List, ℕ, zero, suc, ◌-◌, ◌^◌, ◌/◌, ◌≤◌, ◌<◌, ℤ, length}
+use Rattle.std.specs.Prelude.{◌≡◌, refl, List, ℕ, zero, suc, ◌-◌, ◌^◌, ◌/◌, ◌≤◌, ◌<◌, ℤ, length, Ok, Err}
 use Rattle.std.proofs.Common.{ap, sym, ◌∙◌, arith, le_refl, pow_pos, pow_mono, eq-eqb, ne_eqb}
 use Rattle.std.proofs.Math.Nat.{two-pow-succ}
 use Rattle.words.specs.Kinds.{kinds}
@@ -13,7 +13,6 @@ use Rattle.hadamard.proofs.AnswerLaws.{least-by_place, answer-by_place}
 use Rattle.code.specs.declared.Code.{Code}
 use Rattle.code.specs.declared.Refusal.{Refusal}
 use Rattle.code.specs.declared.Refusal.TheVariants.{Parameters, Tied}
-use Rattle.code.specs.declared.Admitted.TheVariants.{Allowed, Refused}
 use Rattle.code.specs.Sound.{largest_reading, rm}
 use Rattle.code.specs.SoundInput.{SoundReadings}
 use Rattle.code.specs.SoundLaws.{length_most}
@@ -37,14 +36,14 @@ module _ (r m : ℕ) (l : List ℤ) (bits word : List ℕ) where
   unfolding first_ordering
   first-order h = rw (eq-eqb r 1 h)
 
-  pub test_refused : (why : Refusal) → Refused why ≡ admitted 1 m l (length bits) (length word) → refused why bits word ≡ as_search m l bits word
+  pub test_refused : (why : Refusal) → Err why ≡ admitted 1 m l (length bits) (length word) → refused why bits word ≡ as_search m l bits word
   test_refused why e =
       let small = refused_small 1 m l (length bits) (length word) why e in
       let plain : without_visits (refused why bits word) ≡ refused why bits word = rw (carries_none why (λ k. omega arith) (λ k. omega arith)) in
       sym (ap without_visits (searching-refused 1 m (tree (kinds 1 m)) l bits word why e) ∙ plain)
 
 -- what the tests allow is the code of r and m
-pub allowed_code : (r m : ℕ) (l : List ℤ) (k n : ℕ) (c : Code) → Allowed c ≡ admitted r m l k n → c ≡ rm r m
+pub allowed_code : (r m : ℕ) (l : List ℤ) (k n : ℕ) (c : Code) → Ok c ≡ admitted r m l k n → c ≡ rm r m
 allowed_code r m l k n c e =
     elim (decided r m l k n) [
       | allows d f is a ↦ let same : c ≡ d = cc in same ∙ is

@@ -15,8 +15,8 @@ ghost use Rattle.first_order.specs.Outcome.{as_search, first_ordering};
 ghost use Rattle.first_order.specs.Work.{crossed, doubled, largest_entry};
 ghost use Rattle.first_order.specs.Work.{Top, size_at, key_at, Looked};
 
-use code::{Admitted, Refusal};
-use search::Searched;
+use code::Refusal;
+use search::Found;
 
 // The place of the largest size, whether the entry there is negative, that size and the next.
 #[derive(Clone, Copy)]
@@ -29,21 +29,30 @@ pub struct Seen {
 
 // Writes the information bits and the word of least penalty of RM(1,m), if no other word has
 // that penalty. There are no visits.
-pub fn first_order(r: u32, m: u32, readings: &[i16], bits: &mut [u8], word: &mut [u8]) -> Searched
+pub fn first_order(
+    r: u32,
+    m: u32,
+    readings: &[i16],
+    bits: &mut [u8],
+    word: &mut [u8],
+) -> Result<Found, Refusal>
     ensures { outcome_of result bits.new word.new
         ≡ first_ordering r m readings.now bits.old word.old }
 {
     if r != 1 {
-        return Searched::Refused(Refusal::Parameters);
+        return Err(Refusal::Parameters);
     }
-    match code::admit(1, m, readings, bits.len(), word.len()) {
-        Admitted::Refused(why) => Searched::Refused(why),
-        Admitted::Allowed(code) => decode(code.m as usize, readings, bits, word),
-    }
+    let code = code::admit(1, m, readings, bits.len(), word.len())?;
+    decode(code.m as usize, readings, bits, word)
 }
 
 // The work, once no test refuses.
-fn decode(m: usize, readings: &[i16], bits: &mut [u8], word: &mut [u8]) -> Searched
+fn decode(
+    m: usize,
+    readings: &[i16],
+    bits: &mut [u8],
+    word: &mut [u8],
+) -> Result<Found, Refusal>
     requires { SoundReadings (rm 1 m) readings.now (length bits.old) (length word.old) }
     ensures { outcome_of result bits.new word.new
         ≡ as_search m readings.now bits.old word.old }
@@ -53,15 +62,15 @@ fn decode(m: usize, readings: &[i16], bits: &mut [u8], word: &mut [u8]) -> Searc
     let seen = find(readings, &mut sums[0..n], m);
     let penalty = (total_size(readings) - seen.best) / 2;
     if seen.best == seen.second {
-        return Searched::Refused(Refusal::Tied { penalty, visits: 0 });
+        return Err(Refusal::Tied { penalty, visits: 0 });
     }
     put_bits(bits, m, seen.place, seen.sign);
     put_word(word, m, seen.place, seen.sign as u8);
-    Searched::Found {
+    Ok(Found {
         penalty,
         gap: (seen.best - seen.second) / 2,
         visits: 0,
-    }
+    })
 }
 
 // The largest entries of the transform, which is made in the lent row.

@@ -12,8 +12,8 @@ ghost use Rattle.search.specs.Work.{with_bits, Searchable};
 ghost use Rattle.float_numbers.specs.Whole.{wholes};
 ghost use Rattle.float_walk.specs.Held.{count, Penalty};
 
-use code::{Admitted, Code, Refusal};
-use search::{Searched, WithRunnerUp};
+use code::{Code, Refusal};
+use search::{Found, WithRunnerUp};
 
 // What the search reports and writes for the whole numbers that the readings are. A float that is
 // no whole number is refused as a reading out of range is.
@@ -30,8 +30,8 @@ pub fn search_float_within(
         bits.old word.old }
 {
     match float_code::admit(r, m, readings, bits.len(), word.len()) {
-        Admitted::Refused(why) => WithRunnerUp::refused(why),
-        Admitted::Allowed(code) => search_sound(code, allowed, readings, bits, word),
+        Err(why) => WithRunnerUp::refused(why),
+        Ok(code) => search_sound(code, allowed, readings, bits, word),
     }
 }
 
@@ -95,7 +95,7 @@ fn search_kinds(
     bits: &mut [u8],
     word: &mut [u8],
     runner_up: &mut [u8; 256],
-) -> Searched
+) -> Result<Found, Refusal>
     requires { (runner_up.old ≡ replicate 256 0)
         × Searchable m (take (2 ^ m) (wholes readings.now)) (take (2 ^ m) kinds.now)
         bits.old word.old }
@@ -119,21 +119,21 @@ fn search_kinds(
     );
     let out = state[walk::OUT_OF_VISITS];
     if out != 0 {
-        return Searched::Refused(Refusal::OutOfVisits(allowed));
+        return Err(Refusal::OutOfVisits(allowed));
     }
     let visits = state[walk::VISITS];
     let penalty = whole(end.best);
     let gap = whole(end.second - end.best);
     if gap == 0 {
-        return Searched::Refused(Refusal::Tied { penalty, visits });
+        return Err(Refusal::Tied { penalty, visits });
     }
     search::put_best(kinds, &best, m as usize, bits, word);
     search::put_second(kinds, &second, word.len(), bits.len(), runner_up);
-    Searched::Found {
+    Ok(Found {
         penalty,
         gap,
         visits,
-    }
+    })
 }
 
 // The count that a penalty is.

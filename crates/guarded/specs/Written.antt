@@ -1,9 +1,7 @@
 -- What a writer of guarded words reports and leaves.
-use Rattle.std.specs.Prelude.{List, ℕ}
+use Rattle.std.specs.Prelude.{List, ℕ, Result, Ok, Err}
 use Rattle.code.specs.Sound.{Carried, carrying}
 use Rattle.guarded.specs.declared.Fault.{Fault}
-use Rattle.guarded.specs.declared.Written.{Written}
-use Rattle.guarded.specs.declared.Written.TheVariants.{Done, Refused}
 use Rattle.guarded.specs.Faults.{fault_carries}
 
 pub record WriteOutcome : Type 0 where
@@ -20,6 +18,6 @@ abbrev pub refused : Fault → List ℕ → WriteOutcome
 refused why word = record { carry = fault_carries why; word = word }
 
 -- the answer in the rules' numbers
-abbrev pub written_outcome_of : Written → List ℕ → WriteOutcome
-written_outcome_of Done = done
-written_outcome_of (Refused why) = refused why
+abbrev pub written_outcome_of : Result (Unit {0}) Fault → List ℕ → WriteOutcome
+written_outcome_of (Ok _) = done
+written_outcome_of (Err why) = refused why

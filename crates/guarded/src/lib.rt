@@ -7,6 +7,7 @@ ghost use Rattle.std.specs.Prelude.{◌≡◌, ◌≤◌, length};
 ghost use Rattle.words.specs.Bits.{Bits};
 ghost use Rattle.guarded.specs.Guard.{of_digits};
 ghost use Rattle.guarded.specs.Faults.{fault_carries};
+ghost use Rattle.guarded.specs.declared.Fault.TheVariants.{Link};
 
 use code::{Refusal, Shown};
 
@@ -25,31 +26,25 @@ pub enum Fault {
     Field,
 }
 
-// What a writer answers.
-#[derive(Clone, Copy)]
-pub enum Written {
-    Done,
-    Refused(Fault),
-}
-
 // The number whose binary digits these are, most significant first.
 pub fn number_of(bits: &[u8]) -> u32
     requires { Bits bits.now × (length bits.now ≤ 16) }
     ensures { result ≡ of_digits bits.now }
 {
     let mut n = 0;
-    let mut i = 0;
-    while i < bits.len() {
-        n = 2 * n + wide(bits[i]);
-        i += 1;
+    for bit in bits {
+        n = 2 * n + u32::from(*bit);
     }
     n
 }
 
-fn wide(x: u8) -> u32
-    ensures { result ≡ x }
-{
-    x as u32
+// A call over the search passes its refusals on.
+impl From<Refusal> for Fault {
+    ghost from_gives = { λ why fault. fault ≡ Link why };
+
+    fn from(why: Refusal) -> Fault {
+        Fault::Link(why)
+    }
 }
 
 impl Fault {
@@ -60,12 +55,7 @@ impl Fault {
             × (result.penalty ≡ (fault_carries self).penalty)
             × (result.visits ≡ (fault_carries self).visits) }
     {
-        let none = Shown {
-            number: 0,
-            place: 0,
-            penalty: 0,
-            visits: 0,
-        };
+        let none = Shown::default();
         match self {
             Fault::Link(why) => why.shown(),
             Fault::Marker => Shown { number: 13, ..none },
@@ -73,33 +63,5 @@ impl Fault {
             Fault::ZeroTilt => Shown { number: 15, ..none },
             Fault::Field => Shown { number: 16, ..none },
         }
-    }
-
-    pub fn number(self) -> u32
-        ensures { result ≡ (fault_carries self).number }
-    {
-        let shown = self.shown();
-        shown.number
-    }
-
-    pub fn place(self) -> usize
-        ensures { result ≡ (fault_carries self).place }
-    {
-        let shown = self.shown();
-        shown.place
-    }
-
-    pub fn penalty(self) -> u32
-        ensures { result ≡ (fault_carries self).penalty }
-    {
-        let shown = self.shown();
-        shown.penalty
-    }
-
-    pub fn visits(self) -> u32
-        ensures { result ≡ (fault_carries self).visits }
-    {
-        let shown = self.shown();
-        shown.visits
     }
 }

@@ -89,10 +89,10 @@ pub fn take_map(m: usize, table: &[u8], row: &[u8], images: &mut [u8], places: &
     ensures { Taken m table.now row.now result
         images.new places.new }
 {
-    if code::first_bad_bit(table) < table.len() {
+    if code::test_bits(table).is_err() {
         return false;
     }
-    if code::first_bad_bit(row) < row.len() {
+    if code::test_bits(row).is_err() {
         return false;
     }
     let n = 1usize << m;

@@ -1,5 +1,5 @@
 -- After an append to a capture with its own index and table, both equal those made from the longer capture.
-use Rattle.std.specs.Prelude.{◌≡◌, List, [], ◌∷◌, ◌++◌, Bool, true, false, ℤ, get_or, take, set}
+use Rattle.std.specs.Prelude.{◌≡◌, List, [], ◌∷◌, ◌++◌, Bool, true, false, ℤ, get_or, take, set, Result, Ok, Err}
 use Rattle.std.proofs.Math.Path.{refl, ap, subst, sym}
 use Rattle.std.proofs.Common.{◌∙◌, arith, length-take, take-append-drop, length-take-le, get_or-take, take-take, eq-eqb, ne_eqb}
 use Prim.Native.Nat.{ℕ, zero, suc, ◌+◌, ◌-◌, ◌/◌, ◌%◌, ◌≤◌, ◌<◌}
@@ -7,8 +7,6 @@ use Rattle.std.proofs.Math.Decide.{ℕ_discrete}
 use Rattle.std.proofs.Math.ListN.{length, drop, length-append, get_or-append}
 use Rattle.code.specs.RefusalLaws.{number_above}
 use Rattle.code.specs.declared.Code.{Code}
-use Rattle.code.specs.declared.Admitted.{Admitted}
-use Rattle.code.specs.declared.Admitted.TheVariants as admission
 use Rattle.packing.specs.Layout.{part_length}
 use Rattle.packing.specs.LayoutLaws.{length_record}
 use Rattle.record.specs.Reader.{code_of, length_by}
@@ -16,8 +14,6 @@ use Rattle.record.specs.Writing.{WrittenOutcome, writable, writing}
 use Rattle.record.specs.WrittenRead.{Asked, asked_writes, writes_asked, ReadBack, written_read}
 use Rattle.index.specs.Finding.{block}
 use Rattle.index.specs.declared.Index.{Index}
-use Rattle.index.specs.declared.Indexed.TheVariants.{Done}
-use Rattle.index.specs.declared.Place.TheVariants.{At}
 use Rattle.index.specs.Steps.{bytes_at, stepped, Starts, these, and_these, starts_at, starts_of}
 use Rattle.index.specs.Making.{every, entries_of, index_of, outcome_of, made_by, making, Room, with_entry, list_of}
 use Rattle.index.specs.Appending.{AppendOutcome, full, appended, appending}
@@ -27,16 +23,17 @@ use Rattle.index.proofs.StepsLaws.{step_next, starts-end, starts-next, starts_be
 use Rattle.index.proofs.MakingLaws.{length_entries, made_whole}
 use Rattle.index.specs.AppendingLaws.{Fitting}
 use Rattle.index.proofs.AppendingLaws.{free_room, append-refused, append-full, append_fits, append-done}
+use Rattle.code.specs.declared.Refusal.{Refusal}
 
 -- ---- bytes after a capture of whole records change none of its steps
 module _ (s rest : List ℕ) where
-  step_front : (at next : ℕ) → Goes s at next → stepped (s ++ rest) at ≡ At next
+  step_front : (at next : ℕ) → Goes s at next → stepped (s ++ rest) at ≡ Ok next
   step_front at next go =
       let same : bytes_at (s ++ rest) at ≡ bytes_at s at = ap (λ (b : ℕ). length_by (code_of b)) (get_or-append s rest 0 at go.inside) in
       let sum = length-append s rest in
       step_next (s ++ rest) at (omega (arith, go.inside, sum)) (λ z. omega (arith, go.by, go.further, same, z))
       (omega (arith, go.by, go.there, same, sum))
-      ∙ ap At (omega (arith, go.by, same))
+      ∙ ap Ok (omega (arith, go.by, same))
 
   -- a whole record after it is one more start
   pub starts_more : (l : List ℕ) (at : ℕ) → at ≤ length s → starts_at s at ≡ these l → starts_at (s ++ rest) (length s) ≡ these (length s ∷ [])
@@ -116,15 +113,15 @@ module _ (index : Index) (r m : ℕ) (l : List ℤ) (d t : List ℕ) where
     fitting : Fitting index r m l d (length t)
     is : appending index r m l d t ≡ appended index r m l d t
 
-  by_room : (c : Code) → admission.Allowed c ≡ writable r m l (length d) index.used → (z : Bool) → full index (length t) ≡ z
+  by_room : (c : Code) → Ok c ≡ writable r m l (length d) index.used → (z : Bool) → full index (length t) ≡ z
       → (appending index r m l d t).carry.number ≡ 0 → Succeeds
   by_room c e true f g = absurd (omega (arith, ap (λ (o : AppendOutcome). o.carry.number) (append-full index r m l d t c e f), g))
   by_room c e false f g = record { fitting = append_fits index r m l d t c e f; is = sym (append-done index r m l d t c e f) }
 
-  by_tests : (a : Admitted) → a ≡ writable r m l (length d) index.used → (appending index r m l d t).carry.number ≡ 0 → Succeeds
-  by_tests (admission.Refused why) e g =
+  by_tests : (a : Result Code Refusal) → a ≡ writable r m l (length d) index.used → (appending index r m l d t).carry.number ≡ 0 → Succeeds
+  by_tests (Err why) e g =
       absurd (omega (arith, number_above why, ap (λ (o : AppendOutcome). o.carry.number) (append-refused index r m l d t why e), g))
-  by_tests (admission.Allowed c) e g = by_room c e (full index (length t)) refl g
+  by_tests (Ok c) e g = by_room c e (full index (length t)) refl g
 
   succeeds : (appending index r m l d t).carry.number ≡ 0 → Succeeds
   succeeds g = by_tests (writable r m l (length d) index.used) refl g
@@ -187,7 +184,7 @@ module _ (index : Index) (r m : ℕ) (l : List ℤ) (d t : List ℕ) where
         ∙ ap (λ (u : ℕ). these (all ++ (u ∷ []))) length-old
 
     made_afresh : full index (length t) ≡ false
-        → making new t ≡ outcome_of (Done (index_of (suc index.records) wrote.next)) (with_entry index.records index.used t)
+        → making new t ≡ outcome_of (Ok (index_of (suc index.records) wrote.next)) (with_entry index.records index.used t)
     unfolding making
     made_afresh free =
         let longer = all ++ (index.used ∷ []) in
@@ -197,9 +194,9 @@ module _ (index : Index) (r m : ℕ) (l : List ℤ) (d t : List ℕ) where
         let count : length longer ≡ suc index.records = omega (arith, length-append all (index.used ∷ []), b.count) in
         ap (λ (x : Starts). made_by x new t) starts-new
         ∙ sym (made_whole new t (these longer) refl e.enough)
-        ∙ ap (λ (n : ℕ). outcome_of (Done (index_of n (length new))) (made ++ drop (length made) t)) count
-        ∙ ap (λ (n : ℕ). outcome_of (Done (index_of (suc index.records) n)) (made ++ drop (length made) t)) length-new
-        ∙ ap (outcome_of (Done (index_of (suc index.records) wrote.next))) (e.same ∙ ap (λ (n : ℕ). with_entry n index.used t) (sym b.count))
+        ∙ ap (λ (n : ℕ). outcome_of (Ok (index_of n (length new))) (made ++ drop (length made) t)) count
+        ∙ ap (λ (n : ℕ). outcome_of (Ok (index_of (suc index.records) n)) (made ++ drop (length made) t)) length-new
+        ∙ ap (outcome_of (Ok (index_of (suc index.records) wrote.next))) (e.same ∙ ap (λ (n : ℕ). with_entry n index.used t) (sym b.count))
 
 pub append_afresh : (index : Index) (r m : ℕ) (l : List ℤ) (d t : List ℕ) → Belongs index d t → (appending index r m l d t).carry.number ≡ 0
     → MadeAfresh (appending index r m l d t) t

@@ -1,5 +1,5 @@
 -- Laws of a capture's front: its run record by record; its part is a capture of whole records, and what ended it refuses every longer part.
-use Rattle.std.specs.Prelude.{◌≡◌, refl, ◌⊎◌, ℕ, zero, suc, ◌+◌, ◌-◌, ◌*◌, ◌≤◌, ◌<◌, length, get_or, take}
+use Rattle.std.specs.Prelude.{◌≡◌, refl, ◌⊎◌, ℕ, zero, suc, ◌+◌, ◌-◌, ◌*◌, ◌≤◌, ◌<◌, length, get_or, take, Result, Ok, Err}
 use Rattle.std.proofs.Common.{ap, subst, sym, ◌∙◌, inl, inr, ⊎_elim, arith, pow_pos, length-take-le, get_or-take, eq-eqb, ne_eqb, lt-ltb, le-ltb}
 use mathlib.Core.List.{List, [], ◌++◌}
 use Rattle.std.proofs.Math.Decide.{ℕ_discrete}
@@ -8,14 +8,9 @@ use Rattle.numbers.specs.Choice.{lt_or_le}
 use Rattle.code.specs.Sound.{number_of}
 use Rattle.code.specs.declared.Refusal.{Refusal}
 use Rattle.code.specs.declared.Refusal.TheVariants.{OutputLength}
-use Rattle.code.specs.declared.Made.{Made}
-use Rattle.code.specs.declared.Made.TheVariants.{Good, Bad}
 use Rattle.packing.specs.Layout.{part_length}
 use Rattle.record.specs.Reader.{code_of, length_by}
 use Rattle.index.specs.declared.FrontIndex.{FrontIndex}
-use Rattle.index.specs.declared.Fronted.TheVariants.{Done, Refused}
-use Rattle.index.specs.declared.Place.{Place}
-use Rattle.index.specs.declared.Place.TheVariants as place
 use Rattle.index.specs.Steps.{bytes_at, stepped, Starts, these, refused, and_these, starts_at, starts_of}
 use Rattle.index.specs.Making.{entries_of, index_of, entries_for, list_of, Enterable, entered}
 use Rattle.index.specs.Fronting.{Run, run_end, and_run, run_after, run_from, run_at, run_of, front_outcome_of, front_by, fronting}
@@ -23,6 +18,7 @@ use Rattle.index.specs.StepsLaws.{Goes}
 use Rattle.index.proofs.StepsLaws.{step_bad, step_torn, step_next, step_goes, starts-end, starts-next, starts-refused}
 use Rattle.index.proofs.MakingLaws.{length_entries}
 use Rattle.index.specs.FrontingLaws.{Halted, Stops}
+use Rattle.code.specs.declared.Code.{Code}
 
 -- ---- the run from a place on
 fuel_end : (k : ℕ) (s : List ℕ) → run_from k s (length s) ≡ run_end (length s) 0
@@ -34,10 +30,10 @@ fuel_on : (k : ℕ) (s : List ℕ) (at : ℕ) → at < length s → run_from (su
 unfolding run_from
 fuel_on k s at h = rw (ne_eqb at (length s) (λ e. omega arith))
 
-after_same : (f g : ℕ → Run) (s : List ℕ) (at : ℕ) (p : Place) → stepped s at ≡ p → ((next : ℕ) → Goes s at next → f next ≡ g next)
+after_same : (f g : ℕ → Run) (s : List ℕ) (at : ℕ) (p : Result ℕ Refusal) → stepped s at ≡ p → ((next : ℕ) → Goes s at next → f next ≡ g next)
     → run_after at p f ≡ run_after at p g
-after_same f g s at (place.Refused why) e h = refl
-after_same f g s at (place.At next) e h = ap (and_run at) (h next (step_goes s at next e))
+after_same f g s at (Err why) e h = refl
+after_same f g s at (Ok next) e h = ap (and_run at) (h next (step_goes s at next e))
 
 -- as many as there are bytes left are enough
 fuel_same : (k k' : ℕ) (s : List ℕ) (at : ℕ) → at ≤ length s → length s - at ≤ k → length s - at ≤ k' → run_from k s at ≡ run_from k' s at
@@ -67,23 +63,23 @@ module _ (s : List ℕ) (at : ℕ) where
     run_on : run_at s at ≡ run_after at (stepped s at) (run_at s)
     run_on = fuel_same (length s) (suc (length s)) s at (omega arith) (omega arith) (omega arith) ∙ fuel_on (length s) s at h
 
-    run-next : (next : ℕ) → stepped s at ≡ place.At next → run_at s at ≡ and_run at (run_at s next)
-    run-next next e = run_on ∙ ap (λ (p : Place). run_after at p (run_at s)) e
+    run-next : (next : ℕ) → stepped s at ≡ Ok next → run_at s at ≡ and_run at (run_at s next)
+    run-next next e = run_on ∙ ap (λ (p : Result ℕ Refusal). run_after at p (run_at s)) e
 
-    run-refused : (why : Refusal) → stepped s at ≡ place.Refused why → run_at s at ≡ run_end at (number_of why)
-    run-refused why e = run_on ∙ ap (λ (p : Place). run_after at p (run_at s)) e
+    run-refused : (why : Refusal) → stepped s at ≡ Err why → run_at s at ≡ run_end at (number_of why)
+    run-refused why e = run_on ∙ ap (λ (p : Result ℕ Refusal). run_after at p (run_at s)) e
 
 -- ---- in steps, as code makes it
 abbrev front_index : ℕ → ℕ → ℕ → FrontIndex
 front_index records used ended = record { index = index_of records used; ended = ended }
 
 module _ (s : List ℕ) (n at : ℕ) where
-  pub front_on : (next : ℕ) → at < length s → stepped s at ≡ place.At next → front_by n (run_at s at) ≡ front_by (n + 1) (run_at s next)
+  pub front_on : (next : ℕ) → at < length s → stepped s at ≡ Ok next → front_by n (run_at s at) ≡ front_by (n + 1) (run_at s next)
   front_on next h e =
       let run = run_at s next in
       ap (front_by n) (run-next s at h next e) ∙ ap (λ (k : ℕ). front_index k run.used run.ended) (omega arith)
 
-  pub front-refused : (why : Refusal) → at < length s → stepped s at ≡ place.Refused why
+  pub front-refused : (why : Refusal) → at < length s → stepped s at ≡ Err why
       → front_by n (run_at s at) ≡ record { index = index_of n at; ended = number_of why }
   front-refused why h e = ap (front_by n) (run-refused s at h why e) ∙ ap (λ (k : ℕ). front_index k at (number_of why)) (omega arith)
 
@@ -99,15 +95,15 @@ module _ (s : List ℕ) (n : ℕ) (h : n ≤ length s) where
   part_bytes at i = ap (λ (b : ℕ). length_by (code_of b)) (get_or-take n s at 0 i)
 
   -- a whole record of the part
-  part_step : (at next : ℕ) → Goes s at next → next ≤ n → stepped (take n s) at ≡ place.At next
+  part_step : (at next : ℕ) → Goes s at next → next ≤ n → stepped (take n s) at ≡ Ok next
   part_step at next go i =
       let same = part_bytes at (omega (arith, go.further)) in
       let long = part_length_lem in
       step_next (take n s) at (omega (arith, go.further)) (λ z. omega (arith, go.by, go.further)) (omega (arith, go.by))
-      ∙ ap place.At (omega (arith, go.by))
+      ∙ ap Ok (omega (arith, go.by))
 
   -- a record that is refused is refused in the same way
-  part-refused : (at : ℕ) (why : Refusal) → at < n → stepped s at ≡ place.Refused why → stepped (take n s) at ≡ place.Refused why
+  part-refused : (at : ℕ) (why : Refusal) → at < n → stepped s at ≡ Err why → stepped (take n s) at ≡ Err why
   part-refused at why i e =
       let same = part_bytes at i in
       let long = part_length_lem in
@@ -122,10 +118,10 @@ module _ (s : List ℕ) (n : ℕ) (h : n ≤ length s) where
       ]
 
 -- ---- a record has at least 3 bytes
-three_bytes : (k : Made) → 0 < length_by k → 3 ≤ length_by k
+three_bytes : (k : Result Code Refusal) → 0 < length_by k → 3 ≤ length_by k
 unfolding part_length
-three_bytes Bad h = absurd (omega arith)
-three_bytes (Good c) h = omega (arith, pow_pos c.m)
+three_bytes (Err _) h = absurd (omega arith)
+three_bytes (Ok c) h = omega (arith, pow_pos c.m)
 
 goes_three : (s : List ℕ) (at next : ℕ) → Goes s at next → at + 3 ≤ next
 goes_three s at next go = omega (arith, go.by, go.further, three_bytes (code_of (get_or s at 0)) (omega (arith, go.by, go.further)))
@@ -139,7 +135,7 @@ module _ (s : List ℕ) where
       subst (Stops s at) (sym (run_end_lem s at e))
       (record { on = omega arith; inside = omega arith; few = omega arith; whole = none_there at (omega arith); stop = inl (refl, e) })
 
-  stops-refused : (at : ℕ) (why : Refusal) → at < length s → stepped s at ≡ place.Refused why → Stops s at (run_at s at)
+  stops-refused : (at : ℕ) (why : Refusal) → at < length s → stepped s at ≡ Err why → Stops s at (run_at s at)
   stops-refused at why h e =
       let halted : Halted s at at (number_of why) =
       record {
@@ -153,12 +149,12 @@ module _ (s : List ℕ) where
       (record { on = omega arith; inside = omega arith; few = omega arith; whole = none_there at (omega arith); stop = inr halted })
 
   -- one record before
-  starts-before : (at next : ℕ) → Goes s at next → stepped s at ≡ place.At next → (n : ℕ) → next ≤ n → n ≤ length s → (x : Starts)
+  starts-before : (at next : ℕ) → Goes s at next → stepped s at ≡ Ok next → (n : ℕ) → next ≤ n → n ≤ length s → (x : Starts)
       → starts_at (take n s) next ≡ x → starts_at (take n s) at ≡ and_these at x
   starts-before at next go e n i j x f =
       starts-next (take n s) at next (omega (arith, part_length_lem s n j, go.further)) (part_step s n j at next go i) ∙ ap (and_these at) f
 
-  stops-next : (at next : ℕ) → at < length s → stepped s at ≡ place.At next → Stops s next (run_at s next) → Stops s at (run_at s at)
+  stops-next : (at next : ℕ) → at < length s → stepped s at ≡ Ok next → Stops s next (run_at s next) → Stops s at (run_at s at)
   stops-next at next h e later =
       let go = step_goes s at next e in
       let run = run_at s next in
@@ -188,10 +184,10 @@ module _ (s : List ℕ) where
       (λ past. stops_end at (omega arith))
       (lt_or_le at (length s))
     where
-      by : ((next : ℕ) → next ≤ length s → length s - next ≤ k → Stops s next (run_at s next)) → at < length s → (p : Place) → stepped s at ≡ p
+      by : ((next : ℕ) → next ≤ length s → length s - next ≤ k → Stops s next (run_at s next)) → at < length s → (p : Result ℕ Refusal) → stepped s at ≡ p
           → Stops s at (run_at s at)
-      by again inside (place.Refused why) e = stops-refused at why inside e
-      by again inside (place.At next) e =
+      by again inside (Err why) e = stops-refused at why inside e
+      by again inside (Ok next) e =
           let go = step_goes s at next e in
           stops-next at next inside e (again next go.there (omega (arith, go.further)))
 
@@ -209,7 +205,7 @@ module _ (s table : List ℕ) where
   entries_are : entries_for (0 + length starts) ≡ length (entries_of starts)
   entries_are = ap entries_for (omega arith) ∙ sym (length_entries starts)
 
-  short_by : length table < entries_for (0 + length starts) → front_outcome_of (Refused OutputLength) table ≡ fronting s table
+  short_by : length table < entries_for (0 + length starts) → front_outcome_of (Err OutputLength) table ≡ fronting s table
   unfolding fronting
   short_by h = rw (lt-ltb (length table) (length (entries_of starts)) (omega (arith, entries_are)))
 
@@ -221,19 +217,19 @@ module _ (s table : List ℕ) where
       }
 
   done_by : entries_for (0 + length starts) ≤ length table
-      → front_outcome_of (Done (front_by 0 (run_of s))) (entered (take (run_of s).used s) table) ≡ fronting s table
+      → front_outcome_of (Ok (front_by 0 (run_of s))) (entered (take (run_of s).used s) table) ≡ fronting s table
   unfolding fronting
   done_by h =
       rw (le-ltb (length table) (length (entries_of starts)) (omega (arith, entries_are)))
-      (ap (λ (l : List ℕ). front_outcome_of (Done (front_by 0 (run_of s))) (entries_of l ++ drop (length (entries_of l)) table)) list_is)
+      (ap (λ (l : List ℕ). front_outcome_of (Ok (front_by 0 (run_of s))) (entries_of l ++ drop (length (entries_of l)) table)) list_is)
 
   module _ (found : FrontIndex) (is : found ≡ front_by 0 (run_of s)) where
     pub front-part : length (take found.index.used s) ≡ found.index.used
     front-part = subst (λ (f : FrontIndex). length (take f.index.used s) ≡ f.index.used) (sym is) (part_length_lem s (run_of s).used (run-stops s).inside)
 
-    pub front_short : length table < entries_for found.index.records → front_outcome_of (Refused OutputLength) table ≡ fronting s table
+    pub front_short : length table < entries_for found.index.records → front_outcome_of (Err OutputLength) table ≡ fronting s table
     front_short =
-        subst (λ (f : FrontIndex). length table < entries_for f.index.records → front_outcome_of (Refused OutputLength) table ≡ fronting s table)
+        subst (λ (f : FrontIndex). length table < entries_for f.index.records → front_outcome_of (Err OutputLength) table ≡ fronting s table)
         (sym is) short_by
 
     pub front-room : entries_for found.index.records ≤ length table → Enterable (take found.index.used s) (length table)
@@ -241,10 +237,10 @@ module _ (s table : List ℕ) where
         subst (λ (f : FrontIndex). entries_for f.index.records ≤ length table → Enterable (take f.index.used s) (length table)) (sym is) room_by
 
     pub front-done : entries_for found.index.records ≤ length table
-        → front_outcome_of (Done found) (entered (take found.index.used s) table) ≡ fronting s table
+        → front_outcome_of (Ok found) (entered (take found.index.used s) table) ≡ fronting s table
     front-done =
         subst
         (λ (f : FrontIndex). entries_for f.index.records ≤ length table
-        → front_outcome_of (Done f) (entered (take f.index.used s) table) ≡ fronting s table)
+        → front_outcome_of (Ok f) (entered (take f.index.used s) table) ≡ fronting s table)
         (sym is)
         done_by

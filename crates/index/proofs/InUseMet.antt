@@ -1,14 +1,10 @@
 -- A table that belongs to a capture finds its records, whatever the entries past its own hold; and the part that is found is where the answer says.
-use Rattle.std.specs.Prelude.{◌≡◌, refl, List, ℕ, ◌+◌, ◌/◌, ◌≤◌, ◌<◌, length, get_or, take, drop}
+use Rattle.std.specs.Prelude.{◌≡◌, refl, List, ℕ, ◌+◌, ◌/◌, ◌≤◌, ◌<◌, length, get_or, take, drop, Result, Ok, Err}
 use Rattle.std.proofs.Common.{ap, sym, ◌∙◌, arith, length-take, get_or-take, drop-drop}
 use Rattle.std.proofs.lemmas.Bool.{lt-leb}
 use Rattle.packing.specs.Layout.{part_length}
-use Rattle.record.specs.declared.Header.{Header}
-use Rattle.record.specs.declared.Header.TheVariants as header
 use Rattle.record.specs.Reader.{header_of, part_by}
 use Rattle.index.specs.declared.Index.{Index}
-use Rattle.index.specs.declared.Place.{Place}
-use Rattle.index.specs.declared.Place.TheVariants.{At, Refused}
 use Rattle.index.specs.Steps.{starts_of}
 use Rattle.index.specs.Finding.{start_in, header_at, part_at, part_in, part_after, part_start_at, part_start, block}
 use Rattle.index.specs.Making.{entries_of, list_of}
@@ -16,6 +12,8 @@ use Rattle.index.proofs.MakingLaws.{length_entries}
 use Rattle.index.specs.Own.{Belongs, FoundInUse}
 use Rattle.index.proofs.OwnMet.{own-start}
 use Rattle.index.proofs.BelongsMet.{take_taken}
+use Rattle.code.specs.declared.Code.{Code}
+use Rattle.code.specs.declared.Refusal.{Refusal}
 
 -- an entry of its own is read the same
 same_start : (s own table : List ℕ) (w : ℕ) → take (length own) table ≡ own → w / block < length own → start_in s table w ≡ start_in s own w
@@ -36,16 +34,16 @@ found_in_use index capture table b w h =
     record { header = ap (header_at s) is; part = ap (part_at s) is }
 
 -- ---- the part is where the answer says
-header_located : (s : List ℕ) (start : ℕ) (h : Header)
+header_located : (s : List ℕ) (start : ℕ) (h : Result Code Refusal)
     → part_by h (drop start s) ≡ take (length (part_by h (drop start s))) (drop (part_after h start) s)
-header_located s start (header.Refused why) = refl
-header_located s start (header.Record c) =
+header_located s start (Err why) = refl
+header_located s start (Ok c) =
     let same : drop (start + 1) s ≡ drop 1 (drop start s) = sym (drop-drop 1 start s) in
     rw same (sym (take_taken (part_length c.m) (drop 1 (drop start s))))
 
-place_located : (s : List ℕ) (p : Place) → part_at s p ≡ take (length (part_at s p)) (drop (part_start_at s p) s)
-place_located s (Refused why) = refl
-place_located s (At start) = header_located s start (header_of (drop start s))
+place_located : (s : List ℕ) (p : Result ℕ Refusal) → part_at s p ≡ take (length (part_at s p)) (drop (part_start_at s p) s)
+place_located s (Err why) = refl
+place_located s (Ok start) = header_located s start (header_of (drop start s))
 
 pub part_located : (s table : List ℕ) (w : ℕ) → part_in s table w ≡ take (length (part_in s table w)) (drop (part_start s table w) s)
 part_located s table w = place_located s (start_in s table w)

@@ -1,7 +1,7 @@
 -- Making a table, and appending to a capture and its table, meet demand 1.
 use Rattle.std.proofs.Math.Path.{◌≡◌, refl, ap}
 use Rattle.std.proofs.Common.{sym, subst, ◌∙◌, inl, inr, ⊎_elim, arith, eq-eqb, ne_eqb, le-leb, lt-ltb, le-ltb}
-use Rattle.std.specs.Prelude.{◌⊎◌, true, false, ℤ}
+use Rattle.std.specs.Prelude.{◌⊎◌, true, false, ℤ, Result, Ok, Err}
 use mathlib.Core.List.{List, [], ◌∷◌}
 use Prim.Native.Nat.{ℕ, zero, suc, ◌/◌, ◌%◌, ◌≤◌, ◌<◌}
 use Rattle.std.proofs.Math.Decide.{ℕ_discrete}
@@ -10,8 +10,6 @@ use Rattle.std.proofs.lemmas.Bool.{lt-leb}
 use Rattle.numbers.specs.Choice.{lt_or_le}
 use Rattle.code.specs.declared.Refusal.{Refusal}
 use Rattle.code.specs.declared.Refusal.TheVariants.{Parameters, Torn}
-use Rattle.code.specs.declared.Admitted.{Admitted}
-use Rattle.code.specs.declared.Admitted.TheVariants as admission
 use Rattle.code.specs.Sound.{rm}
 use Rattle.code.specs.Demand1.{refused_as}
 use Rattle.code.specs.Demand1Laws.{Decides, demand_1}
@@ -19,8 +17,6 @@ use Rattle.record.specs.Writing.{writable}
 use Rattle.record.specs.WritingDemandMet.{decides_writing}
 use Rattle.index.specs.Finding.{block}
 use Rattle.index.specs.declared.Index.{Index}
-use Rattle.index.specs.declared.Place.{Place}
-use Rattle.index.specs.declared.Place.TheVariants.{At, Refused}
 use Rattle.index.specs.Steps.{stepped, onward, passed, Starts, these, refused, and_these, starts_after, starts_from, starts_at, starts_of}
 use Rattle.index.proofs.StepsLaws.{step_goes, starts-next, starts-refused}
 use Rattle.index.specs.Making.{entries_of, index_of, made_by, making, list_of}
@@ -28,6 +24,7 @@ use Rattle.index.specs.Appending.{largest_count, full, appended_by, appending}
 use Rattle.index.proofs.AppendingLaws.{append-refused, append-full, append-done}
 use Rattle.index.specs.Demands.{made_view, MetFrom, make_checks, MakeDemand1, appended_view, NoRoom, entry_checks, append_checks, AppendDemand1}
 use Rattle.index.proofs.DemandsMet.{step_why}
+use Rattle.code.specs.declared.Code.{Code}
 
 -- ---- the starts give exactly the refusal that stepping meets
 and-refused : (at : ℕ) (starts : Starts) (why : Refusal) → and_these at starts ≡ refused why → starts ≡ refused why
@@ -35,13 +32,13 @@ and-refused at (these l) why e = let z : ◌≡◌ {A = ℕ} 0 1 = cc in absurd 
 and-refused at (refused first) why e = e
 
 module _ (s : List ℕ) (why : Refusal) where
-  met_later : (at next : ℕ) → stepped s at ≡ At next → MetFrom s next why → MetFrom s at why
+  met_later : (at next : ℕ) → stepped s at ≡ Ok next → MetFrom s next why → MetFrom s at why
   unfolding passed
   met_later at next e later =
       record {
         count = suc later.count;
         place = later.place;
-        led = ap (λ (p : Place). onward p (λ n. passed s later.count n)) e ∙ later.led;
+        led = ap (λ (p : Result ℕ Refusal). onward p (λ n. passed s later.count n)) e ∙ later.led;
         inside = later.inside;
         refuses = later.refuses;
       }
@@ -56,22 +53,22 @@ module _ (s : List ℕ) (why : Refusal) where
       ]
     where
       by : ((next : ℕ) → next ≤ length s → starts_from k s next ≡ refused why → MetFrom s next why) → at < length s
-          → (p : Place) → stepped s at ≡ p → starts_after at p (λ next. starts_from k s next) ≡ refused why → MetFrom s at why
-      by again inside (Refused first) f g =
+          → (p : Result ℕ Refusal) → stepped s at ≡ p → starts_after at p (λ next. starts_from k s next) ≡ refused why → MetFrom s at why
+      by again inside (Err first) f g =
           let same : first ≡ why = cc in
-          record { count = 0; place = at; led = refl; inside = inside; refuses = f ∙ ap Refused same }
-      by again inside (At next) f g =
+          record { count = 0; place = at; led = refl; inside = inside; refuses = f ∙ ap Err same }
+      by again inside (Ok next) f g =
           met_later at next f (again next (step_goes s at next f).there (and-refused at (starts_from k s next) why g))
 
-  met_starts : (count at place : ℕ) → passed s count at ≡ At place → place < length s → stepped s place ≡ Refused why → starts_at s at ≡ refused why
+  met_starts : (count at place : ℕ) → passed s count at ≡ Ok place → place < length s → stepped s place ≡ Err why → starts_at s at ≡ refused why
   unfolding passed
   met_starts zero at place led h e = let same : at ≡ place = cc in rw same (starts-refused s place why h e)
   met_starts (suc count) at place led h e = by (λ next f. met_starts count next place f h e) (stepped s at) refl led
     where
-      by : ((next : ℕ) → passed s count next ≡ At place → starts_at s next ≡ refused why)
-          → (p : Place) → stepped s at ≡ p → onward p (λ next. passed s count next) ≡ At place → starts_at s at ≡ refused why
-      by again (Refused first) f g = let z : ◌≡◌ {A = ℕ} 0 1 = cc in absurd (omega arith)
-      by again (At next) f g = starts-next s at next (step_goes s at next f).inside f ∙ ap (and_these at) (again next g)
+      by : ((next : ℕ) → passed s count next ≡ Ok place → starts_at s next ≡ refused why)
+          → (p : Result ℕ Refusal) → stepped s at ≡ p → onward p (λ next. passed s count next) ≡ Ok place → starts_at s at ≡ refused why
+      by again (Err first) f g = let z : ◌≡◌ {A = ℕ} 0 1 = cc in absurd (omega arith)
+      by again (Ok next) f g = starts-next s at next (step_goes s at next f).inside f ∙ ap (and_these at) (again next g)
 
   met_refused : MetFrom s 0 why → starts_of s ≡ refused why
   met_refused met = met_starts met.count 0 met.place met.led met.inside met.refuses
@@ -156,9 +153,9 @@ module _ (index : Index) (r m : ℕ) (l : List ℤ) (capture table : List ℕ) w
       (λ x. inr (x.0, rw (← append-done index r m l capture table (rm r m) e x.1) (refl, refl)))
       (full_decided index table))
 
-  append-none : (a : Admitted) → let o = appended_by a index r m l capture table in 0 < o.carry.number → o.index ≡ index_of 0 0
-  append-none (admission.Refused why) h = refl
-  append-none (admission.Allowed c) h =
+  append-none : (a : Result Code Refusal) → let o = appended_by a index r m l capture table in 0 < o.carry.number → o.index ≡ index_of 0 0
+  append-none (Err why) h = refl
+  append-none (Ok c) h =
       ⊎_elim (λ x. rw x.1) (λ x. absurd (omega (arith, rw x.1 at h))) (full_decided index table)
 
   pub append_demand_1 : AppendDemand1 index r m l capture table

@@ -1,5 +1,5 @@
 -- Laws of making: counting record by record, and the entries one by one from the front of the table.
-use Rattle.std.specs.Prelude.{◌≡◌, refl, List, [], ◌∷◌, ◌++◌, ℕ, zero, suc, ◌+◌, ◌-◌, ◌*◌, ◌/◌, ◌%◌, ◌≤◌, ◌<◌, length, get_or, drop, set}
+use Rattle.std.specs.Prelude.{◌≡◌, refl, List, [], ◌∷◌, ◌++◌, ℕ, zero, suc, ◌+◌, ◌-◌, ◌*◌, ◌/◌, ◌%◌, ◌≤◌, ◌<◌, length, get_or, drop, set, Ok, Err}
 use Rattle.std.proofs.Math.Path.{ap}
 use Rattle.std.proofs.Common.{sym, ◌∙◌, ⊎_elim, arith, length-drop, take_all, eq-eqb, ne_eqb, lt-ltb, le-ltb}
 use Rattle.std.proofs.Math.Decide.{ℕ_discrete}
@@ -8,9 +8,6 @@ use Rattle.numbers.specs.Front.{front, front-suc}
 use Rattle.code.specs.declared.Refusal.{Refusal}
 use Rattle.code.specs.declared.Refusal.TheVariants.{OutputLength}
 use Rattle.index.specs.Finding.{block}
-use Rattle.index.specs.declared.Indexed.TheVariants.{Done, Refused}
-use Rattle.index.specs.declared.Counted.TheVariants as count
-use Rattle.index.specs.declared.Place.TheVariants as place
 use Rattle.index.specs.Steps.{bytes_at, stepped, Starts, these, refused, and_these, starts_at, starts_of}
 use Rattle.index.specs.Making.{every, entries_of, index_of, outcome_of, made_by, making, counted, entries_for, Room, with_entry, list_of, Enterable, entered}
 use Rattle.index.specs.StepsLaws.{Goes, Begins}
@@ -19,18 +16,18 @@ use Rattle.index.specs.MakingLaws.{Entering}
 
 -- ---- counting
 counted-and : (n at : ℕ) (t : Starts) → counted n (and_these at t) ≡ counted (n + 1) t
-counted-and n at (these l) = ap count.Records (omega arith)
+counted-and n at (these l) = ap Ok (omega arith)
 counted-and n at (refused why) = refl
 
 module _ (s : List ℕ) (n at : ℕ) where
-  pub count_on : (next : ℕ) → at < length s → stepped s at ≡ place.At next → counted n (starts_at s at) ≡ counted (n + 1) (starts_at s next)
+  pub count_on : (next : ℕ) → at < length s → stepped s at ≡ Ok next → counted n (starts_at s at) ≡ counted (n + 1) (starts_at s next)
   count_on next h e = ap (counted n) (starts-next s at next h e) ∙ counted-and n at (starts_at s next)
 
-  pub count-refused : (why : Refusal) → at < length s → stepped s at ≡ place.Refused why → counted n (starts_at s at) ≡ count.Refused why
+  pub count-refused : (why : Refusal) → at < length s → stepped s at ≡ Err why → counted n (starts_at s at) ≡ Err why
   count-refused why h e = ap (counted n) (starts-refused s at why h e)
 
-  pub count-end : at ≡ length s → counted n (starts_at s at) ≡ count.Records n
-  count-end e = ap (counted n) (starts-end s at e) ∙ ap count.Records (omega arith)
+  pub count-end : at ≡ length s → counted n (starts_at s at) ≡ Ok n
+  count-end e = ap (counted n) (starts-end s at e) ∙ ap Ok (omega arith)
 
 -- ---- every 16th
 length-every : (k : ℕ) (l : List ℕ) → k < block → length (every k l) ≡ (length l + ((block - 1) - k)) / block
@@ -149,34 +146,34 @@ module _ (s table : List ℕ) where
     pub whole : starts_of s ≡ these (list_of (starts_of s))
     pub count : n ≡ length (list_of (starts_of s))
 
-  counted_by_lem : (n : ℕ) (t : Starts) → count.Records n ≡ counted 0 t → (t ≡ these (list_of t)) × (n ≡ length (list_of t))
+  counted_by_lem : (n : ℕ) (t : Starts) → Ok n ≡ counted 0 t → (t ≡ these (list_of t)) × (n ≡ length (list_of t))
   counted_by_lem n (refused why) e = let z : ◌≡◌ {A = ℕ} 0 1 = cc in absurd (omega arith)
   counted_by_lem n (these l) e = let same : n ≡ 0 + length l = cc in (refl, omega arith)
 
-  pub counted_whole : (n : ℕ) → count.Records n ≡ counted 0 (starts_of s) → Whole n
+  pub counted_whole : (n : ℕ) → Ok n ≡ counted 0 (starts_of s) → Whole n
   counted_whole n e = let r = counted_by_lem n (starts_of s) e in record { whole = r.0; count = r.1 }
 
-  made-refused : (why : Refusal) (t : Starts) → count.Refused why ≡ counted 0 t → outcome_of (Refused why) table ≡ made_by t s table
-  made-refused why (refused why') e = let same : why ≡ why' = cc in ap (λ (w : Refusal). outcome_of (Refused w) table) same
+  made-refused : (why : Refusal) (t : Starts) → Err why ≡ counted 0 t → outcome_of (Err why) table ≡ made_by t s table
+  made-refused why (refused why') e = let same : why ≡ why' = cc in ap (λ (w : Refusal). outcome_of (Err w) table) same
   made-refused why (these l) e = let z : ◌≡◌ {A = ℕ} 0 1 = cc in absurd (omega arith)
 
   made_short : (t : Starts) → t ≡ these (list_of t) → length table < length (entries_of (list_of t))
-      → outcome_of (Refused OutputLength) table ≡ made_by t s table
+      → outcome_of (Err OutputLength) table ≡ made_by t s table
   made_short (refused why) e h = let z : ◌≡◌ {A = ℕ} 0 1 = cc in absurd (omega arith)
   made_short (these l) e h = rw (lt-ltb (length table) (length (entries_of l)) h)
 
   pub made_whole : (t : Starts) → t ≡ these (list_of t) → length (entries_of (list_of t)) ≤ length table
-      → outcome_of (Done (index_of (length (list_of t)) (length s))) (entries_of (list_of t) ++ drop (length (entries_of (list_of t))) table)
+      → outcome_of (Ok (index_of (length (list_of t)) (length s))) (entries_of (list_of t) ++ drop (length (entries_of (list_of t))) table)
       ≡ made_by t s table
   made_whole (refused why) e h = let z : ◌≡◌ {A = ℕ} 0 1 = cc in absurd (omega arith)
   made_whole (these l) e h = rw (le-ltb (length table) (length (entries_of l)) h)
 
-  pub make_refused : (why : Refusal) → count.Refused why ≡ counted 0 (starts_of s) → outcome_of (Refused why) table ≡ making s table
+  pub make_refused : (why : Refusal) → Err why ≡ counted 0 (starts_of s) → outcome_of (Err why) table ≡ making s table
   unfolding making
   make_refused why e = made-refused why (starts_of s) e
 
   module _ (n : ℕ) (w : Whole n) where
-    pub make_short : length table < entries_for n → outcome_of (Refused OutputLength) table ≡ making s table
+    pub make_short : length table < entries_for n → outcome_of (Err OutputLength) table ≡ making s table
     unfolding making
     make_short h =
         let same = w.count in
@@ -187,8 +184,8 @@ module _ (s table : List ℕ) where
         let same = w.count in
         record { whole = w.whole; enough = omega (arith, length_entries (list_of (starts_of s)), rw same at h) }
 
-    pub make_done : entries_for n ≤ length table → outcome_of (Done (index_of n (length s))) (entered s table) ≡ making s table
+    pub make_done : entries_for n ≤ length table → outcome_of (Ok (index_of n (length s))) (entered s table) ≡ making s table
     unfolding making
     make_done h =
-        ap (λ (n : ℕ). outcome_of (Done (index_of n (length s))) (entered s table)) w.count
+        ap (λ (n : ℕ). outcome_of (Ok (index_of n (length s))) (entered s table)) w.count
         ∙ made_whole (starts_of s) w.whole (make_room h).enough

@@ -1,15 +1,11 @@
 -- With a capture's own table a record is found as by stepping from the beginning; with any table a part of the capture is handed back.
-use Rattle.std.specs.Prelude.{◌≡◌, refl, List, [], ◌∷◌, ◌++◌, ℕ, zero, suc, ◌+◌, ◌-◌, ◌*◌, ◌/◌, ◌%◌, ◌≤◌, ◌<◌, length, get_or, take, drop}
+use Rattle.std.specs.Prelude.{◌≡◌, refl, List, [], ◌∷◌, ◌++◌, ℕ, zero, suc, ◌+◌, ◌-◌, ◌*◌, ◌/◌, ◌%◌, ◌≤◌, ◌<◌, length, get_or, take, drop, Result, Ok, Err}
 use Rattle.std.proofs.Common.{ap, sym, ◌∙◌, append_assoc, ⊎_elim, arith, take-append-drop, eq-eqb}
 use Rattle.std.proofs.Math.Decide.{ℕ_discrete}
 use Rattle.numbers.specs.Choice.{lt_or_le}
 use Rattle.code.specs.declared.Refusal.TheVariants.{Torn, NoEntry}
 use Rattle.packing.specs.Layout.{part_length}
-use Rattle.record.specs.declared.Header.{Header}
-use Rattle.record.specs.declared.Header.TheVariants as header
 use Rattle.record.specs.Reader.{header_of, part_by}
-use Rattle.index.specs.declared.Place.{Place}
-use Rattle.index.specs.declared.Place.TheVariants.{At, Refused}
 use Rattle.index.specs.Steps.{stepped, onward, passed, these, starts_at, starts_of}
 use Rattle.index.specs.Finding.{as_start, start_in, from_beginning, header_at, part_at, part_in, block}
 use Rattle.index.specs.Making.{entries_of, list_of}
@@ -17,15 +13,17 @@ use Rattle.index.proofs.StepsLaws.{step_past, passed_on_lem, passed-refused, pas
 use Rattle.index.proofs.FindingLaws.{start_none, start_by}
 use Rattle.index.proofs.MakingLaws.{length_entries, entry_at}
 use Rattle.index.specs.Own.{Own, FoundAlike, PartOf}
+use Rattle.code.specs.declared.Code.{Code}
+use Rattle.code.specs.declared.Refusal.{Refusal}
 
 -- ---- stepping over i records and then over j
-onward-twice : (p : Place) (f g : ℕ → Place) → onward p (λ next. onward (f next) g) ≡ onward (onward p f) g
-onward-twice (Refused why) f g = refl
-onward-twice (At next) f g = refl
+onward-twice : (p : Result ℕ Refusal) (f g : ℕ → Result ℕ Refusal) → onward p (λ next. onward (f next) g) ≡ onward (onward p f) g
+onward-twice (Err why) f g = refl
+onward-twice (Ok next) f g = refl
 
-onward_same : (p : Place) (f g : ℕ → Place) → ((next : ℕ) → f next ≡ g next) → onward p f ≡ onward p g
-onward_same (Refused why) f g e = refl
-onward_same (At next) f g e = e next
+onward_same : (p : Result ℕ Refusal) (f g : ℕ → Result ℕ Refusal) → ((next : ℕ) → f next ≡ g next) → onward p f ≡ onward p g
+onward_same (Err why) f g e = refl
+onward_same (Ok next) f g e = e next
 
 passed-sum : (s : List ℕ) (i j at : ℕ) → passed s (i + j) at ≡ onward (passed s i at) (λ next. passed s j next)
 unfolding passed
@@ -38,9 +36,9 @@ passed-sum s (suc i) j at =
 
 -- ---- the starts are where stepping leads
 module _ (s : List ℕ) where
-  pub passed-starts : (l : List ℕ) (at i : ℕ) → at ≤ length s → starts_at s at ≡ these l → i < length l → passed s i at ≡ At (get_or l i 0)
+  pub passed-starts : (l : List ℕ) (at i : ℕ) → at ≤ length s → starts_at s at ≡ these l → i < length l → passed s i at ≡ Ok (get_or l i 0)
   passed-starts [] at i h e k = absurd (omega arith)
-  passed-starts (x ∷ l) at zero h e k = passed_none s 0 at refl ∙ ap At (sym (starts_begin s at x l h e).first)
+  passed-starts (x ∷ l) at zero h e k = passed_none s 0 at refl ∙ ap Ok (sym (starts_begin s at x l h e).first)
   passed-starts (x ∷ l) at (suc i) h e k =
       let b = starts_begin s at x l h e in
       let d : suc i - 1 ≡ i = omega arith in
@@ -53,14 +51,14 @@ module _ (s : List ℕ) where
       let b = starts_begin s at x l h e in starts_inside l b.next i b.goes.there b.others (omega arith)
 
   -- after all of them it is the end, and beyond it there is nothing
-  pub passed-all : (l : List ℕ) (at : ℕ) → at ≤ length s → starts_at s at ≡ these l → passed s (length l) at ≡ At (length s)
-  passed-all [] at h e = passed_none s 0 at refl ∙ ap At (starts_none s at h e)
+  pub passed-all : (l : List ℕ) (at : ℕ) → at ≤ length s → starts_at s at ≡ these l → passed s (length l) at ≡ Ok (length s)
+  passed-all [] at h e = passed_none s 0 at refl ∙ ap Ok (starts_none s at h e)
   passed-all (x ∷ l) at h e =
       let b = starts_begin s at x l h e in
       let d : suc (length l) - 1 ≡ length l = omega arith in
       passed_on_lem s (suc (length l)) at b.next (omega arith) b.step ∙ rw d (passed-all l b.next b.goes.there b.others)
 
-  pub passed_past : (l : List ℕ) (at i : ℕ) → at ≤ length s → starts_at s at ≡ these l → length l < i → passed s i at ≡ Refused Torn
+  pub passed_past : (l : List ℕ) (at i : ℕ) → at ≤ length s → starts_at s at ≡ these l → length l < i → passed s i at ≡ Err Torn
   passed_past [] at i h e k = passed-refused s i at Torn (omega arith) (step_past s at (omega (arith, starts_none s at h e)))
   passed_past (x ∷ l) at i h e k =
       let b = starts_begin s at x l h e in
@@ -87,20 +85,20 @@ module _ (s table : List ℕ) (o : Own s table) (w : ℕ) where
     pub own-start : start_in s table w ≡ from_beginning s w
     own-start =
         let is : w ≡ block * (w / block) + w % block = omega arith in
-        let led : passed s (block * (w / block)) 0 ≡ At entry =
-        passed-starts s all 0 (block * (w / block)) (omega arith) o.whole first ∙ ap At (sym entry-is) in
+        let led : passed s (block * (w / block)) 0 ≡ Ok entry =
+        passed-starts s all 0 (block * (w / block)) (omega arith) o.whole first ∙ ap Ok (sym entry-is) in
         let same : passed s w 0 ≡ passed s (w % block) entry =
         ap (λ (i : ℕ). passed s i 0) is
         ∙ passed-sum s (block * (w / block)) (w % block) 0
-        ∙ ap (λ (p : Place). onward p (λ next. passed s (w % block) next)) led in
+        ∙ ap (λ (p : Result ℕ Refusal). onward p (λ next. passed s (w % block) next)) led in
         start_by s table w there (omega (arith, entry-is, starts_inside s all 0 (block * (w / block)) (omega arith) o.whole first))
         ∙ ap (as_start s) (sym same)
 
-  first_past : w ≡ length all → from_beginning s w ≡ Refused NoEntry
+  first_past : w ≡ length all → from_beginning s w ≡ Err NoEntry
   first_past e =
       ap (as_start s) (ap (λ (i : ℕ). passed s i 0) e ∙ passed-all s all 0 (omega arith) o.whole) ∙ rw (eq-eqb (length s) (length s) refl)
 
-  later_past : length all < w → from_beginning s w ≡ Refused Torn
+  later_past : length all < w → from_beginning s w ≡ Err Torn
   later_past h = ap (as_start s) (passed_past s all 0 w (omega arith) o.whole h)
 
   -- past the table both find nothing
@@ -125,24 +123,24 @@ module _ (s table : List ℕ) (o : Own s table) (w : ℕ) where
       }
 
 -- ---- with any table
-header_part : (h : Header) (s : List ℕ) → PartOf s (part_by h s)
-header_part (header.Refused why) s = record { before = []; after = s; whole = refl }
-header_part (header.Record c) s =
+header_part : (h : Result Code Refusal) (s : List ℕ) → PartOf s (part_by h s)
+header_part (Err why) s = record { before = []; after = s; whole = refl }
+header_part (Ok c) s =
     record {
       before = take 1 s;
       after = drop (part_length c.m) (drop 1 s);
       whole = sym (ap (λ (t : List ℕ). take 1 s ++ t) (take-append-drop (part_length c.m) (drop 1 s)) ∙ take-append-drop 1 s);
     }
 
-place_part : (s : List ℕ) (p : Place) → PartOf s (part_at s p)
-place_part s (Refused why) = record { before = []; after = s; whole = refl }
-place_part s (At start) =
+place_part : (s : List ℕ) (p : Result ℕ Refusal) → PartOf s (part_at s p)
+place_part s (Err why) = record { before = []; after = s; whole = refl }
+place_part s (Ok start) =
     let part = header_part (header_of (drop start s)) (drop start s) in
     record {
       before = take start s ++ part.before;
       after = part.after;
       whole = sym (take-append-drop start s) ∙ ap (λ (t : List ℕ). take start s ++ t) part.whole
-          ∙ sym (append_assoc (take start s) part.before (part_at s (At start) ++ part.after));
+          ∙ sym (append_assoc (take start s) part.before (part_at s (Ok start) ++ part.after));
     }
 
 pub any_part : (s table : List ℕ) (w : ℕ) → PartOf s (part_in s table w)

@@ -1,5 +1,5 @@
 -- Laws of stepping: when each answer of a step is given; the starts from a place on, record by record.
-use Rattle.std.specs.Prelude.{◌≡◌, refl, Bool, List, [], ◌∷◌, ℕ, zero, suc, ◌+◌, ◌-◌, ◌≤◌, ◌<◌, length}
+use Rattle.std.specs.Prelude.{◌≡◌, refl, Bool, List, [], ◌∷◌, ℕ, zero, suc, ◌+◌, ◌-◌, ◌≤◌, ◌<◌, length, Result, Ok, Err}
 use Rattle.std.proofs.Common.{ap, sym, ◌∙◌, ⊎_elim, arith}
 use Rattle.std.proofs.Math.Bool.{cond}
 use Rattle.std.proofs.Math.Decide.{ℕ_discrete}
@@ -7,35 +7,33 @@ use borrow.Author.Tests.{le-leb, lt-leb, lt-ltb, le-ltb, eq-eqb, ne_eqb}
 use Rattle.numbers.specs.Choice.{lt_or_le}
 use Rattle.code.specs.declared.Refusal.{Refusal}
 use Rattle.code.specs.declared.Refusal.TheVariants.{Parameters, Torn}
-use Rattle.index.specs.declared.Place.{Place}
-use Rattle.index.specs.declared.Place.TheVariants.{At, Refused}
 use Rattle.index.specs.Steps.{bytes_at, stepped, onward, passed, Starts, these, refused, and_these, starts_after, starts_from, starts_at}
 use Rattle.index.specs.StepsLaws.{Goes, Begins}
 
 -- ---- the answers of a step, by its tests
 module _ (s : List ℕ) (at : ℕ) where
-  pub step_past : length s ≤ at → stepped s at ≡ Refused Torn
+  pub step_past : length s ≤ at → stepped s at ≡ Err Torn
   unfolding stepped
   step_past h = rw (le-leb (length s) at h)
 
   module _ (inside : at < length s) where
-    pub step_bad : bytes_at s at ≡ 0 → stepped s at ≡ Refused Parameters
+    pub step_bad : bytes_at s at ≡ 0 → stepped s at ≡ Err Parameters
     unfolding stepped
     step_bad e = rw (lt-leb (length s) at inside, eq-eqb (bytes_at s at) 0 e)
 
     module _ (some : bytes_at s at ≡ 0 → ⊥) where
-      pub step_torn : length s - at < bytes_at s at → stepped s at ≡ Refused Torn
+      pub step_torn : length s - at < bytes_at s at → stepped s at ≡ Err Torn
       unfolding stepped
       step_torn h =
           rw (lt-leb (length s) at inside, ne_eqb (bytes_at s at) 0 some)
-          (ap (λ (b : Bool). cond b (Refused Torn) (At (at + bytes_at s at))) (lt-ltb (length s - at) (bytes_at s at) h))
+          (ap (λ (b : Bool). cond b (Err Torn) (Ok (at + bytes_at s at))) (lt-ltb (length s - at) (bytes_at s at) h))
 
-      pub step_next : bytes_at s at ≤ length s - at → stepped s at ≡ At (at + bytes_at s at)
+      pub step_next : bytes_at s at ≤ length s - at → stepped s at ≡ Ok (at + bytes_at s at)
       unfolding stepped
       step_next h = rw (lt-leb (length s) at inside, ne_eqb (bytes_at s at) 0 some, le-ltb (length s - at) (bytes_at s at) h)
 
-module _ (s : List ℕ) (at next : ℕ) (e : stepped s at ≡ At next) where
-  not-refused : {A : Type 0} (why : Refusal) → stepped s at ≡ Refused why → A
+module _ (s : List ℕ) (at next : ℕ) (e : stepped s at ≡ Ok next) where
+  not-refused : {A : Type 0} (why : Refusal) → stepped s at ≡ Err why → A
   not-refused why f = let z : ◌≡◌ {A = ℕ} 0 1 = cc in absurd (omega arith)
 
   pub step_goes : Goes s at next
@@ -61,14 +59,14 @@ unfolding passed
 passed-more s zero at h = absurd (omega arith)
 passed-more s (suc left) at h = let e : suc left - 1 ≡ left = omega arith in rw e
 
-pub passed_on_lem : (s : List ℕ) (left at next : ℕ) → 0 < left → stepped s at ≡ At next → passed s left at ≡ passed s (left - 1) next
-passed_on_lem s left at next h e = passed-more s left at h ∙ ap (λ (p : Place). onward p (λ next. passed s (left - 1) next)) e
+pub passed_on_lem : (s : List ℕ) (left at next : ℕ) → 0 < left → stepped s at ≡ Ok next → passed s left at ≡ passed s (left - 1) next
+passed_on_lem s left at next h e = passed-more s left at h ∙ ap (λ (p : Result ℕ Refusal). onward p (λ next. passed s (left - 1) next)) e
 
-pub passed-refused : (s : List ℕ) (left at : ℕ) (why : Refusal) → 0 < left → stepped s at ≡ Refused why → passed s left at ≡ Refused why
-passed-refused s left at why h e = passed-more s left at h ∙ ap (λ (p : Place). onward p (λ next. passed s (left - 1) next)) e
+pub passed-refused : (s : List ℕ) (left at : ℕ) (why : Refusal) → 0 < left → stepped s at ≡ Err why → passed s left at ≡ Err why
+passed-refused s left at why h e = passed-more s left at h ∙ ap (λ (p : Result ℕ Refusal). onward p (λ next. passed s (left - 1) next)) e
 
 -- none is left
-pub passed_none : (s : List ℕ) (left at : ℕ) → left ≡ 0 → passed s left at ≡ At at
+pub passed_none : (s : List ℕ) (left at : ℕ) → left ≡ 0 → passed s left at ≡ Ok at
 unfolding passed
 passed_none s zero at e = refl
 passed_none s (suc left) at e = absurd (omega arith)
@@ -83,10 +81,10 @@ fuel_on : (k : ℕ) (s : List ℕ) (at : ℕ) → at < length s → starts_from 
 unfolding starts_from
 fuel_on k s at h = rw (ne_eqb at (length s) (λ e. omega arith))
 
-after_same : (f g : ℕ → Starts) (s : List ℕ) (at : ℕ) (p : Place) → stepped s at ≡ p → ((next : ℕ) → Goes s at next → f next ≡ g next)
+after_same : (f g : ℕ → Starts) (s : List ℕ) (at : ℕ) (p : Result ℕ Refusal) → stepped s at ≡ p → ((next : ℕ) → Goes s at next → f next ≡ g next)
     → starts_after at p f ≡ starts_after at p g
-after_same f g s at (Refused why) e h = refl
-after_same f g s at (At next) e h = ap (and_these at) (h next (step_goes s at next e))
+after_same f g s at (Err why) e h = refl
+after_same f g s at (Ok next) e h = ap (and_these at) (h next (step_goes s at next e))
 
 -- as many as there are bytes left are enough
 fuel_same : (k k' : ℕ) (s : List ℕ) (at : ℕ) → at ≤ length s → length s - at ≤ k → length s - at ≤ k' → starts_from k s at ≡ starts_from k' s at
@@ -115,13 +113,13 @@ pub starts_on : (s : List ℕ) (at : ℕ) → at < length s → starts_at s at �
 starts_on s at h =
     fuel_same (length s) (suc (length s)) s at (omega arith) (omega arith) (omega arith) ∙ fuel_on (length s) s at h
 
-pub starts-next : (s : List ℕ) (at next : ℕ) → at < length s → stepped s at ≡ At next → starts_at s at ≡ and_these at (starts_at s next)
-starts-next s at next h e = starts_on s at h ∙ ap (λ (p : Place). starts_after at p (starts_at s)) e
+pub starts-next : (s : List ℕ) (at next : ℕ) → at < length s → stepped s at ≡ Ok next → starts_at s at ≡ and_these at (starts_at s next)
+starts-next s at next h e = starts_on s at h ∙ ap (λ (p : Result ℕ Refusal). starts_after at p (starts_at s)) e
 
-pub starts-refused : (s : List ℕ) (at : ℕ) (why : Refusal) → at < length s → stepped s at ≡ Refused why → starts_at s at ≡ refused why
-starts-refused s at why h e = starts_on s at h ∙ ap (λ (p : Place). starts_after at p (starts_at s)) e
+pub starts-refused : (s : List ℕ) (at : ℕ) (why : Refusal) → at < length s → stepped s at ≡ Err why → starts_at s at ≡ refused why
+starts-refused s at why h e = starts_on s at h ∙ ap (λ (p : Result ℕ Refusal). starts_after at p (starts_at s)) e
 
-begins_with : (s : List ℕ) (at next : ℕ) (x : ℕ) (rest : List ℕ) (t : Starts) → stepped s at ≡ At next → starts_at s next ≡ t
+begins_with : (s : List ℕ) (at next : ℕ) (x : ℕ) (rest : List ℕ) (t : Starts) → stepped s at ≡ Ok next → starts_at s next ≡ t
     → and_these at t ≡ these (x ∷ rest) → Begins s at x rest
 begins_with s at next x rest (refused why) e f g = let z : ◌≡◌ {A = ℕ} 0 1 = cc in absurd (omega arith)
 begins_with s at next x rest (these l) e f g =
@@ -129,12 +127,12 @@ begins_with s at next x rest (these l) e f g =
     let same : l ≡ rest = cc in
     record { next = next; first = first; step = e; goes = step_goes s at next e; others = f ∙ ap these same }
 
-begins_by : (s : List ℕ) (at x : ℕ) (rest : List ℕ) (p : Place) → at < length s → stepped s at ≡ p
+begins_by : (s : List ℕ) (at x : ℕ) (rest : List ℕ) (p : Result ℕ Refusal) → at < length s → stepped s at ≡ p
     → starts_at s at ≡ these (x ∷ rest) → Begins s at x rest
-begins_by s at x rest (Refused why) h e f =
+begins_by s at x rest (Err why) h e f =
     let z : refused why ≡ these (x ∷ rest) = sym (starts-refused s at why h e) ∙ f in
     let n : ◌≡◌ {A = ℕ} 0 1 = cc in absurd (omega arith)
-begins_by s at x rest (At next) h e f = begins_with s at next x rest (starts_at s next) e refl (sym (starts-next s at next h e) ∙ f)
+begins_by s at x rest (Ok next) h e f = begins_with s at next x rest (starts_at s next) e refl (sym (starts-next s at next h e) ∙ f)
 
 pub starts_begin : (s : List ℕ) (at x : ℕ) (rest : List ℕ) → at ≤ length s → starts_at s at ≡ these (x ∷ rest) → Begins s at x rest
 starts_begin s at x rest h f =
@@ -154,8 +152,8 @@ starts_none s at h f =
     some_with (these l) g = let n : ◌≡◌ {A = ℕ} 0 1 = cc in omega arith
     some_with (refused why) g = let n : ◌≡◌ {A = ℕ} 0 1 = cc in omega arith
 
-    some_by : (p : Place) → at < length s → stepped s at ≡ p → ⊥
-    some_by (Refused why) inside e =
+    some_by : (p : Result ℕ Refusal) → at < length s → stepped s at ≡ p → ⊥
+    some_by (Err why) inside e =
         let z : refused why ≡ these [] = sym (starts-refused s at why inside e) ∙ f in
         let n : ◌≡◌ {A = ℕ} 0 1 = cc in omega arith
-    some_by (At next) inside e = some_with (starts_at s next) (sym (starts-next s at next inside e) ∙ f)
+    some_by (Ok next) inside e = some_with (starts_at s next) (sym (starts-next s at next inside e) ∙ f)

@@ -1,8 +1,6 @@
 -- Laws of an append: when each answer is given.
 use Rattle.std.specs.Prelude.{◌≡◌, List, false, ℕ, ℤ}
 use Rattle.std.proofs.Math.Path.{ap}
-use Rattle.code.specs.declared.Admitted.TheVariants as admission
-use Rattle.record.specs.declared.Written.TheVariants as writer
 use Rattle.record.specs.Writing as Writing
 use Rattle.record.specs.Writing.{writing}
 use Rattle.index.specs.declared.Index.{Index}

@@ -1,14 +1,12 @@
 -- Demand 1 of finding a record by its number, of making a table and of appending (docs/RULES.md, §14): what each refuses, exactly when, and in which order.
 -- That it is met is proved in DemandsMet and MakingDemandsMet.
-use Rattle.std.specs.Prelude.{◌≡◌, ◌⊎◌, List, [], ◌∷◌, ℕ, ◌/◌, ◌%◌, ◌≤◌, ◌<◌, ℤ, length, get_or, drop}
+use Rattle.std.specs.Prelude.{◌≡◌, ◌⊎◌, List, [], ◌∷◌, ℕ, ◌/◌, ◌%◌, ◌≤◌, ◌<◌, ℤ, length, get_or, drop, Result, Ok, Err}
 use Rattle.code.specs.declared.Refusal.{Refusal}
 use Rattle.code.specs.declared.Refusal.TheVariants.{Parameters, OutputLength, Torn, NoEntry}
 use Rattle.code.specs.Demand1.{View, Checks, passed, check, Demand1}
 use Rattle.record.specs.Reader.{outcome_of}
 use Rattle.record.specs.Demands.{header_checks, header_view, write_checks}
 use Rattle.index.specs.declared.Index.{Index}
-use Rattle.index.specs.declared.Place.{Place}
-use Rattle.index.specs.declared.Place.TheVariants.{At, Refused}
 use Rattle.index.specs.Steps as Steps
 use Rattle.index.specs.Finding.{block, header_in, part_in, part_start}
 use Rattle.index.specs.Making.{entries_of, index_of, IndexOutcome, making, list_of}
@@ -16,16 +14,16 @@ use Rattle.index.specs.Appending.{AppendOutcome, largest_count, appending}
 
 -- ---- finding: 10 and 8 for the table's entry, 1 and 8 as met in stepping, 10 at the end, then the checks of the record's header
 -- the place that stepping has led to
-abbrev pub place_of : Place → ℕ
-place_of (At p) = p
-place_of (Refused why) = 0
+abbrev pub place_of : Result ℕ Refusal → ℕ
+place_of (Ok p) = p
+place_of (Err why) = 0
 
 -- led is where stepping leads from the entry of w
-abbrev pub stepping_checks : List ℕ → Place → Checks
+abbrev pub stepping_checks : List ℕ → Result ℕ Refusal → Checks
 stepping_checks s led =
-    check Parameters (led ≡ Refused Parameters)
-    (check Torn (led ≡ Refused Torn)
-    (check NoEntry (led ≡ At (length s)) (header_checks (drop (place_of led) s) passed)))
+    check Parameters (led ≡ Err Parameters)
+    (check Torn (led ≡ Err Torn)
+    (check NoEntry (led ≡ Ok (length s)) (header_checks (drop (place_of led) s) passed)))
 
 abbrev pub find_checks : List ℕ → List ℕ → ℕ → Checks
 find_checks s table w =
@@ -49,9 +47,9 @@ made_view o =
 pub record MetFrom (s : List ℕ) (from : ℕ) (why : Refusal) : Type 0 where
   pub count : ℕ
   pub place : ℕ
-  pub led : Steps.passed s count from ≡ At place
+  pub led : Steps.passed s count from ≡ Ok place
   pub inside : place < length s
-  pub refuses : Steps.stepped s place ≡ Refused why
+  pub refuses : Steps.stepped s place ≡ Err why
 
 -- only one of the first two can be met; the third is too few entries for the records of a whole capture
 abbrev pub make_checks : List ℕ → List ℕ → Checks

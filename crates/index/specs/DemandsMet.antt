@@ -2,7 +2,6 @@
 use Rattle.std.specs.Prelude.{◌≡◌, ◌⊎◌, ◌-◌}
 use Rattle.code.specs.declared.Refusal.{Refusal}
 use Rattle.code.specs.declared.Refusal.TheVariants.{Parameters, Torn}
-use Rattle.record.specs.declared.Header.TheVariants as header
 
 -- ---- stepping refuses as 1 or 8
 abbrev pub ParametersOrTorn : Refusal → Type 0

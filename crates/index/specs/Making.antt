@@ -1,14 +1,11 @@
 -- What making an index reports and leaves, for every input: 1 or 8, whichever is met first, then 3 (docs/RULES.md, §14).
-use Rattle.std.specs.Prelude.{◌≡◌, List, [], ◌∷◌, ◌++◌, cond, ℕ, zero, suc, ◌+◌, ◌-◌, ◌/◌, ◌%◌, ◌≤◌, ◌<◌, length, drop, set, ltb, eqb}
+use Rattle.std.specs.Prelude.{◌≡◌, List, [], ◌∷◌, ◌++◌, cond, ℕ, zero, suc, ◌+◌, ◌-◌, ◌/◌, ◌%◌, ◌≤◌, ◌<◌, length, drop, set, ltb, eqb, Result, Ok, Err}
 use Rattle.code.specs.Sound.{Carried, carrying, carried}
 use Rattle.code.specs.declared.Refusal.TheVariants.{OutputLength}
 use Rattle.index.specs.declared.Index.{Index}
-use Rattle.index.specs.declared.Indexed.{Indexed}
-use Rattle.index.specs.declared.Indexed.TheVariants.{Done, Refused}
-use Rattle.index.specs.declared.Counted.{Counted}
-use Rattle.index.specs.declared.Counted.TheVariants as count
 use Rattle.index.specs.Steps.{Starts, these, refused, starts_of}
 use Rattle.index.specs.Finding.{block}
+use Rattle.code.specs.declared.Refusal.{Refusal}
 
 -- of all starts, the first and every 16th after it; k are skipped first
 abbrev pub every : ℕ → List ℕ → List ℕ
@@ -31,16 +28,16 @@ pub record IndexOutcome : Type 0 where
   pub table : List ℕ
 
 -- the answer in the rules' numbers
-abbrev pub outcome_of : Indexed → List ℕ → IndexOutcome
-outcome_of (Done index) table = record { carry = carrying 0 0 0 0; index = index; table = table }
-outcome_of (Refused why) table = record { carry = carried why; index = index_of 0 0; table = table }
+abbrev pub outcome_of : Result Index Refusal → List ℕ → IndexOutcome
+outcome_of (Ok index) table = record { carry = carrying 0 0 0 0; index = index; table = table }
+outcome_of (Err why) table = record { carry = carried why; index = index_of 0 0; table = table }
 
 abbrev pub made_by : Starts → List ℕ → List ℕ → IndexOutcome
-made_by (refused why) s table = outcome_of (Refused why) table
+made_by (refused why) s table = outcome_of (Err why) table
 made_by (these l) s table =
     let made = entries_of l in
-    cond (ltb (length table) (length made)) (outcome_of (Refused OutputLength) table)
-    (outcome_of (Done (index_of (length l) (length s))) (made ++ drop (length made) table))
+    cond (ltb (length table) (length made)) (outcome_of (Err OutputLength) table)
+    (outcome_of (Ok (index_of (length l) (length s))) (made ++ drop (length made) table))
 
 -- from the capture and the table
 unfoldable pub making : List ℕ → List ℕ → IndexOutcome
@@ -48,9 +45,9 @@ making s table = made_by (starts_of s) s table
 
 -- ---- in steps, as code makes it
 -- the number of records after n others
-abbrev pub counted : ℕ → Starts → Counted
-counted n (these l) = count.Records (n + length l)
-counted n (refused why) = count.Refused why
+abbrev pub counted : ℕ → Starts → Result ℕ Refusal
+counted n (these l) = Ok (n + length l)
+counted n (refused why) = Err why
 
 abbrev pub entries_for : ℕ → ℕ
 entries_for records = records / block + (records % block + (block - 1)) / block

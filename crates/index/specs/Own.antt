@@ -1,9 +1,7 @@
 -- What is promised for a capture's own table, and for any table (docs/RULES.md, §14). Proved in OwnMet, AppendMet, BelongsMet and InUseMet.
-use Rattle.std.specs.Prelude.{◌≡◌, List, ◌++◌, ℕ, ◌/◌, ◌≤◌, ◌<◌, length, take}
+use Rattle.std.specs.Prelude.{◌≡◌, List, ◌++◌, ℕ, ◌/◌, ◌≤◌, ◌<◌, length, take, Ok, Err}
 use Rattle.code.specs.declared.Refusal.TheVariants.{Torn, NoEntry}
 use Rattle.index.specs.declared.Index.{Index}
-use Rattle.index.specs.declared.Indexed.TheVariants.{Done}
-use Rattle.index.specs.declared.Place.TheVariants.{Refused}
 use Rattle.index.specs.Steps.{these, starts_of}
 use Rattle.index.specs.Finding.{block, start_in, from_beginning, header_at, part_at, header_in, part_in}
 use Rattle.index.specs.Making.{entries_of, outcome_of, making, list_of}
@@ -21,9 +19,9 @@ pub record FoundAlike (s table : List ℕ) (w : ℕ) : Type 0 where
   -- and the header with its refusal, wherever the table has an entry for w
   pub header : w / block < length table → header_in s table w ≡ header_at s (from_beginning s w)
   -- past the last block the table gives 10; stepping gives 10 for the first record that is not there, and 8 for all others
-  pub past : length table ≤ w / block → start_in s table w ≡ Refused NoEntry
-  pub first_past : w ≡ length (list_of (starts_of s)) → from_beginning s w ≡ Refused NoEntry
-  pub later_past : length (list_of (starts_of s)) < w → from_beginning s w ≡ Refused Torn
+  pub past : length table ≤ w / block → start_in s table w ≡ Err NoEntry
+  pub first_past : w ≡ length (list_of (starts_of s)) → from_beginning s w ≡ Err NoEntry
+  pub later_past : length (list_of (starts_of s)) < w → from_beginning s w ≡ Err Torn
 
 -- whatever the table is, what is handed back is a part of the capture
 pub record PartOf (s part : List ℕ) : Type 0 where
@@ -45,4 +43,4 @@ pub record FoundInUse (index : Index) (capture table : List ℕ) (w : ℕ) : Typ
 
 -- what an append leaves is what is made from the longer capture
 abbrev pub MadeAfresh : AppendOutcome → List ℕ → Type 0
-MadeAfresh o table = making (take o.index.used o.capture) table ≡ outcome_of (Done o.index) o.table
+MadeAfresh o table = making (take o.index.used o.capture) table ≡ outcome_of (Ok o.index) o.table

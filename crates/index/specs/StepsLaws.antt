@@ -1,6 +1,5 @@
 -- Laws of stepping: when each answer of a step is given; the starts from a place on, record by record.
-use Rattle.std.specs.Prelude.{◌≡◌, List, ℕ, ◌+◌, ◌-◌, ◌≤◌, ◌<◌, length}
-use Rattle.index.specs.declared.Place.TheVariants.{At}
+use Rattle.std.specs.Prelude.{◌≡◌, List, ℕ, ◌+◌, ◌-◌, ◌≤◌, ◌<◌, length, Ok}
 use Rattle.index.specs.Steps.{bytes_at, stepped, these, refused, starts_at}
 
 -- ---- and back: what a step that is not refused shows
@@ -14,6 +13,6 @@ pub record Goes (s : List ℕ) (at next : ℕ) : Type 0 where
 pub record Begins (s : List ℕ) (at x : ℕ) (rest : List ℕ) : Type 0 where
   pub next : ℕ
   pub first : x ≡ at
-  pub step : stepped s at ≡ At next
+  pub step : stepped s at ≡ Ok next
   pub goes : Goes s at next
   pub others : starts_at s next ≡ these rest

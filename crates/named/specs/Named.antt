@@ -1,14 +1,14 @@
 -- A row that names information indices which are to be 0 as well, 1 where named, and the smaller set of words that it leaves (docs/RULES.md, §15).
-use Rattle.std.specs.Prelude.{◌≡◌, Bool, true, false, not, cond, ◌&&◌, ◌||◌, List, [], ◌∷◌, ℕ, zero, suc, ◌<◌, length, get_or, ltb, eqb}
+use Rattle.std.specs.Prelude.{◌≡◌, Bool, true, false, not, cond, ◌&&◌, ◌||◌, List, [], ◌∷◌, ℕ, zero, suc, ◌<◌, length, get_or, ltb, eqb, Result, Ok, Err}
 use Rattle.numbers.specs.Sums.{sum}
 use Rattle.words.specs.Bits.{Bits}
 use Rattle.words.specs.Kinds.{kinds}
 use Rattle.code.specs.declared.Refusal.TheVariants.{Named}
-use Rattle.code.specs.declared.Admitted.{Admitted}
-use Rattle.code.specs.declared.Admitted.TheVariants.{Allowed, Refused}
 use Rattle.code.specs.Sound.{made}
 use Rattle.code.specs.Entries.{first_bad_bit}
 use Rattle.code.specs.Admitted.{if_made}
+use Rattle.code.specs.declared.Code.{Code}
+use Rattle.code.specs.declared.Refusal.{Refusal}
 
 -- the kind of an index that is named or not: a named one is frozen
 abbrev pub kind_left : ℕ → ℕ → ℕ
@@ -46,5 +46,5 @@ good_row named ks =
     eqb (length named) (length ks) && (not (ltb (first_bad_bit named) (length named)) && (not (names_frozen named ks) && ltb 0 (sum (left named ks))))
 
 -- 1, and then 12 exactly if the row is not a good one
-unfoldable pub row_admitted : ℕ → ℕ → List ℕ → Admitted
-row_admitted r m named = if_made (made r m) (λ c. cond (good_row named (kinds c.r c.m)) (Allowed c) (Refused Named))
+unfoldable pub row_admitted : ℕ → ℕ → List ℕ → Result Code Refusal
+row_admitted r m named = if_made (made r m) (λ c. cond (good_row named (kinds c.r c.m)) (Ok c) (Err Named))

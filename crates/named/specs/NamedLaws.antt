@@ -1,5 +1,5 @@
 -- Laws of rows that name indices: the kinds left, the test, and what the loops over a row have found so far.
-use Rattle.std.specs.Prelude.{◌≡◌, Bool, true, false, ◌&&◌, ◌||◌, ℕ, zero, suc, ◌+◌, ◌^◌, ◌≤◌, ◌<◌, length, get_or, drop, replicate}
+use Rattle.std.specs.Prelude.{◌≡◌, Bool, true, false, ◌&&◌, ◌||◌, ℕ, zero, suc, ◌+◌, ◌^◌, ◌≤◌, ◌<◌, length, get_or, drop, replicate, Result, Ok, Err}
 use Rattle.std.proofs.Math.Path.{refl, ap, ap₂}
 use Rattle.std.proofs.Common.{sym, ◌∙◌, subst, true≢false, zero-le, suc-ne-zero, drop_of_length-le}
 use Rattle.std.proofs.Math.Bool.{not}
@@ -18,15 +18,13 @@ use Rattle.words.specs.Kinds.{kinds, Frozen}
 use Rattle.words.proofs.KindLaws.{length-kinds, bits_kinds, sum_kinds_pos}
 use Rattle.words.specs.TransformLaws.{bits_zeros}
 use Rattle.code.specs.declared.Code.{Code}
-use Rattle.code.specs.declared.Made.{Made}
-use Rattle.code.specs.declared.Made.TheVariants.{Good, Bad}
 use Rattle.code.specs.declared.Refusal.TheVariants.{Parameters, Named}
-use Rattle.code.specs.declared.Admitted.TheVariants.{Allowed, Refused}
 use Rattle.code.specs.Sound.{Sound, made, rm}
 use Rattle.code.specs.SoundLaws.{made_of}
 use Rattle.code.specs.Entries.{first_bad_bit}
 use Rattle.code.specs.EntriesLaws.{good_bits, first-none}
 use Rattle.named.specs.Named.{kind_left, left, GoodRow, named_frozen, names_frozen, good_row, row_admitted}
+use Rattle.code.specs.declared.Refusal.{Refusal}
 
 -- ---- the kinds left
 kind_left_frozen : (a : ℕ) → kind_left a 0 ≡ 0
@@ -172,46 +170,46 @@ module _ (named ks : List ℕ) (are : Bits ks) where
 
 -- ---- the tests 1 and 12
 module _ (r m : ℕ) (named : List ℕ) where
-  pub row_parameters : made r m ≡ Bad → Refused Parameters ≡ row_admitted r m named
+  pub row_parameters : made r m ≡ Err Parameters → Err Parameters ≡ row_admitted r m named
   unfolding row_admitted
   row_parameters e = rw e
 
-  module _ (c : Code) (good : made r m ≡ Good c) where
-    pub row_named : good_row named (kinds c.r c.m) ≡ false → Refused Named ≡ row_admitted r m named
+  module _ (c : Code) (good : made r m ≡ Ok c) where
+    pub row_named : good_row named (kinds c.r c.m) ≡ false → Err Named ≡ row_admitted r m named
     unfolding row_admitted
     row_named e = rw (good, e)
 
-    pub row_allowed : good_row named (kinds c.r c.m) ≡ true → Allowed c ≡ row_admitted r m named
+    pub row_allowed : good_row named (kinds c.r c.m) ≡ true → Ok c ≡ row_admitted r m named
     unfolding row_admitted
     row_allowed e = rw (good, e)
 
 -- and back: 1 first, then 12 exactly if the row is not a good one
 pub data RowDecided (r m : ℕ) (named : List ℕ) : Type 0 where
-  bad_parameters : made r m ≡ Bad → Refused Parameters ≡ row_admitted r m named → RowDecided r m named
-  bad-row : Sound (rm r m) → (GoodRow named (kinds r m) → ⊥) → Refused Named ≡ row_admitted r m named → RowDecided r m named
-  sound_row : Sound (rm r m) → GoodRow named (kinds r m) → Allowed (rm r m) ≡ row_admitted r m named → RowDecided r m named
+  bad_parameters : made r m ≡ Err Parameters → Err Parameters ≡ row_admitted r m named → RowDecided r m named
+  bad-row : Sound (rm r m) → (GoodRow named (kinds r m) → ⊥) → Err Named ≡ row_admitted r m named → RowDecided r m named
+  sound_row : Sound (rm r m) → GoodRow named (kinds r m) → Ok (rm r m) ≡ row_admitted r m named → RowDecided r m named
 
 module _ (r m : ℕ) (named : List ℕ) where
-  row_decided_good : (c : Code) (b : Bool) → made r m ≡ Good c → good_row named (kinds c.r c.m) ≡ b → RowDecided r m named
+  row_decided_good : (c : Code) (b : Bool) → made r m ≡ Ok c → good_row named (kinds c.r c.m) ≡ b → RowDecided r m named
   row_decided_good c true e f =
       let is = made_of r m c e in
       sound_row (subst Sound is.same is.sound)
       (subst (λ (d : Code). GoodRow named (kinds d.r d.m)) is.same (row_good named (kinds c.r c.m) (bits_kinds c.r c.m) f))
-      (ap Allowed (sym is.same) ∙ row_allowed r m named c e f)
+      (ap Ok (sym is.same) ∙ row_allowed r m named c e f)
   row_decided_good c false e f =
       let is = made_of r m c e in
       let bad : GoodRow named (kinds c.r c.m) → ⊥ = λ g. true≢false (sym (good-row named (kinds c.r c.m) (bits_kinds c.r c.m) g) ∙ f) in
       bad-row (subst Sound is.same is.sound) (subst (λ (d : Code). GoodRow named (kinds d.r d.m) → ⊥) is.same bad) (row_named r m named c e f)
 
-  row_decided_by : (x : Made) → made r m ≡ x → RowDecided r m named
-  row_decided_by (Good c) e = row_decided_good c (good_row named (kinds c.r c.m)) e refl
-  row_decided_by Bad e = bad_parameters e (row_parameters r m named e)
+  row_decided_by : (x : Result Code Refusal) → made r m ≡ x → RowDecided r m named
+  row_decided_by (Ok c) e = row_decided_good c (good_row named (kinds c.r c.m)) e refl
+  row_decided_by (Err _) e = bad_parameters e (row_parameters r m named e)
 
   pub row_decided : RowDecided r m named
   row_decided = row_decided_by (made r m) refl
 
   -- what an allowed row shows
-  pub allowed_row : (c : Code) → Allowed c ≡ row_admitted r m named → (c ≡ rm r m) × Sound c × GoodRow named (kinds c.r c.m)
+  pub allowed_row : (c : Code) → Ok c ≡ row_admitted r m named → (c ≡ rm r m) × Sound c × GoodRow named (kinds c.r c.m)
   allowed_row c e =
       elim row_decided [
         | bad_parameters b f ↦ let z : ◌≡◌ {A = ℕ} 0 1 = cc in absurd (omega arith)

@@ -9,7 +9,7 @@ ghost use Rattle.code.specs.Sound.{Sound};
 ghost use Rattle.named.specs.Named.{kind_left, left, named_frozen, names_frozen};
 ghost use Rattle.named.specs.Named.{good_row, row_admitted};
 
-use code::{Admitted, Code, Made, Refusal};
+use code::{Code, Refusal};
 
 // A named index is frozen too.
 fn kind_left(named: u8, kind: u8) -> u8
@@ -32,20 +32,12 @@ fn names_frozen(code: Code, named: &[u8]) -> bool
     requires { Sound code × (length named.now ≡ 2 ^ code.m) }
     ensures { result ≡ names_frozen named.now (kinds code.r code.m) }
 {
-    let mut i = 0;
-    while i < named.len() {
-        if named_frozen(named[i], code.kind(i)) {
+    for (i, name) in named.iter().enumerate() {
+        if named_frozen(*name, code.kind(i)) {
             return true;
         }
-        i += 1;
     }
     false
-}
-
-fn wide(kind: u8) -> usize
-    ensures { result ≡ kind }
-{
-    kind as usize
 }
 
 // How many information indices the row leaves.
@@ -54,10 +46,8 @@ pub fn count_left(code: Code, named: &[u8]) -> usize
     ensures { result ≡ sum (left named.now (kinds code.r code.m)) }
 {
     let mut count = 0usize;
-    let mut i = 0;
-    while i < named.len() {
-        count += wide(kind_left(named[i], code.kind(i)));
-        i += 1;
+    for (i, name) in named.iter().enumerate() {
+        count += usize::from(kind_left(*name, code.kind(i)));
     }
     count
 }
@@ -68,10 +58,8 @@ pub fn put_left(code: Code, named: &[u8], row: &mut [u8])
         × (length row.old ≡ 2 ^ code.m) }
     ensures { row.new ≡ left named.now (kinds code.r code.m) }
 {
-    let mut i = 0;
-    while i < row.len() {
+    for i in 0..row.len() {
         row[i] = kind_left(named[i], code.kind(i));
-        i += 1;
     }
 }
 
@@ -83,7 +71,7 @@ fn good_row(code: Code, named: &[u8]) -> bool
     if named.len() != code.length() {
         return false;
     }
-    if code::first_bad_bit(named) < named.len() {
+    if code::test_bits(named).is_err() {
         return false;
     }
     if names_frozen(code, named) {
@@ -93,14 +81,12 @@ fn good_row(code: Code, named: &[u8]) -> bool
 }
 
 // The tests 1 and 12.
-pub fn admit_row(r: u32, m: u32, named: &[u8]) -> Admitted
+pub fn admit_row(r: u32, m: u32, named: &[u8]) -> Result<Code, Refusal>
     ensures { result ≡ row_admitted r m named.now }
 {
-    let Made::Good(code) = Code::new(r, m) else {
-        return Admitted::Refused(Refusal::Parameters);
-    };
+    let code = Code::new(r, m)?;
     if !good_row(code, named) {
-        return Admitted::Refused(Refusal::Named);
+        return Err(Refusal::Named);
     }
-    Admitted::Allowed(code)
+    Ok(code)
 }

@@ -1,36 +1,35 @@
 -- Laws of unpacking: when each answer is given, and that no second answer meets the promise.
-use Rattle.std.specs.Prelude.{◌≡◌, refl, List, ℕ, zero, suc, ◌<◌, ℤ, length}
+use Rattle.std.specs.Prelude.{◌≡◌, refl, List, ℕ, zero, suc, ◌<◌, ℤ, length, Result, Ok, Err}
 use Rattle.std.proofs.Common.{ap, sym, ◌∙◌, arith, pow_pos}
 use Rattle.std.proofs.Math.Decide.{ℕ_discrete}
 use borrow.Author.Tests.{eq-eqb, ne_eqb}
 use Rattle.code.specs.Sound.{largest_m}
 use Rattle.code.specs.RefusalLaws.{completed_only}
 use Rattle.code.specs.declared.Refusal.TheVariants.{InputLength, OutputLength}
-use Rattle.code.specs.declared.Completed.{Completed}
-use Rattle.code.specs.declared.Completed.TheVariants.{Done, Refused}
 use Rattle.packing.specs.Layout.{unpacked, part_length, readings_in}
 use Rattle.packing.specs.Unpacking.{UnpackedOutcome, outcome_of, unpacking}
+use Rattle.code.specs.declared.Refusal.{Refusal}
 
 -- the three answers, by the tests
 module _ (p : List ℕ) (d : List ℤ) where
   abbrev n : ℕ
   n = readings_in (suc largest_m) (length p)
 
-  pub no_part : n ≡ 0 → unpacking p d ≡ outcome_of (Refused InputLength) d
+  pub no_part : n ≡ 0 → unpacking p d ≡ outcome_of (Err InputLength) d
   unfolding unpacking
   no_part e = rw (eq-eqb n 0 e)
 
   module _ (some : n ≡ 0 → ⊥) where
-    pub other_room : (length d ≡ n → ⊥) → unpacking p d ≡ outcome_of (Refused OutputLength) d
+    pub other_room : (length d ≡ n → ⊥) → unpacking p d ≡ outcome_of (Err OutputLength) d
     unfolding unpacking
     other_room f = rw (ne_eqb n 0 some, ne_eqb (length d) n f)
 
-    pub all-unpacked : length d ≡ n → unpacking p d ≡ outcome_of Done (unpacked p)
+    pub all-unpacked : length d ≡ n → unpacking p d ≡ outcome_of (Ok tt) (unpacked p)
     unfolding unpacking
     all-unpacked e = rw (ne_eqb n 0 some, eq-eqb (length d) n e)
 
 -- no second answer and no second buffer meet the promise
-pub unpack_only : (o : UnpackedOutcome) (a b : Completed) (x y : List ℤ) → outcome_of a x ≡ o → outcome_of b y ≡ o → (a ≡ b) × (x ≡ y)
+pub unpack_only : (o : UnpackedOutcome) (a b : Result (Unit {0}) Refusal) (x y : List ℤ) → outcome_of a x ≡ o → outcome_of b y ≡ o → (a ≡ b) × (x ≡ y)
 unpack_only o a b x y e f =
     let same : outcome_of a x ≡ outcome_of b y = e ∙ sym f in
     (completed_only a b (ap (λ (p : UnpackedOutcome). p.carry) same), ap (λ (p : UnpackedOutcome). p.readings) same)

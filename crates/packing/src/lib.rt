@@ -10,9 +10,8 @@ ghost use Rattle.packing.specs.Layout.{field, reading, packed, unpacked};
 ghost use Rattle.packing.specs.Layout.{part_length, readings_in};
 ghost use Rattle.packing.specs.Unpacking.{outcome_of, unpacking};
 
-use code::{Code, Completed, Refusal};
+use code::{Code, Refusal};
 
-// What unpacking answers: the readings are there, or why not.
 // How many bytes follow a record's first.
 pub fn part_length(code: Code) -> usize
     requires { Sound code }
@@ -136,17 +135,17 @@ fn readings_in(bytes: usize) -> usize
 }
 
 // Writes the readings of a packed part into the lent buffer.
-pub fn unpack(part: &[u8], readings: &mut [i16]) -> Completed
+pub fn unpack(part: &[u8], readings: &mut [i16]) -> Result<(), Refusal>
     ensures { outcome_of result readings.new
         ≡ unpacking part.now readings.old }
 {
     let n = readings_in(part.len());
     if n == 0 {
-        return Completed::Refused(Refusal::InputLength);
+        return Err(Refusal::InputLength);
     }
     if readings.len() != n {
-        return Completed::Refused(Refusal::OutputLength);
+        return Err(Refusal::OutputLength);
     }
     put_readings(part, readings);
-    Completed::Done
+    Ok(())
 }

@@ -1,14 +1,14 @@
 -- Laws of what the program must write: it goes record by record, and bytes after a record do not change its line.
-use Rattle.std.specs.Prelude.{◌≡◌, refl, List, [], ◌∷◌, ◌++◌, true, false, cond, ℕ, zero, suc, ◌+◌, ◌-◌, ◌^◌, ◌≤◌, ◌<◌, length, drop}
+use Rattle.std.specs.Prelude.{◌≡◌, refl, List, [], ◌∷◌, ◌++◌, true, false, cond, ℕ, zero, suc, ◌+◌, ◌-◌, ◌^◌, ◌≤◌, ◌<◌, length, drop, Result, Ok, Err}
 use Rattle.std.proofs.Common.{ap, ◌∙◌, arith, length-append, length-drop}
 use Rattle.std.proofs.lemmas.List.{drop-append-le}
 use Rattle.numbers.specs.Choice.{cond_two}
-use Rattle.record.specs.declared.Header.{Header}
-use Rattle.record.specs.declared.Header.TheVariants.{Record, Refused}
 use Rattle.record.specs.Reader.{header_of}
 use Rattle.record.specs.HeaderLaws.{There, header_there, header_before, readings_before}
 use Rattle.lines.specs.Line.{total_line}
 use Rattle.program.specs.Program.{Result, allowance, headed, result_of, line_of, stops, is_answered, next_start, output_from}
+use Rattle.code.specs.declared.Code.{Code}
+use Rattle.code.specs.declared.Refusal.{Refusal}
 
 -- the program's allowance is a million
 pub allowance-is : allowance ≡ 10 ^ 6
@@ -20,14 +20,14 @@ unfolding result_of
 goes_on_there s h = header_there s (λ e. let f : true ≡ false = rw e at h in let z : ◌≡◌ {A = ℕ} 0 1 = cc in omega arith)
     (λ e. let f : true ≡ false = rw e at h in let z : ◌≡◌ {A = ℕ} 0 1 = cc in omega arith)
 
-headed-before : (s rest : List ℕ) (h : Header) → header_of s ≡ h → headed h (s ++ rest) ≡ headed h s
-headed-before s rest (Refused why) e = refl
-headed-before s rest (Record c) e = rw (readings_before s rest c e)
+headed-before : (s rest : List ℕ) (h : Result Code Refusal) → header_of s ≡ h → headed h (s ++ rest) ≡ headed h s
+headed-before s rest (Err why) e = refl
+headed-before s rest (Ok c) e = rw (readings_before s rest c e)
 
 -- what becomes of a record that is there completely does not depend on the bytes after it
 pub result_before : (s rest : List ℕ) → 0 < length s → next_start s ≤ length s → result_of (s ++ rest) ≡ result_of s
 unfolding result_of
-result_before s rest h n = ap (λ (x : Header). headed x (s ++ rest)) (header_before s rest h n) ∙ headed-before s rest (header_of s) refl
+result_before s rest h n = ap (λ (x : Result Code Refusal). headed x (s ++ rest)) (header_before s rest h n) ∙ headed-before s rest (header_of s) refl
 
 -- as many records as there are bytes are enough
 enough : (k j a f : ℕ) (s : List ℕ) → length s ≤ k → length s ≤ j → output_from k a f s ≡ output_from j a f s

@@ -1,14 +1,13 @@
 -- What the program writes for the bytes of its input (docs/RULES.md, §8).
-use Rattle.std.specs.Prelude.{List, [], ◌∷◌, ◌++◌, Bool, true, false, cond, ◌||◌, ℕ, zero, suc, ◌+◌, length, get_or, drop, eqb}
+use Rattle.std.specs.Prelude.{List, [], ◌∷◌, ◌++◌, Bool, true, false, cond, ◌||◌, ℕ, zero, suc, ◌+◌, length, get_or, drop, eqb, Result, Ok, Err}
 use Rattle.words.specs.Kinds.{kinds}
 use Rattle.decoding.specs.Answer.{Answer, found, tied, out_of_visits, answer}
 use Rattle.code.specs.Sound.{number_of}
 use Rattle.code.specs.declared.Refusal.{Refusal}
 use Rattle.code.specs.declared.Refusal.TheVariants.{OutOfVisits, Tied}
-use Rattle.record.specs.declared.Header.{Header}
-use Rattle.record.specs.declared.Header.TheVariants.{Record, Refused}
 use Rattle.record.specs.Reader.{code_of, length_by, readings_of, header_of}
 use Rattle.lines.specs.Line.{answer_line, refused_line, total_line}
+use Rattle.code.specs.declared.Code.{Code}
 
 -- the allowance that the program names
 abbrev pub allowance : ℕ
@@ -24,9 +23,9 @@ searched (found bits word penalty gap visits) = answered bits penalty gap visits
 searched (tied penalty visits) = refused (Tied penalty visits)
 searched out_of_visits = refused (OutOfVisits allowance)
 
-abbrev pub headed : Header → List ℕ → Result
-headed (Refused why) s = refused why
-headed (Record c) s = searched (answer c.m (kinds c.r c.m) (readings_of c s) allowance)
+abbrev pub headed : Result Code Refusal → List ℕ → Result
+headed (Err why) s = refused why
+headed (Ok c) s = searched (answer c.m (kinds c.r c.m) (readings_of c s) allowance)
 
 -- of the record that the bytes s begin with
 unfoldable pub result_of : List ℕ → Result

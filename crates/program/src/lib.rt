@@ -10,8 +10,7 @@ ghost use Rattle.program.specs.Program.{Result, result_of};
 ghost use Rattle.program.specs.Step.{Stepped};
 
 use code::{Code, Refusal};
-use record::Header;
-use search::Searched;
+use search::Found;
 
 // The program's own allowance.
 const ALLOWANCE: u32 = 1000000;
@@ -39,7 +38,7 @@ fn refuse(w: u64, s: &[u8], why: Refusal, out: &mut [u8], at: usize) -> Step
     ensures { Stepped w s.now (Result.refused why) out.old at result
         out.new }
 {
-    let number = why.number();
+    let number = why.shown().number;
     let end = lines::put_refused(w, number, out, at);
     Step {
         taken: record::record_length(s[0]),
@@ -53,19 +52,17 @@ fn report(
     w: u64,
     s: &[u8],
     bits: &[u8],
-    penalty: u32,
-    gap: u32,
-    visits: u32,
+    found: Found,
     out: &mut [u8],
     at: usize,
 ) -> Step
     requires { (0 < length s.now) × Bits bits.now × (length bits.now ≤ 256)
         × (at + 512 ≤ length out.old) }
     ensures { Stepped w s.now
-        (Result.answered bits.now penalty gap visits) out.old at result
+        (Result.answered bits.now found.penalty found.gap found.visits) out.old at result
         out.new }
 {
-    let end = lines::put_answer(w, bits, penalty, gap, visits, out, at);
+    let end = lines::put_answer(w, bits, found.penalty, found.gap, found.visits, out, at);
     Step {
         taken: record::record_length(s[0]),
         end,
@@ -84,7 +81,7 @@ fn search_into(
     out: &mut [u8],
     at: usize,
 ) -> Step
-    requires s_value { (header_of s.now ≡ Header.Record code)
+    requires s_value { (header_of s.now ≡ Ok code)
         × (length bits.old ≡ dimension code.r code.m)
         × (length word.old ≡ 2 ^ code.m) }
     requires s_nonzero { (0 < length s.now) × (length bits.old ≤ 256)
@@ -96,17 +93,13 @@ fn search_into(
     // the line says nothing about the runner-up
     let result = answer.result;
     match result {
-        Searched::Found {
-            penalty,
-            gap,
-            visits,
-        } => report(w, s, bits, penalty, gap, visits, out, at),
-        Searched::Refused(why) => refuse(w, s, why, out, at),
+        Ok(found) => report(w, s, bits, found, out, at),
+        Err(why) => refuse(w, s, why, out, at),
     }
 }
 
 fn search(w: u64, s: &[u8], code: Code, out: &mut [u8], at: usize) -> Step
-    requires { (header_of s.now ≡ Header.Record code) × (0 < length s.now)
+    requires { (header_of s.now ≡ Ok code) × (0 < length s.now)
         × (at + 512 ≤ length out.old) }
     ensures { Stepped w s.now (result_of s.now)
         out.old at result out.new }
@@ -125,7 +118,7 @@ pub fn one(w: u64, s: &[u8], out: &mut [u8], at: usize) -> Step
         out.old at result out.new }
 {
     match record::header_of(s) {
-        Header::Record(code) => search(w, s, code, out, at),
-        Header::Refused(why) => refuse(w, s, why, out, at),
+        Ok(code) => search(w, s, code, out, at),
+        Err(why) => refuse(w, s, why, out, at),
     }
 }

@@ -4,7 +4,7 @@ ghost use Rattle.std.specs.Prelude.{◌≡◌};
 ghost use Rattle.code.specs.Sound.{made};
 ghost use Rattle.pumpbox.specs.Lengths.{version, length_in, dimension_in, record_length};
 
-use code::{Code, Made};
+use code::Code;
 
 // Raised together with the header's.
 const VERSION: u32 = 17;
@@ -21,8 +21,8 @@ pub extern "C" fn cinorbis_length(m: u32) -> usize
     ensures { result ≡ length_in (made 0 m) }
 {
     match Code::new(0, m) {
-        Made::Good(code) => code.length(),
-        Made::Bad => 0,
+        Ok(code) => code.length(),
+        Err(_) => 0,
     }
 }
 
@@ -31,8 +31,8 @@ pub extern "C" fn cinorbis_dimension(r: u32, m: u32) -> usize
     ensures { result ≡ dimension_in (made r m) }
 {
     match Code::new(r, m) {
-        Made::Good(code) => code.dimension(),
-        Made::Bad => 0,
+        Ok(code) => code.dimension(),
+        Err(_) => 0,
     }
 }
 

@@ -1,8 +1,7 @@
 -- The outcomes of `quick` meet demand 1.
-use Rattle.std.specs.Prelude.{◌≡◌, refl, List, [], ◌∷◌, ℕ, ℤ, length}
+use Rattle.std.specs.Prelude.{◌≡◌, refl, List, [], ◌∷◌, ℕ, ℤ, length, Err}
 use Rattle.std.proofs.Common.{ap, sym, ◌∙◌, arith}
 use Rattle.code.specs.declared.Refusal.{Refusal}
-use Rattle.code.specs.declared.Admitted.TheVariants.{Refused}
 use Rattle.code.specs.Sound.{rm}
 use Rattle.code.specs.SoundInput.{SoundReadings}
 use Rattle.code.specs.Admitted.{admitted}
@@ -15,7 +14,7 @@ use Rattle.quick.specs.OutcomeLaws.{reading-refused, reading-done}
 use Rattle.quick.specs.Demands.{view, quick_checks, QuickDemand1}
 
 module _ (r m : ℕ) (l : List ℤ) (bits word : List ℕ) where
-  tests_refuse : (why : Refusal) → Refused why ≡ admitted r m l (length bits) (length word)
+  tests_refuse : (why : Refusal) → Err why ≡ admitted r m l (length bits) (length word)
       → view (quick_reading r m l bits word) ≡ refused_as why (bits ∷ word ∷ [])
   tests_refuse why e =
       let small = refused_small r m l (length bits) (length word) why e in

@@ -1,13 +1,11 @@
 -- What `quick` reports and leaves, for every input, in the rules' numbers (docs/RULES.md, §6).
-use Rattle.std.specs.Prelude.{List, ℕ, ℤ, length}
+use Rattle.std.specs.Prelude.{List, ℕ, ℤ, length, Result, Ok, Err}
 use Rattle.words.specs.Kinds.{kinds}
 use Rattle.decoding.specs.Quick.{quick_word, quick_bits, quick_penalty}
 use Rattle.code.specs.declared.Code.{Code}
 use Rattle.code.specs.declared.Refusal.{Refusal}
 use Rattle.code.specs.Sound.{carried}
 use Rattle.code.specs.Admitted.{admitted, after_test}
-use Rattle.quick.specs.declared.Read.{Read}
-use Rattle.quick.specs.declared.Read.TheVariants.{Done, Refused}
 
 pub record Outcome : Type 0 where
   -- 0 if the call is done, else the refusal's number
@@ -28,9 +26,9 @@ abbrev pub refused : Refusal → List ℕ → List ℕ → Outcome
 refused why bits word = let c = carried why in record { number = c.number; place = c.place; penalty = c.penalty; bits = bits; word = word }
 
 -- the answer in the rules' numbers
-abbrev pub outcome_of : Read → List ℕ → List ℕ → Outcome
-outcome_of (Done penalty) = done penalty
-outcome_of (Refused why) = refused why
+abbrev pub outcome_of : Result ℕ Refusal → List ℕ → List ℕ → Outcome
+outcome_of (Ok penalty) = done penalty
+outcome_of (Err why) = refused why
 
 -- the written steps over a row of kinds, and over a code's, if no test refuses
 abbrev pub reading_over : ℕ → List ℕ → List ℤ → Outcome

@@ -1,5 +1,5 @@
 -- The outcome at each place where `quick` returns, and what the work in between requires.
-use Rattle.std.specs.Prelude.{◌≡◌, List, ℕ, ◌-◌, ◌^◌, ◌≤◌, ◌<◌, ℤ, length}
+use Rattle.std.specs.Prelude.{◌≡◌, List, ℕ, ◌-◌, ◌^◌, ◌≤◌, ◌<◌, ℤ, length, Ok, Err}
 use Rattle.std.proofs.Common.{ap, sym, ◌∙◌, arith}
 use borrow.Rule.Slice.PartMut.{mid_of, put_mid}
 use Rattle.numbers.specs.Lent.{lent_again}
@@ -13,7 +13,6 @@ use Rattle.decoding.specs.Quick.{quick_word, quick_bits, quick_penalty}
 use Rattle.decoding.specs.QuickLaws.{length_quick, bits_quick}
 use Rattle.code.specs.declared.Code.{Code}
 use Rattle.code.specs.declared.Refusal.{Refusal}
-use Rattle.code.specs.declared.Admitted.TheVariants.{Allowed, Refused}
 use Rattle.code.specs.Sound.{largest_m}
 use Rattle.code.specs.SoundLaws.{length_most}
 use Rattle.code.specs.Admitted.{admitted}
@@ -25,11 +24,11 @@ use Rattle.quick.specs.Outcome.{Outcome, done, refused, reading_over, reading_by
 
 -- ---- the tests
 module _ (r m : ℕ) (l : List ℤ) (bits word : List ℕ) where
-  pub reading-refused : (why : Refusal) → Refused why ≡ admitted r m l (length bits) (length word) → refused why bits word ≡ quick_reading r m l bits word
+  pub reading-refused : (why : Refusal) → Err why ≡ admitted r m l (length bits) (length word) → refused why bits word ≡ quick_reading r m l bits word
   unfolding quick_reading
   reading-refused why e = rw (← e)
 
-  pub reading-done : (c : Code) (o : Outcome) → Allowed c ≡ admitted r m l (length bits) (length word) → o ≡ reading_by c l → o ≡ quick_reading r m l bits word
+  pub reading-done : (c : Code) (o : Outcome) → Ok c ≡ admitted r m l (length bits) (length word) → o ≡ reading_by c l → o ≡ quick_reading r m l bits word
   unfolding quick_reading
   reading-done c o e f = rw (← e) f
 

@@ -1,18 +1,16 @@
 -- The reader accepts the bytes that begin with a record by the layout, and hands back that record's packed part. What it accepts begins with the record
 -- of the readings in it, if no field is the bottom rail.
-use Rattle.std.specs.Prelude.{◌≡◌, refl, List, [], ◌∷◌, ◌++◌, ℕ, zero, suc, ◌+◌, ◌*◌, ◌/◌, ◌%◌, ◌^◌, ◌≤◌, ℤ, length, get_or, take, drop}
+use Rattle.std.specs.Prelude.{◌≡◌, refl, List, [], ◌∷◌, ◌++◌, ℕ, zero, suc, ◌+◌, ◌*◌, ◌/◌, ◌%◌, ◌^◌, ◌≤◌, ℤ, length, get_or, take, drop, Result, Ok}
 use Rattle.std.proofs.Common.{ap, ◌∙◌, arith, length-append, take-append-drop, take_at}
 use Rattle.decoding.specs.Readings.{Within}
 use Rattle.code.specs.Sound.{Sound, largest_reading, largest_record_reading}
 use Rattle.code.specs.SoundLaws.{made_of, made_good}
 use Rattle.code.specs.declared.Code.{Code}
-use Rattle.code.specs.declared.Made.TheVariants.{Good}
-use Rattle.record.specs.declared.Header.{Header}
-use Rattle.record.specs.declared.Header.TheVariants.{Record}
 use Rattle.packing.specs.Layout.{bytes, nibbles, spread, NoRail, record_of, packed, unpacked, part_length, pad_of}
 use Rattle.packing.specs.LayoutLaws.{Below, unpacked-packed, packed-unpacked, unpacked_within, length-packed}
 use Rattle.record.specs.Reader.{code_of, part_of, readings_of, header_of, part_by}
 use Rattle.record.specs.ReaderLaws.{Framed, framed_record, frame_by, frame_whole, length-readings_of, length_part}
+use Rattle.code.specs.declared.Refusal.{Refusal}
 
 -- the bytes s are a record of the code c with the readings l, and then the bytes after
 pub record Begins (s : List ℕ) (c : Code) (l : List ℤ) (after : List ℕ) : Type 0 where
@@ -35,7 +33,7 @@ module _ (s : List ℕ) (c : Code) (l : List ℤ) (after : List ℕ) (b : Begins
   unfolding record_of packed
   apart = b.whole
 
-  pub begins_said : code_of (get_or s 0 0) ≡ Good c
+  pub begins_said : code_of (get_or s 0 0) ≡ Ok c
   begins_said =
       let r : (16 * c.m + c.r) % 16 ≡ c.r = omega (arith, b.sound.r_small, b.sound.m_small) in
       let m : (16 * c.m + c.r) / 16 ≡ c.m = omega (arith, b.sound.r_small, b.sound.m_small) in
@@ -51,14 +49,14 @@ module _ (s : List ℕ) (c : Code) (l : List ℤ) (after : List ℕ) (b : Begins
   long = rw apart (omega (arith, length-append (packed l) after, length-packed c.m l b.count))
 
   -- bytes that begin with a record are accepted
-  pub begins_accepted : header_of s ≡ Record c
+  pub begins_accepted : header_of s ≡ Ok c
   begins_accepted =
-      frame_by s (Good c) (λ z. omega (arith, long, z)) begins_said
+      frame_by s (Ok c) (λ z. omega (arith, long, z)) begins_said
       ∙ frame_whole c s (omega (arith, long)) (ap (pad_of c.m) begins_part ∙ packed_clear c.m l b.count)
 
   -- and their packed part is handed back
   pub begins_handed_back : part_by (header_of s) s ≡ packed l
-  begins_handed_back = ap (λ (h : Header). part_by h s) begins_accepted ∙ begins_part
+  begins_handed_back = ap (λ (h : Result Code Refusal). part_by h s) begins_accepted ∙ begins_part
 
 take_below : (b n : ℕ) (l : List ℕ) → Below b l → Below b (take n l)
 take_below b zero l h i = omega (arith, h 0)
@@ -66,7 +64,7 @@ take_below b (suc n) [] h i = h i
 take_below b (suc n) (x ∷ l) h zero = h 0
 take_below b (suc n) (x ∷ l) h (suc i) = take_below b n l (λ j. h (suc j)) i
 
-first_byte : (first : ℕ) (c : Code) → code_of first ≡ Good c → first ≡ 16 * c.m + c.r
+first_byte : (first : ℕ) (c : Code) → code_of first ≡ Ok c → first ≡ 16 * c.m + c.r
 first_byte first c e =
     let same = (made_of (first % 16) (first / 16) c e).same in
     rw same (omega arith)
@@ -90,7 +88,7 @@ written (first ∷ t) c h f n =
     rw (again, take-append-drop (part_length c.m) t) (ap (λ (b : ℕ). b ∷ t) (first_byte first c f.said))
 
 -- bytes that are accepted begin with a record: that of the readings in their packed part, if none of its fields is the bottom rail
-pub accepted_begins : (s : List ℕ) (c : Code) → Below 256 s → header_of s ≡ Record c → NoRail (nibbles (part_of c s))
+pub accepted_begins : (s : List ℕ) (c : Code) → Below 256 s → header_of s ≡ Ok c → NoRail (nibbles (part_of c s))
     → Begins s c (readings_of c s) (drop (suc (part_length c.m)) s)
 accepted_begins s c h e n =
     let f = framed_record s c e in

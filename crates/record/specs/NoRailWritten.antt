@@ -1,14 +1,15 @@
 -- The writer never writes -2,048: no field of a record that it has written is the bottom rail.
-use Rattle.std.specs.Prelude.{◌≡◌, List, [], ◌∷◌, ℕ, suc, ◌+◌, ◌*◌, ◌/◌, ◌%◌, ◌≤◌, ◌<◌, ℤ, pos, negsuc, nat_abs, drop}
+use Rattle.std.specs.Prelude.{◌≡◌, List, [], ◌∷◌, ℕ, suc, ◌+◌, ◌*◌, ◌/◌, ◌%◌, ◌≤◌, ◌<◌, ℤ, pos, negsuc, nat_abs, drop, Result}
 use Rattle.std.proofs.Common.{ap, sym, ◌∙◌, arith}
 use Rattle.decoding.specs.Readings.{Within}
 use Rattle.code.specs.Sound.{largest_record_reading, rm}
-use Rattle.record.specs.declared.Header.{Header}
 use Rattle.packing.specs.Layout.{bytes, nibbles, field, bottom_rail, NoRail, spread, packed}
 use Rattle.packing.specs.LayoutLaws.{field_below}
 use Rattle.record.specs.Reader.{part_of, header_of, part_by}
 use Rattle.record.specs.Writing.{writing}
 use Rattle.record.specs.WrittenRead.{Asked, writes_asked, written_read}
+use Rattle.code.specs.declared.Code.{Code}
+use Rattle.code.specs.declared.Refusal.{Refusal}
 
 not_rail : (x : ℤ) → nat_abs x ≤ largest_record_reading → field x ≡ bottom_rail → ⊥
 not_rail (pos n) h e = omega arith
@@ -55,5 +56,5 @@ unfolding packed
 no_rail_written r m l d place z =
     let s = drop place (writing r m l d place).buffer in
     let back = written_read r m l d place z in
-    let part : part_of (rm r m) s ≡ packed l = sym (ap (λ (h : Header). part_by h s) back.accepted) ∙ back.part in
+    let part : part_of (rm r m) s ≡ packed l = sym (ap (λ (h : Result Code Refusal). part_by h s) back.accepted) ∙ back.part in
     rw part (no_rail_packed l (writes_asked r m l d place z).within)

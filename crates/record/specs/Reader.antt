@@ -1,22 +1,19 @@
 -- What the reader of packed records answers, as functions of the bytes given (docs/RULES.md, §7).
-use Rattle.std.specs.Prelude.{List, [], ◌∷◌, cond, ℕ, suc, ◌-◌, ◌/◌, ◌%◌, ℤ, length, take, drop, ltb, eqb}
+use Rattle.std.specs.Prelude.{List, [], ◌∷◌, cond, ℕ, suc, ◌-◌, ◌/◌, ◌%◌, ℤ, length, take, drop, ltb, eqb, Result, Ok, Err}
 use Rattle.code.specs.Sound.{made, Carried, carrying, carried}
 use Rattle.code.specs.declared.Code.{Code}
-use Rattle.code.specs.declared.Made.{Made}
-use Rattle.code.specs.declared.Made.TheVariants.{Good, Bad}
 use Rattle.code.specs.declared.Refusal.TheVariants.{Parameters, Torn, Pad}
-use Rattle.record.specs.declared.Header.{Header}
-use Rattle.record.specs.declared.Header.TheVariants.{Record, Refused}
 use Rattle.packing.specs.Layout.{unpacked, part_length, pad_of}
+use Rattle.code.specs.declared.Refusal.{Refusal}
 
 -- what a first byte says: 4 bits m, 4 bits r
-abbrev pub code_of : ℕ → Made
+abbrev pub code_of : ℕ → Result Code Refusal
 code_of first = made (first % 16) (first / 16)
 
 -- how many bytes a record has by its first byte; 0 if that is refused
-abbrev pub length_by : Made → ℕ
-length_by Bad = 0
-length_by (Good c) = suc (part_length c.m)
+abbrev pub length_by : Result Code Refusal → ℕ
+length_by (Err _) = 0
+length_by (Ok c) = suc (part_length c.m)
 
 -- the packed part of bytes s that begin with a record of the code c
 abbrev pub part_of : Code → List ℕ → List ℕ
@@ -27,15 +24,15 @@ abbrev pub readings_of : Code → List ℕ → List ℤ
 readings_of c s = unpacked (part_of c s)
 
 -- 1, then 8, then 9
-abbrev pub headed_by : Made → List ℕ → Header
-headed_by Bad s = Refused Parameters
-headed_by (Good c) s =
-    cond (ltb (length s - 1) (part_length c.m)) (Refused Torn)
-    (cond (eqb (pad_of c.m (part_of c s)) 0) (Record c) (Refused Pad))
+abbrev pub headed_by : Result Code Refusal → List ℕ → Result Code Refusal
+headed_by (Err _) s = Err Parameters
+headed_by (Ok c) s =
+    cond (ltb (length s - 1) (part_length c.m)) (Err Torn)
+    (cond (eqb (pad_of c.m (part_of c s)) 0) (Ok c) (Err Pad))
 
 -- the code of the record that the bytes begin with, or the refusal; with no byte at all it is 8
-unfoldable pub header_of : List ℕ → Header
-header_of [] = Refused Torn
+unfoldable pub header_of : List ℕ → Result Code Refusal
+header_of [] = Err Torn
 header_of (first ∷ s) = headed_by (code_of first) (first ∷ s)
 
 -- the answer in the rules' numbers: 0 for a record, otherwise the refusal's number; the values that it carries, and r and m of a record
@@ -44,11 +41,11 @@ pub record HeaderOutcome : Type 0 where
   pub r : ℕ
   pub m : ℕ
 
-abbrev pub outcome_of : Header → HeaderOutcome
-outcome_of (Record c) = record { carry = carrying 0 0 0 0; r = c.r; m = c.m }
-outcome_of (Refused why) = record { carry = carried why; r = 0; m = 0 }
+abbrev pub outcome_of : Result Code Refusal → HeaderOutcome
+outcome_of (Ok c) = record { carry = carrying 0 0 0 0; r = c.r; m = c.m }
+outcome_of (Err why) = record { carry = carried why; r = 0; m = 0 }
 
 -- the part handed back: empty on refusal
-abbrev pub part_by : Header → List ℕ → List ℕ
-part_by (Refused why) s = []
-part_by (Record c) s = part_of c s
+abbrev pub part_by : Result Code Refusal → List ℕ → List ℕ
+part_by (Err why) s = []
+part_by (Ok c) s = part_of c s

@@ -1,6 +1,6 @@
 -- How large the combining steps' sums, the walk's values and penalties can be: one statement for any largest reading, used for both numbers, 32,767 and 2,047.
 -- For what comes out of a record the second holds: no running sum is above 256 × 2,047 = 524,032, and one reaches it.
-use Rattle.std.specs.Prelude.{◌≡◌, List, ℕ, ◌+◌, ◌*◌, ◌≤◌, ℤ, pos, nat_abs, length, get_or, replicate}
+use Rattle.std.specs.Prelude.{◌≡◌, List, ℕ, ◌+◌, ◌*◌, ◌≤◌, ℤ, pos, nat_abs, length, get_or, replicate, Ok}
 use Rattle.std.proofs.Common.{arith, mul-le-mul_right}
 use Rattle.numbers.specs.Sums.{sum}
 use Rattle.decoding.specs.Readings.{penalty, sizes, Within}
@@ -12,7 +12,6 @@ use Rattle.decoding.specs.BoundLaws.{Step, sums_after, running_sum_most, value_m
 use Rattle.code.specs.declared.Code.{Code}
 use Rattle.code.specs.Sound.{largest_reading, largest_record_reading}
 use Rattle.code.specs.SoundLaws.{length_most}
-use Rattle.record.specs.declared.Header.TheVariants.{Record}
 use Rattle.record.specs.Reader.{readings_of, header_of}
 use Rattle.record.specs.ReaderLaws.{framed_record, length-readings_of}
 use Rattle.record.specs.Accepted.{readings_within}
@@ -70,7 +69,7 @@ pub record_readings_most : SizesMost largest_record_reading 524032
 record_readings_most = sizes_most largest_record_reading
 
 -- for the bytes p, which begin with a record of the code c
-pub running_sum_record : (p : List ℕ) (c : Code) → header_of p ≡ Record c
+pub running_sum_record : (p : List ℕ) (c : Code) → header_of p ≡ Ok c
     → (s : List Step) (i : ℕ) → nat_abs (get_or (sums_after (readings_of c p) s) i (pos 0)) ≤ 524032
 running_sum_record p c is s i =
     let f = framed_record p c is in

@@ -1,5 +1,5 @@
 -- The outcomes of the writer meet demand 1, and so does any outcome that begins with the writer's tests.
-use Rattle.std.specs.Prelude.{◌≡◌, refl, ℕ, suc, ◌+◌, ◌-◌, ◌^◌, ◌<◌, ℤ, pos, nat_abs, length}
+use Rattle.std.specs.Prelude.{◌≡◌, refl, ℕ, suc, ◌+◌, ◌-◌, ◌^◌, ◌<◌, ℤ, pos, nat_abs, length, Result, Ok, Err}
 use Rattle.std.proofs.Math.Path.{ap}
 use Rattle.std.proofs.Common.{sym, inl, inr, ⊎_elim, arith}
 use mathlib.Core.List.{List, [], ◌∷◌}
@@ -11,19 +11,18 @@ use Rattle.code.specs.Demand1.{View, refused_as, Checks, passed, check}
 use Rattle.code.specs.Demand1Laws.{Decides, demand_1, decides_entry}
 use Rattle.code.specs.declared.Refusal.{Refusal}
 use Rattle.code.specs.declared.Refusal.TheVariants.{OutputLength}
-use Rattle.code.specs.declared.Admitted.{Admitted}
-use Rattle.code.specs.declared.Admitted.TheVariants as admission
 use Rattle.packing.specs.Layout.{record_of, part_length}
 use Rattle.packing.specs.LayoutLaws.{length_record}
 use Rattle.record.specs.Writing.{writable, written_by, writing}
 use Rattle.record.specs.WritingLaws.{not_made, not_long, not_good, no_room, may_write}
 use Rattle.record.specs.Demands.{written_view, write_checks, WriteDemand1}
+use Rattle.code.specs.declared.Code.{Code}
 
 module _ (r m : ℕ) (l : List ℤ) (d : List ℕ) (place : ℕ) where
   -- for any outcome that is refused as the tests say; what comes after them matters only if they all pass
   pub decides_writing : (before : List (List ℕ)) (o : View) (rest : Checks)
-      → ((why : Refusal) → admission.Refused why ≡ writable r m l (length d) place → o ≡ refused_as why before)
-      → (admission.Allowed (rm r m) ≡ writable r m l (length d) place → Decides before o rest)
+      → ((why : Refusal) → Err why ≡ writable r m l (length d) place → o ≡ refused_as why before)
+      → (Ok (rm r m) ≡ writable r m l (length d) place → Decides before o rest)
       → Decides before o (write_checks r m l d place rest)
   decides_writing before o rest refuses then =
       let n = length d in
@@ -58,4 +57,4 @@ module _ (r m : ℕ) (l : List ℤ) (d : List ℕ) (place : ℕ) where
       let before = d ∷ [] in
       let o = written_view (writing r m l d place) in
       demand_1 before o (write_checks r m l d place passed)
-      (decides_writing before o passed (λ why e. ap (λ (a : Admitted). written_view (written_by a l d place)) (sym e)) (λ e. rw (← e) (refl, refl)))
+      (decides_writing before o passed (λ why e. ap (λ (a : Result Code Refusal). written_view (written_by a l d place)) (sym e)) (λ e. rw (← e) (refl, refl)))

@@ -1,5 +1,5 @@
 -- Laws of writing: when each answer is given, and that no second answer and no second buffer meet the promise.
-use Rattle.std.specs.Prelude.{◌≡◌, refl, List, ℕ, suc, ◌+◌, ◌-◌, ◌^◌, ◌≤◌, ◌<◌, ℤ, pos, nat_abs, length, drop}
+use Rattle.std.specs.Prelude.{◌≡◌, refl, List, ℕ, suc, ◌+◌, ◌-◌, ◌^◌, ◌≤◌, ◌<◌, ℤ, pos, nat_abs, length, drop, Result, Ok, Err}
 use Rattle.std.proofs.Common.{ap, sym, ◌∙◌, ⊎_elim, arith, drop-drop}
 use Rattle.std.proofs.Math.Decide.{ℕ_discrete}
 use borrow.Rule.Slice.PartMut.{put_mid}
@@ -13,24 +13,19 @@ use Rattle.code.specs.Entries.{first_bad_reading}
 use Rattle.code.specs.EntriesLaws.{first-none, good_readings}
 use Rattle.code.specs.RefusalLaws.{refusal_only, number_above}
 use Rattle.code.specs.declared.Code.{Code}
-use Rattle.code.specs.declared.Made.{Made}
-use Rattle.code.specs.declared.Made.TheVariants.{Good, Bad}
 use Rattle.code.specs.declared.Refusal.{Refusal}
 use Rattle.code.specs.declared.Refusal.TheVariants.{Parameters, InputLength, OutputLength, Entry}
-use Rattle.code.specs.declared.Admitted.TheVariants as admission
-use Rattle.record.specs.declared.Written.{Written}
-use Rattle.record.specs.declared.Written.TheVariants.{Next, Refused}
 use Rattle.packing.specs.Layout.{record_of, part_length}
 use Rattle.record.specs.Writing.{WrittenOutcome, outcome_of, writable, written_by}
 
 -- the answers of the tests
 module _ (r m : ℕ) (l : List ℤ) (bytes place : ℕ) where
-  pub not_made : made r m ≡ Bad → admission.Refused Parameters ≡ writable r m l bytes place
+  pub not_made : made r m ≡ Err Parameters → Err Parameters ≡ writable r m l bytes place
   unfolding writable
   not_made e = rw e
 
-  module _ (c : Code) (good : made r m ≡ Good c) where
-    pub not_long : (length l ≡ 2 ^ c.m → ⊥) → admission.Refused InputLength ≡ writable r m l bytes place
+  module _ (c : Code) (good : made r m ≡ Ok c) where
+    pub not_long : (length l ≡ 2 ^ c.m → ⊥) → Err InputLength ≡ writable r m l bytes place
     unfolding writable
     not_long f = rw (good, ne_eqb (length l) (2 ^ c.m) f)
 
@@ -38,17 +33,17 @@ module _ (r m : ℕ) (l : List ℤ) (bytes place : ℕ) where
       abbrev bad : ℕ
       bad = first_bad_reading largest_record_reading l
 
-      pub not_good : bad < length l → admission.Refused (Entry bad) ≡ writable r m l bytes place
+      pub not_good : bad < length l → Err (Entry bad) ≡ writable r m l bytes place
       unfolding writable
       not_good h = rw (good, eq-eqb (length l) (2 ^ c.m) long, lt-ltb bad (length l) h)
 
       module _ (fine : length l ≤ bad) where
-        pub no_room : bytes - place < suc (part_length c.m) → admission.Refused OutputLength ≡ writable r m l bytes place
+        pub no_room : bytes - place < suc (part_length c.m) → Err OutputLength ≡ writable r m l bytes place
         unfolding writable
         no_room h =
             rw (good, eq-eqb (length l) (2 ^ c.m) long, le-ltb bad (length l) fine, lt-ltb (bytes - place) (suc (part_length c.m)) h)
 
-        pub may_write : suc (part_length c.m) ≤ bytes - place → admission.Allowed c ≡ writable r m l bytes place
+        pub may_write : suc (part_length c.m) ≤ bytes - place → Ok c ≡ writable r m l bytes place
         unfolding writable
         may_write h =
             rw (good, eq-eqb (length l) (2 ^ c.m) long, le-ltb bad (length l) fine, le-ltb (bytes - place) (suc (part_length c.m)) h)
@@ -62,11 +57,11 @@ pub record Writable (r m : ℕ) (l : List ℤ) (bytes place : ℕ) (c : Code) : 
   pub room : suc (part_length c.m) ≤ bytes - place
 
 data Decided (r m : ℕ) (l : List ℤ) (bytes place : ℕ) : Type 0 where
-  allows : (c : Code) → admission.Allowed c ≡ writable r m l bytes place → Writable r m l bytes place c → Decided r m l bytes place
-  refuses : (why : Refusal) → admission.Refused why ≡ writable r m l bytes place → Decided r m l bytes place
+  allows : (c : Code) → Ok c ≡ writable r m l bytes place → Writable r m l bytes place c → Decided r m l bytes place
+  refuses : (why : Refusal) → Err why ≡ writable r m l bytes place → Decided r m l bytes place
 
 module _ (r m : ℕ) (l : List ℤ) (bytes place : ℕ) where
-  decided_good : (c : Code) → made r m ≡ Good c → Decided r m l bytes place
+  decided_good : (c : Code) → made r m ≡ Ok c → Decided r m l bytes place
   decided_good c good =
       let bad = first_bad_reading largest_record_reading l in
       let k = suc (part_length c.m) in
@@ -86,11 +81,11 @@ module _ (r m : ℕ) (l : List ℤ) (bytes place : ℕ) where
             (lt_or_le bad (length l))
       ]
 
-  decided_by : (x : Made) → made r m ≡ x → Decided r m l bytes place
-  decided_by (Good c) e = decided_good c e
-  decided_by Bad e = refuses Parameters (not_made r m l bytes place e)
+  decided_by : (x : Result Code Refusal) → made r m ≡ x → Decided r m l bytes place
+  decided_by (Ok c) e = decided_good c e
+  decided_by (Err _) e = refuses Parameters (not_made r m l bytes place e)
 
-  pub allowed_writable : (c : Code) → admission.Allowed c ≡ writable r m l bytes place → Writable r m l bytes place c
+  pub allowed_writable : (c : Code) → Ok c ≡ writable r m l bytes place → Writable r m l bytes place c
   allowed_writable c e =
       elim (decided_by (made r m) refl) [
         | allows d f w ↦ let same : c ≡ d = cc in rw same w
@@ -98,33 +93,33 @@ module _ (r m : ℕ) (l : List ℤ) (bytes place : ℕ) where
       ]
 
   -- so exactly then the tests refuse nothing
-  pub writable_allowed : (c : Code) → Writable r m l bytes place c → admission.Allowed c ≡ writable r m l bytes place
+  pub writable_allowed : (c : Code) → Writable r m l bytes place c → Ok c ≡ writable r m l bytes place
   writable_allowed c w =
-      let good : made r m ≡ Good c = rw w.same (made_good r m (rw w.same at w.sound.m_small) (rw w.same at w.sound.r_small)) in
+      let good : made r m ≡ Ok c = rw w.same (made_good r m (rw w.same at w.sound.m_small) (rw w.same at w.sound.r_small)) in
       let none = first-none (pos 0) nat_abs largest_record_reading l (length l) (λ j h. w.within j) refl in
       may_write r m l bytes place c good w.long (omega (arith, none)) w.room
 
 -- the buffer, if a part of it was lent and came back as the record
 pub wrote : (c : Code) (l : List ℤ) (d q : List ℕ) (place k : ℕ) → q ≡ record_of c.r c.m l → length q ≡ k
-    → outcome_of (Next (place + k)) (put_mid place ((place + k) - place) d q) ≡ written_by (admission.Allowed c) l d place
+    → outcome_of (Ok (place + k)) (put_mid place ((place + k) - place) d q) ≡ written_by (Ok c) l d place
 wrote c l d q place k e h =
     let room : (place + k) - place ≡ length q = omega arith in
     let end : place + k ≡ place + length q = omega arith in
     let behind : drop (length q) (drop place d) ≡ drop (place + length q) d = drop-drop (length q) place d in
-    rw (room, behind, end) (ap (λ (x : List ℕ). outcome_of (Next (place + length x)) (laid_at place x d)) e)
+    rw (room, behind, end) (ap (λ (x : List ℕ). outcome_of (Ok (place + length x)) (laid_at place x d)) e)
 
 -- ---- no second answer and no second buffer
-answer_only : (a b : Written) (x y : List ℕ) → outcome_of a x ≡ outcome_of b y → a ≡ b
-answer_only (Next n) (Next n') x y e = ap (λ (o : WrittenOutcome). Next o.next) e
-answer_only (Next n) (Refused why) x y e = absurd (omega (arith, number_above why, ap (λ (o : WrittenOutcome). o.carry.number) e))
-answer_only (Refused why) (Next n) x y e = absurd (omega (arith, number_above why, ap (λ (o : WrittenOutcome). o.carry.number) e))
-answer_only (Refused why) (Refused why') x y e = ap Refused (refusal_only why why' (ap (λ (o : WrittenOutcome). o.carry) e))
+answer_only : (a b : Result ℕ Refusal) (x y : List ℕ) → outcome_of a x ≡ outcome_of b y → a ≡ b
+answer_only (Ok n) (Ok n') x y e = ap (λ (o : WrittenOutcome). Ok o.next) e
+answer_only (Ok n) (Err why) x y e = absurd (omega (arith, number_above why, ap (λ (o : WrittenOutcome). o.carry.number) e))
+answer_only (Err why) (Ok n) x y e = absurd (omega (arith, number_above why, ap (λ (o : WrittenOutcome). o.carry.number) e))
+answer_only (Err why) (Err why') x y e = ap Err (refusal_only why why' (ap (λ (o : WrittenOutcome). o.carry) e))
 
-outcome_buffer : (a : Written) (x : List ℕ) → (outcome_of a x).buffer ≡ x
-outcome_buffer (Next n) x = refl
-outcome_buffer (Refused why) x = refl
+outcome_buffer : (a : Result ℕ Refusal) (x : List ℕ) → (outcome_of a x).buffer ≡ x
+outcome_buffer (Ok n) x = refl
+outcome_buffer (Err why) x = refl
 
-pub write_only : (o : WrittenOutcome) (a b : Written) (x y : List ℕ) → outcome_of a x ≡ o → outcome_of b y ≡ o → (a ≡ b) × (x ≡ y)
+pub write_only : (o : WrittenOutcome) (a b : Result ℕ Refusal) (x y : List ℕ) → outcome_of a x ≡ o → outcome_of b y ≡ o → (a ≡ b) × (x ≡ y)
 write_only o a b x y e f =
     let same : outcome_of a x ≡ outcome_of b y = e ∙ sym f in
     (answer_only a b x y same, sym (outcome_buffer a x) ∙ ap (λ (o : WrittenOutcome). o.buffer) same ∙ outcome_buffer b y)

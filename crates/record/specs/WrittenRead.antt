@@ -1,6 +1,6 @@
 -- Reading what was written gives the same record. Writing what was read gives a record that is read the same, and the same bytes if no field is the
 -- bottom rail.
-use Rattle.std.specs.Prelude.{◌≡◌, List, ◌++◌, ℕ, ◌+◌, ◌^◌, ◌≤◌, ℤ, length, get_or, take, drop}
+use Rattle.std.specs.Prelude.{◌≡◌, List, ◌++◌, ℕ, ◌+◌, ◌^◌, ◌≤◌, ℤ, length, get_or, take, drop, Result, Ok, Err}
 use Rattle.std.proofs.Math.Path.{refl, ap}
 use Rattle.std.proofs.Common.{sym, ◌∙◌, arith, length-append, length-drop, take-append-drop, take_at, drop_at, drop-drop, length-take-le, get_or-drop}
 use Rattle.decoding.specs.Readings.{Within}
@@ -8,11 +8,6 @@ use Rattle.numbers.specs.Laid.{laid_at}
 use Rattle.code.specs.Sound.{Sound, largest_record_reading, rm}
 use Rattle.code.specs.RefusalLaws.{number_above}
 use Rattle.code.specs.declared.Code.{Code}
-use Rattle.code.specs.declared.Made.TheVariants.{Good}
-use Rattle.code.specs.declared.Admitted.{Admitted}
-use Rattle.code.specs.declared.Admitted.TheVariants as admission
-use Rattle.record.specs.declared.Header.TheVariants.{Record}
-use Rattle.record.specs.declared.Written.TheVariants.{Next}
 use Rattle.packing.specs.Layout.{nibbles, NoRail, record_of, packed}
 use Rattle.packing.specs.LayoutLaws.{Below, length_record}
 use Rattle.record.specs.Reader.{code_of, length_by, part_of, readings_of, header_of, part_by}
@@ -20,6 +15,7 @@ use Rattle.record.specs.Accepted.{Begins, begins_accepted, begins_readings, begi
 use Rattle.record.specs.ReaderLaws.{framed_record, length-readings_of}
 use Rattle.record.specs.Writing.{WrittenOutcome, outcome_of, writable, written_by, writing}
 use Rattle.record.specs.WritingLaws.{Writable, allowed_writable, writable_allowed}
+use Rattle.code.specs.declared.Refusal.{Refusal}
 
 -- ---- bytes written over others
 module _ (place : ℕ) (x d : List ℕ) (h : place + length x ≤ length d) where
@@ -55,7 +51,7 @@ module _ (r m : ℕ) (l : List ℤ) (d : List ℕ) (place : ℕ) where
 
   -- what it reports and leaves
   abbrev done : WrittenOutcome
-  done = outcome_of (Next (place + length new)) (laid_at place new d)
+  done = outcome_of (Ok (place + length new)) (laid_at place new d)
 
   -- every code, readings within the largest of a record, and room
   pub record Asked : Type 0 where
@@ -67,7 +63,7 @@ module _ (r m : ℕ) (l : List ℤ) (d : List ℕ) (place : ℕ) where
   pub asked_writes : Asked → writing r m l d place ≡ done
   unfolding writing
   asked_writes a =
-      ap (λ (x : Admitted). written_by x l d place)
+      ap (λ (x : Result Code Refusal). written_by x l d place)
       (sym (writable_allowed r m l (length d) place (rm r m)
       (record {
         same = refl;
@@ -77,9 +73,9 @@ module _ (r m : ℕ) (l : List ℤ) (d : List ℕ) (place : ℕ) where
         room = omega (arith, length_record r m l a.long, a.room);
       })))
 
-  asked_by : (x : Admitted) → x ≡ writable r m l (length d) place → (written_by x l d place).carry.number ≡ 0 → Asked
-  asked_by (admission.Refused why) e z = absurd (omega (arith, number_above why))
-  asked_by (admission.Allowed c) e z =
+  asked_by : (x : Result Code Refusal) → x ≡ writable r m l (length d) place → (written_by x l d place).carry.number ≡ 0 → Asked
+  asked_by (Err why) e z = absurd (omega (arith, number_above why))
+  asked_by (Ok c) e z =
       let w = allowed_writable r m l (length d) place c e in
       let same = w.same in
       let f : Writable r m l (length d) place (rm r m) = rw same at w in
@@ -92,7 +88,7 @@ module _ (r m : ℕ) (l : List ℤ) (d : List ℕ) (place : ℕ) where
 -- ---- reading back what was written
 pub record ReadBack (r m : ℕ) (l : List ℤ) (d : List ℕ) (place : ℕ) (o : WrittenOutcome) : Type 0 where
   -- the reader accepts it at its place, with the same r, m and readings, and hands back its packed part
-  pub accepted : header_of (drop place o.buffer) ≡ Record (rm r m)
+  pub accepted : header_of (drop place o.buffer) ≡ Ok (rm r m)
   pub readings : readings_of (rm r m) (drop place o.buffer) ≡ l
   pub part : part_by (header_of (drop place o.buffer)) (drop place o.buffer) ≡ packed l
   -- the next record starts where its first byte says
@@ -126,9 +122,9 @@ module _ (r m : ℕ) (l : List ℤ) (d : List ℕ) (place : ℕ) where
 
 -- ---- writing again what was read
 -- it gives a record that is read the same
-module _ (s : List ℕ) (c : Code) (e : header_of s ≡ Record c) where
+module _ (s : List ℕ) (c : Code) (e : header_of s ≡ Ok c) where
   abbrev k : ℕ
-  k = length_by (Good c)
+  k = length_by (Ok c)
 
   abbrev l : List ℤ
   l = readings_of c s
@@ -157,19 +153,19 @@ module _ (s : List ℕ) (c : Code) (e : header_of s ≡ Record c) where
 
     -- so the writer puts those bytes at any place with room
     pub written-again : (d : List ℕ) (place : ℕ) → place + k ≤ length d
-        → writing c.r c.m l d place ≡ outcome_of (Next (place + k)) (laid_at place (take k s) d)
+        → writing c.r c.m l d place ≡ outcome_of (Ok (place + k)) (laid_at place (take k s) d)
     written-again d place h =
         let same : length (take k s) ≡ k = ap length (sym same_bytes) ∙ length_record c.r c.m l b.count in
         asked_writes c.r c.m l d place (asks d place h)
-        ∙ ap (λ (x : List ℕ). outcome_of (Next (place + length x)) (laid_at place x d)) same_bytes
-        ∙ ap (λ (n : ℕ). outcome_of (Next (place + n)) (laid_at place (take k s) d)) same
+        ∙ ap (λ (x : List ℕ). outcome_of (Ok (place + length x)) (laid_at place x d)) same_bytes
+        ∙ ap (λ (n : ℕ). outcome_of (Ok (place + n)) (laid_at place (take k s) d)) same
 
 -- and at its own place it changes nothing
-pub written_in_place : (d : List ℕ) (place : ℕ) (c : Code) → Below 256 d → header_of (drop place d) ≡ Record c → NoRail (nibbles (part_of c (drop place d)))
-    → writing c.r c.m (readings_of c (drop place d)) d place ≡ outcome_of (Next (place + length_by (Good c))) d
+pub written_in_place : (d : List ℕ) (place : ℕ) (c : Code) → Below 256 d → header_of (drop place d) ≡ Ok c → NoRail (nibbles (part_of c (drop place d)))
+    → writing c.r c.m (readings_of c (drop place d)) d place ≡ outcome_of (Ok (place + length_by (Ok c))) d
 written_in_place d place c bytes e none =
     let s = drop place d in
-    let k = length_by (Good c) in
+    let k = length_by (Ok c) in
     let below : Below 256 s = λ i. rw (get_or-drop place d i 0) (bytes (place + i)) in
     let room : place + k ≤ length d = omega (arith, accepted_long s c e, length-drop place d) in
-    written-again s c e below none d place room ∙ ap (outcome_of (Next (place + k))) (laid_same place k d room)
+    written-again s c e below none d place room ∙ ap (outcome_of (Ok (place + k))) (laid_same place k d room)

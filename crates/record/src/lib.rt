@@ -13,24 +13,10 @@ ghost use Rattle.search.specs.RunnerUp.{runner_up_outcome_of};
 ghost use Rattle.record.specs.Searching.{searching_with_runner_up_by};
 ghost use Rattle.record.specs.Searching.{searching_record_with_runner_up};
 
-use code::{Admitted, Code, Made, Refusal};
+use code::{Code, Refusal};
 use search::WithRunnerUp;
 
-// What bytes begin with: a record of a code, or why not.
-#[derive(Clone, Copy)]
-pub enum Header {
-    Record(Code),
-    Refused(Refusal),
-}
-
-// What writing a record answers: the place after it, or why not.
-#[derive(Clone, Copy)]
-pub enum Written {
-    Next(usize),
-    Refused(Refusal),
-}
-
-fn code_of(first: u8) -> Made
+fn code_of(first: u8) -> Result<Code, Refusal>
     ensures { result ≡ code_of first }
 {
     let first = first as u32;
@@ -42,42 +28,40 @@ pub fn record_length(first: u8) -> usize
     ensures { result ≡ length_by (code_of first) }
 {
     match code_of(first) {
-        Made::Good(code) => 1 + packing::part_length(code),
-        Made::Bad => 0,
+        Ok(code) => 1 + packing::part_length(code),
+        Err(_) => 0,
     }
 }
 
 // Whether all bytes of the record are there, and its pad bits are 0.
-fn framed(s: &[u8], code: Code) -> Header
+fn framed(s: &[u8], code: Code) -> Result<Code, Refusal>
     requires { Sound code × (0 < length s.now) }
-    ensures { result ≡ headed_by (Made.Good code) s.now }
+    ensures { result ≡ headed_by (Ok code) s.now }
 {
     if s.len() - 1 < packing::part_length(code) {
-        return Header::Refused(Refusal::Torn);
+        return Err(Refusal::Torn);
     }
     if code.m == 0 {
         if s[2] % 16 != 0 {
-            return Header::Refused(Refusal::Pad);
+            return Err(Refusal::Pad);
         }
     }
-    Header::Record(code)
+    Ok(code)
 }
 
 // The refusals 1, 8 and 9.
-fn frame(s: &[u8]) -> Header
+fn frame(s: &[u8]) -> Result<Code, Refusal>
     ensures { result ≡ header_of s.now }
 {
     if s.len() == 0 {
-        return Header::Refused(Refusal::Torn);
+        return Err(Refusal::Torn);
     }
-    match code_of(s[0]) {
-        Made::Good(code) => framed(s, code),
-        Made::Bad => Header::Refused(Refusal::Parameters),
-    }
+    let code = code_of(s[0])?;
+    framed(s, code)
 }
 
 // The code of the record that the bytes begin with, or the refusal.
-pub fn header_of(s: &[u8]) -> Header
+pub fn header_of(s: &[u8]) -> Result<Code, Refusal>
     ensures { outcome_of result ≡ outcome_of (header_of s.now) }
 {
     frame(s)
@@ -89,11 +73,11 @@ pub fn packed(s: &[u8]) -> &[u8]
     ensures { result.now ≡ part_by (header_of s.now) s.now }
 {
     match frame(s) {
-        Header::Record(code) => {
+        Ok(code) => {
             let end = 1 + packing::part_length(code);
             &s[1..end]
         }
-        Header::Refused(_) => &s[..0],
+        Err(_) => &s[..0],
     }
 }
 
@@ -104,8 +88,8 @@ pub fn search_record(s: &[u8], allowed: u32, bits: &mut [u8], word: &mut [u8]) -
         bits.old word.old }
 {
     match frame(s) {
-        Header::Record(code) => search_framed(s, code, allowed, bits, word),
-        Header::Refused(why) => WithRunnerUp::refused(why),
+        Ok(code) => search_framed(s, code, allowed, bits, word),
+        Err(why) => WithRunnerUp::refused(why),
     }
 }
 
@@ -119,7 +103,7 @@ pub fn search_framed(
 ) -> WithRunnerUp
     requires { Sound code × (suc (part_length code.m) ≤ length s.now) }
     ensures { runner_up_outcome_of result bits.new word.new
-        ≡ searching_with_runner_up_by (Header.Record code) allowed s.now
+        ≡ searching_with_runner_up_by (Ok code) allowed s.now
         bits.old word.old }
 {
     let mut readings = [0i16; 256];
@@ -130,27 +114,27 @@ pub fn search_framed(
 }
 
 // The tests of the writer: 1, 2, 4, then 3, for a buffer of this many bytes. No sum here wraps.
-pub fn writable(r: u32, m: u32, readings: &[i16], bytes: usize, place: usize) -> Admitted
+pub fn writable(
+    r: u32,
+    m: u32,
+    readings: &[i16],
+    bytes: usize,
+    place: usize,
+) -> Result<Code, Refusal>
     ensures { result ≡ writable r m readings.now bytes place }
 {
-    let Made::Good(code) = Code::new(r, m) else {
-        return Admitted::Refused(Refusal::Parameters);
-    };
-    let n = code.length();
-    if readings.len() != n {
-        return Admitted::Refused(Refusal::InputLength);
+    let code = Code::new(r, m)?;
+    if readings.len() != code.length() {
+        return Err(Refusal::InputLength);
     }
-    let bad = code::first_bad_record_reading(readings);
-    if bad < n {
-        return Admitted::Refused(Refusal::Entry(bad));
-    }
+    code::test_record_readings(readings)?;
     if bytes < place {
-        return Admitted::Refused(Refusal::OutputLength);
+        return Err(Refusal::OutputLength);
     }
     if bytes - place < 1 + packing::part_length(code) {
-        return Admitted::Refused(Refusal::OutputLength);
+        return Err(Refusal::OutputLength);
     }
-    Admitted::Allowed(code)
+    Ok(code)
 }
 
 // The record's first byte, and its packed part.
@@ -164,17 +148,20 @@ fn put_record(code: Code, readings: &[i16], bytes: &mut [u8])
     packing::put_packed(readings, &mut bytes[1..end]);
 }
 
-// Writes the record of the readings into the lent buffer, from the place on. All other bytes stay.
-pub fn write(r: u32, m: u32, readings: &[i16], buffer: &mut [u8], place: usize) -> Written
+// Writes the record of the readings into the lent buffer, from the place on, and gives the place
+// after it. All other bytes stay.
+pub fn write(
+    r: u32,
+    m: u32,
+    readings: &[i16],
+    buffer: &mut [u8],
+    place: usize,
+) -> Result<usize, Refusal>
     ensures { Writing.outcome_of result buffer.new
         ≡ writing r m readings.now buffer.old place }
 {
-    match writable(r, m, readings, buffer.len(), place) {
-        Admitted::Allowed(code) => {
-            let end = place + (1 + packing::part_length(code));
-            put_record(code, readings, &mut buffer[place..end]);
-            Written::Next(end)
-        }
-        Admitted::Refused(why) => Written::Refused(why),
-    }
+    let code = writable(r, m, readings, buffer.len(), place)?;
+    let end = place + (1 + packing::part_length(code));
+    put_record(code, readings, &mut buffer[place..end]);
+    Ok(end)
 }

@@ -1,13 +1,11 @@
 -- What `reorder`, `reorder_word`, `undo_map` and `product_map` report and leave, for every input (docs/RULES.md, §12).
-use Rattle.std.specs.Prelude.{List, Bool, not, cond, ◌&&◌, ℕ, ◌*◌, ◌^◌, ℤ, pos, length, ltb, eqb}
+use Rattle.std.specs.Prelude.{List, Bool, not, cond, ◌&&◌, ℕ, ◌*◌, ◌^◌, ℤ, pos, length, ltb, eqb, Result, Ok, Err}
 use Rattle.code.specs.declared.Refusal.{Refusal}
 use Rattle.code.specs.declared.Refusal.TheVariants.{Parameters, InputLength, OutputLength, Entry, Map}
 use Rattle.code.specs.Sound.{largest_m, largest_reading, Carried, completed}
 use Rattle.code.specs.Entries.{first_bad_bit, first_bad_reading}
 use Rattle.maps.specs.Maps.{reordered, product_table, product_row, undo_table, undo_row}
 use Rattle.images.specs.Images.{is_map}
-use Rattle.code.specs.declared.Completed.{Completed}
-use Rattle.code.specs.declared.Completed.TheVariants.{Done, Refused}
 
 -- B is what is lent to be written: one buffer, or two
 pub record Outcome (B : Type 0) : Type 0 where
@@ -17,15 +15,15 @@ pub record Outcome (B : Type 0) : Type 0 where
   pub lent : B
 
 -- the answer in the rules' numbers
-abbrev pub outcome_of : {B : Type 0} → Completed → B → Outcome B
+abbrev pub outcome_of : {B : Type 0} → Result (Unit {0}) Refusal → B → Outcome B
 outcome_of answer lent = record { carry = completed answer; lent = lent }
 
 abbrev pub done : {B : Type 0} → B → Outcome B
-done lent = outcome_of Done lent
+done lent = outcome_of (Ok tt) lent
 
 -- what is lent keeps its contents
 abbrev pub refused : {B : Type 0} → B → Refusal → Outcome B
-refused lent why = outcome_of (Refused why) lent
+refused lent why = outcome_of (Err why) lent
 
 -- ---- the tests
 -- a table of this many bytes is m by m, and a row of this many m long

@@ -1,12 +1,11 @@
 -- The outcome at each place where a call returns, and what holds if the tests on lengths find nothing.
-use Rattle.std.specs.Prelude.{◌≡◌, refl, Bool, true, false, not, cond, ◌&&◌, List, ℕ, ◌*◌, ◌^◌, ◌≤◌, ◌<◌, length, ltb, eqb}
+use Rattle.std.specs.Prelude.{◌≡◌, refl, Bool, true, false, not, cond, ◌&&◌, List, ℕ, ◌*◌, ◌^◌, ◌≤◌, ◌<◌, length, ltb, eqb, Ok, Err}
 use Rattle.std.proofs.Common.{ap, sym, ◌∙◌, ⊎_elim, arith, eqb-true, lt-ltb, le-ltb}
 use Rattle.std.proofs.Math.Bool.{and-true, and-false}
 use Rattle.numbers.specs.Choice.{lt_or_le}
 use Rattle.code.specs.declared.Refusal.{Refusal}
 use Rattle.code.specs.declared.Refusal.TheVariants.{Parameters, InputLength, OutputLength, Entry, Map}
 use Rattle.code.specs.Sound.{largest_m}
-use Rattle.reorder.specs.declared.Sizes.TheVariants.{Right, Wrong}
 use Rattle.reorder.specs.Outcome.{Outcome, refused, is_long, sized, map_tested, entry_tested}
 use Rattle.reorder.specs.Work.{length_of, sizes_of}
 use Rattle.images.specs.Images.{Mapped}
@@ -42,7 +41,7 @@ module _ (x y good : Bool) where
 
 -- ---- 1, 2 and 3
 by_tests : {B : Type 0} (lent : B) (rest : Outcome B) (large inputs outputs : Bool) (why : Refusal)
-    → cond large (Wrong Parameters) (cond (not inputs) (Wrong InputLength) (cond (not outputs) (Wrong OutputLength) Right)) ≡ Wrong why
+    → cond large (Err Parameters) (cond (not inputs) (Err InputLength) (cond (not outputs) (Err OutputLength) (Ok tt))) ≡ Err why
     → refused lent why
     ≡ cond large (refused lent Parameters) (cond (not inputs) (refused lent InputLength) (cond (not outputs) (refused lent OutputLength) rest))
 by_tests lent rest true inputs outputs why e = cc
@@ -57,17 +56,17 @@ pub record AllRight (m : ℕ) (inputs outputs : Bool) : Type 0 where
   pub outputs_right : outputs ≡ true
 
 right_by : (m : ℕ) (inputs outputs : Bool) → m ≤ largest_m
-    → cond (not inputs) (Wrong InputLength) (cond (not outputs) (Wrong OutputLength) Right) ≡ Right → AllRight m inputs outputs
+    → cond (not inputs) (Err InputLength) (cond (not outputs) (Err OutputLength) (Ok tt)) ≡ (Ok tt) → AllRight m inputs outputs
 right_by m false outputs h e = let z : ◌≡◌ {A = ℕ} 0 1 = cc e in absurd (omega arith)
 right_by m true false h e = let z : ◌≡◌ {A = ℕ} 0 1 = cc e in absurd (omega arith)
 right_by m true true h e = record { small = h; inputs_right = refl; outputs_right = refl }
 
 module _ (m : ℕ) (inputs outputs : Bool) where
-  pub sizes_wrong : {B : Type 0} (lent : B) (rest : Outcome B) (why : Refusal) → sizes_of m inputs outputs ≡ Wrong why
+  pub sizes_wrong : {B : Type 0} (lent : B) (rest : Outcome B) (why : Refusal) → sizes_of m inputs outputs ≡ Err why
       → refused lent why ≡ sized lent m inputs outputs rest
   sizes_wrong lent rest why = by_tests lent rest (ltb largest_m m) inputs outputs why
 
-  pub sizes_right : sizes_of m inputs outputs ≡ Right → AllRight m inputs outputs
+  pub sizes_right : sizes_of m inputs outputs ≡ (Ok tt) → AllRight m inputs outputs
   sizes_right e =
       ⊎_elim
       (λ h. let z : ◌≡◌ {A = ℕ} 0 1 = cc (rw (lt-ltb largest_m m h) at e) in absurd (omega arith))

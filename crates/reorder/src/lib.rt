@@ -10,55 +10,60 @@ ghost use Rattle.reorder.specs.Outcome.{undoing_long, multiplying_long};
 ghost use Rattle.reorder.specs.Work.{length_of, sizes_of};
 ghost use Rattle.images.specs.Images.{Mapped};
 
-use code::{Code, Completed, Refusal};
-
-// What the tests on m and on lengths leave.
-#[derive(Clone, Copy)]
-enum Sizes {
-    Right,
-    Wrong(Refusal),
-}
+use code::{Code, Refusal};
 
 // Writes the readings in the map's order: position j gets the reading at A·j + b.
-pub fn reorder(m: u32, table: &[u8], row: &[u8], readings: &[i16], out: &mut [i16]) -> Completed
+pub fn reorder(
+    m: u32,
+    table: &[u8],
+    row: &[u8],
+    readings: &[i16],
+    out: &mut [i16],
+) -> Result<(), Refusal>
     ensures { outcome_of result out.new
         ≡ reordering m table.now row.now readings.now
         out.old }
 {
     let n = length(m);
     let inputs = is_long(m, table.len(), row.len()) & (readings.len() == n);
-    match test_sizes(m, inputs, out.len() == n) {
-        Sizes::Wrong(why) => Completed::Refused(why),
-        Sizes::Right => reorder_long(m as usize, table, row, readings, out),
-    }
+    test_sizes(m, inputs, out.len() == n)?;
+    reorder_long(m as usize, table, row, readings, out)
 }
 
 // The same on bits, one per byte.
-pub fn reorder_word(m: u32, table: &[u8], row: &[u8], word: &[u8], out: &mut [u8]) -> Completed
+pub fn reorder_word(
+    m: u32,
+    table: &[u8],
+    row: &[u8],
+    word: &[u8],
+    out: &mut [u8],
+) -> Result<(), Refusal>
     ensures { outcome_of result out.new
         ≡ reordering_word m table.now row.now word.now
         out.old }
 {
     let n = length(m);
     let inputs = is_long(m, table.len(), row.len()) & (word.len() == n);
-    match test_sizes(m, inputs, out.len() == n) {
-        Sizes::Wrong(why) => Completed::Refused(why),
-        Sizes::Right => reorder_word_long(m as usize, table, row, word, out),
-    }
+    test_sizes(m, inputs, out.len() == n)?;
+    reorder_word_long(m as usize, table, row, word, out)
 }
 
 // Writes the map that undoes the given one.
-pub fn undo_map(m: u32, table: &[u8], row: &[u8], out: &mut [u8], outrow: &mut [u8]) -> Completed
+pub fn undo_map(
+    m: u32,
+    table: &[u8],
+    row: &[u8],
+    out: &mut [u8],
+    outrow: &mut [u8],
+) -> Result<(), Refusal>
     ensures { outcome_of result (out.new, outrow.new)
         ≡ undoing m table.now row.now
         out.old outrow.old }
 {
     let inputs = is_long(m, table.len(), row.len());
     let outputs = is_long(m, out.len(), outrow.len());
-    match test_sizes(m, inputs, outputs) {
-        Sizes::Wrong(why) => Completed::Refused(why),
-        Sizes::Right => undo_long(m as usize, table, row, out, outrow),
-    }
+    test_sizes(m, inputs, outputs)?;
+    undo_long(m as usize, table, row, out, outrow)
 }
 
 // Writes the map that reorders as the first map and then the second do.
@@ -70,7 +75,7 @@ pub fn product_map(
     row2: &[u8],
     out: &mut [u8],
     outrow: &mut [u8],
-) -> Completed
+) -> Result<(), Refusal>
     ensures { outcome_of result (out.new, outrow.new)
         ≡ multiplying m table1.now row1.now
         table2.now row2.now
@@ -78,10 +83,8 @@ pub fn product_map(
 {
     let inputs = is_long(m, table1.len(), row1.len()) & is_long(m, table2.len(), row2.len());
     let outputs = is_long(m, out.len(), outrow.len());
-    match test_sizes(m, inputs, outputs) {
-        Sizes::Wrong(why) => Completed::Refused(why),
-        Sizes::Right => product_long(m as usize, table1, row1, table2, row2, out, outrow),
-    }
+    test_sizes(m, inputs, outputs)?;
+    product_long(m as usize, table1, row1, table2, row2, out, outrow)
 }
 
 // The number of positions, 0 if m is too large.
@@ -103,23 +106,29 @@ fn is_long(m: u32, table: usize, row: usize) -> bool
 }
 
 // The tests 1 to 3 in their order.
-fn test_sizes(m: u32, inputs: bool, outputs: bool) -> Sizes
+fn test_sizes(m: u32, inputs: bool, outputs: bool) -> Result<(), Refusal>
     ensures { result ≡ sizes_of m inputs outputs }
 {
     if Code::LARGEST_M < m {
-        return Sizes::Wrong(Refusal::Parameters);
+        return Err(Refusal::Parameters);
     }
     if !inputs {
-        return Sizes::Wrong(Refusal::InputLength);
+        return Err(Refusal::InputLength);
     }
     if !outputs {
-        return Sizes::Wrong(Refusal::OutputLength);
+        return Err(Refusal::OutputLength);
     }
-    Sizes::Right
+    Ok(())
 }
 
 // The tests 11 and 4, and the work, if all lengths are right.
-fn reorder_long(m: usize, table: &[u8], row: &[u8], readings: &[i16], out: &mut [i16]) -> Completed
+fn reorder_long(
+    m: usize,
+    table: &[u8],
+    row: &[u8],
+    readings: &[i16],
+    out: &mut [i16],
+) -> Result<(), Refusal>
     requires { Mapped m table.now row.now
         × (length readings.now ≡ 2 ^ m) × (length out.old ≡ 2 ^ m) }
     ensures { outcome_of result out.new
@@ -128,17 +137,20 @@ fn reorder_long(m: usize, table: &[u8], row: &[u8], readings: &[i16], out: &mut 
 {
     let mut images = [0u8; 256];
     if !images::is_map(m, table, row, &mut images) {
-        return Completed::Refused(Refusal::Map);
+        return Err(Refusal::Map);
     }
-    let place = code::first_bad_reading(readings);
-    if place < readings.len() {
-        return Completed::Refused(Refusal::Entry(place));
-    }
+    code::test_readings(readings)?;
     images::move_readings(&images, images::column(row, 1, 0, m), readings, out);
-    Completed::Done
+    Ok(())
 }
 
-fn reorder_word_long(m: usize, table: &[u8], row: &[u8], word: &[u8], out: &mut [u8]) -> Completed
+fn reorder_word_long(
+    m: usize,
+    table: &[u8],
+    row: &[u8],
+    word: &[u8],
+    out: &mut [u8],
+) -> Result<(), Refusal>
     requires { Mapped m table.now row.now
         × (length word.now ≡ 2 ^ m) × (length out.old ≡ 2 ^ m) }
     ensures { outcome_of result out.new
@@ -147,17 +159,20 @@ fn reorder_word_long(m: usize, table: &[u8], row: &[u8], word: &[u8], out: &mut 
 {
     let mut images = [0u8; 256];
     if !images::is_map(m, table, row, &mut images) {
-        return Completed::Refused(Refusal::Map);
+        return Err(Refusal::Map);
     }
-    let place = code::first_bad_bit(word);
-    if place < word.len() {
-        return Completed::Refused(Refusal::Entry(place));
-    }
+    code::test_bits(word)?;
     images::move_bits(&images, images::column(row, 1, 0, m), word, out);
-    Completed::Done
+    Ok(())
 }
 
-fn undo_long(m: usize, table: &[u8], row: &[u8], out: &mut [u8], outrow: &mut [u8]) -> Completed
+fn undo_long(
+    m: usize,
+    table: &[u8],
+    row: &[u8],
+    out: &mut [u8],
+    outrow: &mut [u8],
+) -> Result<(), Refusal>
     requires { Mapped m table.now row.now × Mapped m out.old outrow.old }
     ensures { outcome_of result (out.new, outrow.new)
         ≡ undoing_long m table.now row.now
@@ -166,10 +181,10 @@ fn undo_long(m: usize, table: &[u8], row: &[u8], out: &mut [u8], outrow: &mut [u
     let mut images = [0u8; 256];
     let mut places = [0u8; 256];
     if !images::take_map(m, table, row, &mut images, &mut places) {
-        return Completed::Refused(Refusal::Map);
+        return Err(Refusal::Map);
     }
     images::put_undo(m, &places, row, out, outrow);
-    Completed::Done
+    Ok(())
 }
 
 fn product_long(
@@ -180,7 +195,7 @@ fn product_long(
     row2: &[u8],
     out: &mut [u8],
     outrow: &mut [u8],
-) -> Completed
+) -> Result<(), Refusal>
     requires { Mapped m table1.now row1.now × Mapped m table2.now row2.now
         × Mapped m out.old outrow.old }
     ensures { outcome_of result (out.new, outrow.new)
@@ -190,12 +205,12 @@ fn product_long(
 {
     let mut images = [0u8; 256];
     if !images::is_map(m, table2, row2, &mut images) {
-        return Completed::Refused(Refusal::Map);
+        return Err(Refusal::Map);
     }
     if !images::is_map(m, table1, row1, &mut images) {
-        return Completed::Refused(Refusal::Map);
+        return Err(Refusal::Map);
     }
     let added = images::column(row1, 1, 0, m);
     images::put_product(m, &images, added, table2, row2, out, outrow);
-    Completed::Done
+    Ok(())
 }

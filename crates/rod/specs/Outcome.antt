@@ -1,5 +1,5 @@
 -- What the writer and the reader report and leave, for every input.
-use Rattle.std.specs.Prelude.{List, cond, ◌||◌, ℕ, suc, ◌^◌, ℤ, length, replicate, ltb, eqb}
+use Rattle.std.specs.Prelude.{List, cond, ◌||◌, ℕ, suc, ◌^◌, ℤ, length, replicate, ltb, eqb, Result, Err}
 use Rattle.code.specs.declared.Refusal.TheVariants.{Parameters, OutputLength}
 use Rattle.code.specs.Sound.{Carried, carrying, largest_m}
 use Rattle.search.specs.Outcome as Search
@@ -11,7 +11,6 @@ use Rattle.guarded.specs.Faults.{fault_carries}
 use Rattle.guarded.specs.Outcome.{GuardedOutcome, guarded}
 use Rattle.guarded.specs.Written.{WriteOutcome, done, refused}
 use Rattle.rod.specs.declared.Heard.{Heard}
-use Rattle.rod.specs.declared.Heard.TheVariants as hear
 use Rattle.rod.specs.Rod.{rod_word}
 
 -- ---- the reader
@@ -29,9 +28,9 @@ abbrev pub no_position : Fault → RodOutcome
 no_position why = record { carry = fault_carries why; gap = 0; position = 0 }
 
 -- the answer in the rules' numbers
-abbrev pub outcome_of : Heard → RodOutcome
-outcome_of (hear.Shown position penalty gap) = position_shown position penalty gap
-outcome_of (hear.Refused why) = no_position why
+abbrev pub outcome_of : Result Heard Fault → RodOutcome
+outcome_of (SHOWN position penalty gap) = position_shown position penalty gap
+outcome_of (Err why) = no_position why
 
 -- the first-order word of RM(1,m) into buffers of its own
 abbrev pub rod_search : ℕ → List ℤ → Search.Outcome

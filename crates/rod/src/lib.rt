@@ -10,81 +10,71 @@ ghost use Rattle.guarded.specs.Written.{written_outcome_of};
 ghost use Rattle.rod.specs.Outcome.{outcome_of, position_said, reading_rod, writing_rod};
 
 use code::{Code, Refusal};
-use guarded::{Fault, Written, number_of};
-use search::Searched;
+use guarded::{Fault, number_of};
 
+// What a reader shows: the position, and what is said of its word.
 #[derive(Clone, Copy)]
-pub enum Heard {
-    Shown {
-        position: u32,
-        penalty: u32,
-        gap: u32,
-    },
-    Refused(Fault),
+pub struct Heard {
+    pub position: u32,
+    pub penalty: u32,
+    pub gap: u32,
 }
 
 // Writes the position's word into the lent buffer.
-pub fn write(m: u32, position: u32, word: &mut [u8]) -> Written
+pub fn write(m: u32, position: u32, word: &mut [u8]) -> Result<(), Fault>
     ensures { written_outcome_of result word.new
         ≡ writing_rod m position word.old }
 {
     if m == 0 {
-        return Written::Refused(Fault::Link(Refusal::Parameters));
+        return Err(Refusal::Parameters.into());
     }
     if Code::LARGEST_M < m {
-        return Written::Refused(Fault::Link(Refusal::Parameters));
+        return Err(Refusal::Parameters.into());
     }
     let n = 1usize << m;
     if word.len() != n {
-        return Written::Refused(Fault::Link(Refusal::OutputLength));
+        return Err(Refusal::OutputLength.into());
     }
     let place = position as usize;
     if n <= place {
-        return Written::Refused(Fault::Field);
+        return Err(Fault::Field);
     }
     // the sign that makes the marker 0
     let sign = (u32::count_ones(position) % 2) as u8;
     first_order::put_word(word, m as usize, place, sign);
-    Written::Done
+    Ok(())
 }
 
 // The position of the best word for the readings, or why there is none to show.
-pub fn read(m: u32, readings: &[i16]) -> Heard
+pub fn read(m: u32, readings: &[i16]) -> Result<Heard, Fault>
     ensures { outcome_of result ≡ reading_rod m readings.now }
 {
     if Code::LARGEST_M < m {
-        return Heard::Refused(Fault::Link(Refusal::Parameters));
+        return Err(Refusal::Parameters.into());
     }
     let last = m as usize;
     let k = last + 1;
     let n = 1usize << m;
     let mut bits = [0u8; 9];
     let mut word = [0u8; 256];
-    let answer = first_order::first_order(1, m, readings, &mut bits[0..k], &mut word[0..n]);
-    match answer {
-        Searched::Refused(why) => Heard::Refused(Fault::Link(why)),
-        Searched::Found {
-            penalty,
-            gap,
-            visits: _,
-        } => judge(last, &bits[0..k], penalty, gap),
-    }
+    let found = first_order::first_order(1, m, readings, &mut bits[0..k], &mut word[0..n])?;
+    judge(last, &bits[0..k], found.penalty, found.gap)
 }
 
 // Shows the position of the bits that were found, unless their marker is set.
-fn judge(m: usize, bits: &[u8], penalty: u32, gap: u32) -> Heard
+fn judge(m: usize, bits: &[u8], penalty: u32, gap: u32) -> Result<Heard, Fault>
     requires { Bits bits.now × (length bits.now ≡ suc m) × (m ≤ largest_m) }
     ensures { outcome_of result
         ≡ position_said (guard.message_if bits.now penalty gap 0 (replicate m 0)) }
 {
     let marker = bits[m];
     if marker != 0 {
-        return Heard::Refused(Fault::Marker);
+        return Err(Fault::Marker);
     }
     let position = number_of(&bits[0..m]);
-    Heard::Shown {
+    Ok(Heard {
         position,
         penalty,
         gap,
-    }
+    })
 }

@@ -1,5 +1,5 @@
 -- The search's outcomes meet demand 1.
-use Rattle.std.specs.Prelude.{◌≡◌, refl, List, [], ◌∷◌, ℕ, ℤ, length}
+use Rattle.std.specs.Prelude.{◌≡◌, refl, List, [], ◌∷◌, ℕ, ℤ, length, Err}
 use Rattle.std.proofs.Common.{ap, inl, inr, ⊎_elim, arith, lt-ltb, le-ltb, eq-eqb, ne_eqb}
 use Rattle.std.proofs.Math.Decide.{ℕ_discrete}
 use Rattle.numbers.specs.Choice.{lt_or_le}
@@ -8,7 +8,6 @@ use Rattle.decoding.specs.Best.{gap}
 use Rattle.decoding.specs.Walk.{needed}
 use Rattle.decoding.specs.Answer.{answer}
 use Rattle.code.specs.declared.Refusal.{Refusal}
-use Rattle.code.specs.declared.Admitted.TheVariants.{Refused}
 use Rattle.code.specs.Admitted.{admitted}
 use Rattle.code.specs.Demand1.{refused_as}
 use Rattle.code.specs.Demand1Laws.{Decides, demand_1, decides_readings}
@@ -34,7 +33,7 @@ answer_decides m ks allowed l bits word =
     (lt_or_le allowed (needed m ks l))
 
 module _ (r m allowed : ℕ) (l : List ℤ) (bits word : List ℕ) where
-  tests_refuse : (why : Refusal) → Refused why ≡ admitted r m l (length bits) (length word)
+  tests_refuse : (why : Refusal) → Err why ≡ admitted r m l (length bits) (length word)
       → view (searching r m allowed l bits word) ≡ refused_as why (bits ∷ word ∷ [])
   tests_refuse why e = ap view (searching-refused r m allowed l bits word why e)
 

@@ -1,12 +1,13 @@
 -- The search's answer with the runner-up (docs/RULES.md, §5): its outcome, and beside it the second full path that is held when the written walk
 -- ends.
-use Rattle.std.specs.Prelude.{cond, List, [], ◌++◌, ℕ, ◌-◌, ℤ, length, replicate, eqb}
+use Rattle.std.specs.Prelude.{cond, List, [], ◌++◌, ℕ, ◌-◌, ℤ, length, replicate, eqb, Result}
 use Rattle.words.specs.Kinds.{kinds, pick}
 use Rattle.decoding.specs.Walk.{Held, none, one, two, walked}
 use Rattle.decoding.specs.Answer.{answer}
-use Rattle.search.specs.declared.Searched.{Searched}
 use Rattle.search.specs.declared.WithRunnerUp.{WithRunnerUp}
 use Rattle.search.specs.Outcome.{Outcome, outcome_of, by_answer, searching}
+use Rattle.code.specs.declared.Refusal.{Refusal}
+use Rattle.search.specs.declared.Found.{Found}
 
 -- the second full path held: none if fewer than two are held
 abbrev pub second_held : Held → List ℕ
@@ -37,7 +38,7 @@ abbrev pub runner_up_outcome_of : WithRunnerUp → List ℕ → List ℕ → Run
 runner_up_outcome_of a bits word = record { outcome = outcome_of a.result bits word; runner_up = a.runner_up }
 
 -- a result with no runner-up
-abbrev pub with_none : Searched → WithRunnerUp
+abbrev pub with_none : Result Found Refusal → WithRunnerUp
 with_none a = record { result = a; runner_up = replicate 256 0 }
 
 -- if tests 1 to 4 refuse nothing, over the words of any row of kinds: by the answer

@@ -1,5 +1,5 @@
 -- The outcomes of calls on a shortened set meet the demands; the quick reading is surely right by the full code's distance.
-use Rattle.std.specs.Prelude.{◌≡◌, refl, ◌⊎◌, List, [], ◌∷◌, ℕ, ◌^◌, ◌≤◌, ◌<◌, ℤ, length}
+use Rattle.std.specs.Prelude.{◌≡◌, refl, ◌⊎◌, List, [], ◌∷◌, ℕ, ◌^◌, ◌≤◌, ◌<◌, ℤ, length, Ok, Err}
 use Rattle.std.proofs.Common.{ap, sym, subst, ◌∙◌, inl, inr, ⊎_elim, arith}
 use Rattle.numbers.specs.Choice.{lt_or_le}
 use Rattle.numbers.specs.Sums.{sum}
@@ -7,11 +7,9 @@ use Rattle.words.specs.Kinds.{kinds, encoded, Word}
 use Rattle.words.specs.Inverse.{taken_back}
 use Rattle.sure.specs.Sure.{Sure, Inside, SurelyRight}
 use Rattle.sure.proofs.SureLaws.{surely-right}
-use Rattle.code.specs.declared.Made.TheVariants.{Bad}
 use Rattle.code.specs.declared.Code.{Code}
 use Rattle.code.specs.declared.Refusal.{Refusal}
 use Rattle.code.specs.declared.Refusal.TheVariants.{Parameters, Named}
-use Rattle.code.specs.declared.Admitted.TheVariants.{Allowed, Refused}
 use Rattle.code.specs.Sound.{Sound, largest_m, made, rm}
 use Rattle.code.specs.SoundLaws.{made_good}
 use Rattle.code.specs.SoundInput.{GoodReadings, SoundFor}
@@ -43,7 +41,7 @@ module _ (r m : ℕ) where
   sound_not : Sound (rm r m) → BadParameters → ⊥
   sound_not s x = ⊎_elim (λ h. omega (arith, s.m_small)) (λ h. omega (arith, s.r_small)) x
 
-  bad-given : made r m ≡ Bad → BadParameters
+  bad-given : made r m ≡ Err Parameters → BadParameters
   bad-given b =
       ⊎_elim (λ large. inl large)
       (λ small. ⊎_elim (λ crossed. inr crossed)
@@ -52,9 +50,9 @@ module _ (r m : ℕ) where
       (lt_or_le largest_m m)
 
   pub decides_row : (named : List ℕ) (before : List (List ℕ)) (o : View) (rest : Checks)
-      → (Refused Parameters ≡ row_admitted r m named → o ≡ refused_as Parameters before)
-      → (Refused Named ≡ row_admitted r m named → o ≡ refused_as Named before)
-      → (Sound (rm r m) → Allowed (rm r m) ≡ row_admitted r m named → Decides before o (check Parameters BadParameters rest))
+      → (Err Parameters ≡ row_admitted r m named → o ≡ refused_as Parameters before)
+      → (Err Named ≡ row_admitted r m named → o ≡ refused_as Named before)
+      → (Sound (rm r m) → Ok (rm r m) ≡ row_admitted r m named → Decides before o (check Parameters BadParameters rest))
       → Decides before o (check Parameters BadParameters (check Named (GoodRow named (kinds r m) → ⊥) rest))
   decides_row named before o rest one twelve then =
       elim (row_decided r m named) [
@@ -98,7 +96,7 @@ module _ (r m : ℕ) (named : List ℕ) where
       (decides_frozen m ks (long_left named (rm r m)) (are_left named (rm r m)) word bits))))
 
   module _ (l : List ℤ) (bits word : List ℕ) where
-    tests_refuse : Sound (rm r m) → (why : Refusal) → Refused why ≡ admitted_for (λ c. sum ks) r m l (length bits) (length word)
+    tests_refuse : Sound (rm r m) → (why : Refusal) → Err why ≡ admitted_for (λ c. sum ks) r m l (length bits) (length word)
         → readers.view (quick_over ks (rm r m) l bits word) ≡ refused_as why (bits ∷ word ∷ [])
     tests_refuse s why e =
         let same = tested-made (λ c. sum ks) r m l (length bits) (length word) (rm r m) (made_good r m s.m_small s.r_small) in

@@ -1,5 +1,5 @@
 -- No second answer and no second contents of the lent buffers meet the promise of a call on a shortened set.
-use Rattle.std.specs.Prelude.{◌≡◌, List, ℕ, ◌^◌, ◌<◌, ℤ, length}
+use Rattle.std.specs.Prelude.{◌≡◌, List, ℕ, ◌^◌, ◌<◌, ℤ, length, Result}
 use Rattle.std.proofs.Common.{sym, ◌∙◌, arith}
 use Rattle.numbers.specs.Sums.{sum}
 use Rattle.words.specs.Kinds.{encoded}
@@ -9,16 +9,15 @@ use Rattle.code.specs.Sound.{Sound, rm}
 use Rattle.code.specs.SoundLaws.{made_good}
 use Rattle.code.specs.AdmittedLaws.{allows, refuses, decided_for, tested-made}
 use Rattle.named.specs.NamedLaws.{bad_parameters, bad-row, sound_row, row_decided}
-use Rattle.code.specs.declared.Completed.{Completed}
 use Rattle.encode.specs.Outcome as encoder
 use Rattle.encode.specs.OutcomeLaws.{tested_small}
 use Rattle.encode.specs.OnlyOutcome as encoders
-use Rattle.quick.specs.declared.Read.{Read}
 use Rattle.quick.specs.Outcome as reader
 use Rattle.quick.proofs.OnlyOutcome as readers
 use Rattle.shortened.specs.Outcome.{left_of, quick_over, encoding_shortened, inverting_shortened, quick_shortened}
 use Rattle.shortened.specs.OutcomeLaws.{encoding-refused, inverting-refused, quick_refused, over-refused}
 use Rattle.shortened.specs.OutcomeLaws.{encoding-left, inverting-left, quick-left, over_done}
+use Rattle.code.specs.declared.Refusal.{Refusal}
 
 -- a number below 6, or 12
 abbrev Plain : ℕ → Type 0
@@ -66,7 +65,7 @@ module _ (r m : ℕ) (named : List ℕ) where
         | sound_row s g e ↦ rw (← quick-left r m named (rm r m) e l bits word) (small_plain (over_small (left_of named (rm r m)) l bits word s))
       ]
 
-  module _ (a b : Completed) (x y : List ℕ) where
+  module _ (a b : Result (Unit {0}) Refusal) (x y : List ℕ) where
     pub encode_only : (bits word : List ℕ)
         → encoder.outcome_of a x ≡ encoding_shortened r m named bits word → encoder.outcome_of b y ≡ encoding_shortened r m named bits word
         → (a ≡ b) × (x ≡ y)
@@ -80,7 +79,7 @@ module _ (r m : ℕ) (named : List ℕ) where
         let p = inverting_plain word bits in
         encoders.outcome_only (inverting_shortened r m named word bits) p.0 p.1 a b x y
 
-  pub quick_only : (l : List ℤ) (bits word : List ℕ) (a b : Read) (x y v w : List ℕ) → reader.outcome_of a x y ≡ quick_shortened r m named l bits word
+  pub quick_only : (l : List ℤ) (bits word : List ℕ) (a b : Result ℕ Refusal) (x y v w : List ℕ) → reader.outcome_of a x y ≡ quick_shortened r m named l bits word
       → reader.outcome_of b v w ≡ quick_shortened r m named l bits word → (a ≡ b) × (x ≡ v) × (y ≡ w)
   quick_only l bits word =
       let p = quick_plain l bits word in

@@ -1,12 +1,11 @@
 -- The outcome at each place where a call returns.
-use Rattle.std.specs.Prelude.{◌≡◌, List, ℕ, ℤ, length}
+use Rattle.std.specs.Prelude.{◌≡◌, List, ℕ, ℤ, length, Ok, Err}
 use Rattle.std.proofs.Common.{subst, ◌∙◌}
 use Rattle.numbers.specs.Sums.{sum}
 use Rattle.words.specs.Kinds.{kinds}
 use Rattle.words.proofs.KindLaws.{bits_kinds}
 use Rattle.code.specs.declared.Code.{Code}
 use Rattle.code.specs.declared.Refusal.{Refusal}
-use Rattle.code.specs.declared.Admitted.TheVariants.{Allowed, Refused}
 use Rattle.code.specs.Sound.{Sound, rm}
 use Rattle.code.specs.SoundLaws.{made_good}
 use Rattle.code.specs.SoundInput.{GoodReadings, SoundFor}
@@ -19,7 +18,7 @@ use Rattle.quick.specs.Outcome as reader
 use Rattle.shortened.specs.Outcome.{left_of, encoding_over, inverting_over, quick_over, encoding_shortened, inverting_shortened, quick_shortened}
 
 module _ (r m : ℕ) (named : List ℕ) where
-  module _ (why : Refusal) (e : Refused why ≡ row_admitted r m named) where
+  module _ (why : Refusal) (e : Err why ≡ row_admitted r m named) where
     pub encoding-refused : (bits word : List ℕ) → encoder.refused why word ≡ encoding_shortened r m named bits word
     unfolding encoding_shortened
     encoding-refused bits word = rw (← e)
@@ -32,7 +31,7 @@ module _ (r m : ℕ) (named : List ℕ) where
     unfolding quick_shortened
     quick_refused l bits word = rw (← e)
 
-  module _ (c : Code) (e : Allowed c ≡ row_admitted r m named) where
+  module _ (c : Code) (e : Ok c ≡ row_admitted r m named) where
     pub encoding-left : (bits word : List ℕ) → encoding_over (left_of named c) c bits word ≡ encoding_shortened r m named bits word
     unfolding encoding_shortened
     encoding-left bits word = rw (← e)
@@ -46,11 +45,11 @@ module _ (r m : ℕ) (named : List ℕ) where
     quick-left l bits word = rw (← e)
 
 -- a good row of a sound code is allowed
-pub good_allowed : (r m : ℕ) (named : List ℕ) → Sound (rm r m) → GoodRow named (kinds r m) → Allowed (rm r m) ≡ row_admitted r m named
+pub good_allowed : (r m : ℕ) (named : List ℕ) → Sound (rm r m) → GoodRow named (kinds r m) → Ok (rm r m) ≡ row_admitted r m named
 good_allowed r m named s g = row_allowed r m named (rm r m) (made_good r m s.m_small s.r_small) (good-row named (kinds r m) (bits_kinds r m) g)
 
 -- ---- tests 2 to 4 of readings
-pub allowed_over : (c : Code) (expected : ℕ) (l : List ℤ) (k n : ℕ) → Sound c → (d : Code) → Allowed d ≡ admitted_by c expected l k n
+pub allowed_over : (c : Code) (expected : ℕ) (l : List ℤ) (k n : ℕ) → Sound c → (d : Code) → Ok d ≡ admitted_by c expected l k n
     → (d ≡ c) × SoundFor c expected k n (GoodReadings c l)
 allowed_over c expected l k n s d e =
     let good = made_good c.r c.m s.m_small s.r_small in
@@ -58,9 +57,9 @@ allowed_over c expected l k n s d e =
     (a.0, subst (λ (x : Code). SoundFor x expected k n (GoodReadings x l)) a.0 a.1)
 
 module _ (ks : List ℕ) (c : Code) (l : List ℤ) (bits word : List ℕ) where
-  pub over-refused : (why : Refusal) → Refused why ≡ admitted_by c (sum ks) l (length bits) (length word)
+  pub over-refused : (why : Refusal) → Err why ≡ admitted_by c (sum ks) l (length bits) (length word)
       → reader.refused why bits word ≡ quick_over ks c l bits word
   over-refused why e = rw (← e)
 
-  pub over_done : (d : Code) → Allowed d ≡ admitted_by c (sum ks) l (length bits) (length word) → reader.reading_over d.m ks l ≡ quick_over ks c l bits word
+  pub over_done : (d : Code) → Ok d ≡ admitted_by c (sum ks) l (length bits) (length word) → reader.reading_over d.m ks l ≡ quick_over ks c l bits word
   over_done d e = rw (← e)

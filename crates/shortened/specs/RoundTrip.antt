@@ -1,6 +1,6 @@
 -- Theorems over the outcomes on a shortened set, as for the plain calls: the inverse gives back what the encoder was given, the encoder what the inverse was
 -- given, and the inverse refuses as 5 exactly what no information bits of the smaller set give.
-use Rattle.std.specs.Prelude.{◌≡◌, refl, List, ℕ, ◌^◌, length}
+use Rattle.std.specs.Prelude.{◌≡◌, refl, List, ℕ, ◌^◌, length, Ok, Err}
 use Rattle.std.proofs.Common.{ap, sym, ◌∙◌, arith}
 use Rattle.numbers.specs.Sums.{sum}
 use Rattle.words.specs.Bits.{Bits}
@@ -9,7 +9,6 @@ use Rattle.words.specs.Kinds.{kinds, Word}
 use Rattle.words.specs.Inverse.{LowestFrozenOne}
 use Rattle.code.specs.declared.Refusal.{Refusal}
 use Rattle.code.specs.declared.Refusal.TheVariants.{Parameters, NotAWord, Named}
-use Rattle.code.specs.declared.Admitted.TheVariants.{Allowed, Refused}
 use Rattle.code.specs.Sound.{rm, number_of}
 use Rattle.code.specs.SoundInput.{SoundFor}
 use Rattle.named.specs.Named.{GoodRow, row_admitted}
@@ -25,8 +24,8 @@ module _ (r m : ℕ) (named : List ℕ) where
   ks = left_of named (rm r m)
 
   -- a call with another number than 1 and 12 has an allowed row
-  row_let : (n : ℕ) → ((why : Refusal) → Refused why ≡ row_admitted r m named → number_of why ≡ n) → (n ≡ 1 → ⊥) → (n ≡ 12 → ⊥)
-      → Allowed (rm r m) ≡ row_admitted r m named
+  row_let : (n : ℕ) → ((why : Refusal) → Err why ≡ row_admitted r m named → number_of why ≡ n) → (n ≡ 1 → ⊥) → (n ≡ 12 → ⊥)
+      → Ok (rm r m) ≡ row_admitted r m named
   row_let n shows one twelve =
       elim (row_decided r m named) [
         | bad_parameters b e ↦ absurd (one (sym (shows Parameters e)))
@@ -34,12 +33,12 @@ module _ (r m : ℕ) (named : List ℕ) where
         | sound_row s g e ↦ e
       ]
 
-  encoding_let : (bits word x : List ℕ) → encoding_shortened r m named bits word ≡ encoder.done x → Allowed (rm r m) ≡ row_admitted r m named
+  encoding_let : (bits word x : List ℕ) → encoding_shortened r m named bits word ≡ encoder.done x → Ok (rm r m) ≡ row_admitted r m named
   encoding_let bits word x e =
       row_let 0 (λ why f. ap (λ (o : encoder.Outcome). o.number) (encoding-refused r m named why f bits word ∙ e)) (λ z. omega arith) (λ z. omega arith)
 
   inverting_let : (word bits : List ℕ) (o : encoder.Outcome) → inverting_shortened r m named word bits ≡ o → (o.number ≡ 1 → ⊥) → (o.number ≡ 12 → ⊥)
-      → Allowed (rm r m) ≡ row_admitted r m named
+      → Ok (rm r m) ≡ row_admitted r m named
   inverting_let word bits o e = row_let o.number (λ why f. ap (λ (p : encoder.Outcome). p.number) (inverting-refused r m named why f word bits ∙ e))
 
   -- ---- there and back
@@ -63,7 +62,7 @@ module _ (r m : ℕ) (named : List ℕ) where
 
   -- ---- refusal 5, for what the tests 1, 12 and 2 to 4 let through
   module _ (word bits : List ℕ) (i : ℕ) (e : inverting_shortened r m named word bits ≡ encoder.refused (NotAWord i) bits) where
-    five_left : Allowed (rm r m) ≡ row_admitted r m named
+    five_left : Ok (rm r m) ≡ row_admitted r m named
     five_left = inverting_let word bits (encoder.refused (NotAWord i) bits) e (λ z. omega arith) (λ z. omega arith)
 
     -- i is the lowest index, frozen or named, at which the word's row is 1

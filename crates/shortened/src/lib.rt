@@ -16,29 +16,36 @@ ghost use Rattle.shortened.specs.Outcome.{quick_over, encoding_shortened};
 ghost use Rattle.shortened.specs.Outcome.{inverting_shortened, quick_shortened};
 ghost use Rattle.shortened.specs.Work.{Workable};
 
-use code::{Admitted, Code, Completed, Refusal};
-use quick::Read;
+use code::{Code, Refusal};
 
 // Writes the word of the information bits that are left into the lent buffer.
-pub fn encode_shortened(r: u32, m: u32, named: &[u8], bits: &[u8], word: &mut [u8]) -> Completed
+pub fn encode_shortened(
+    r: u32,
+    m: u32,
+    named: &[u8],
+    bits: &[u8],
+    word: &mut [u8],
+) -> Result<(), Refusal>
     ensures { encoder.outcome_of result word.new
         ≡ encoding_shortened r m named.now bits.now word.old }
 {
-    match named::admit_row(r, m, named) {
-        Admitted::Refused(why) => Completed::Refused(why),
-        Admitted::Allowed(code) => encode_left(code, named, bits, word),
-    }
+    let code = named::admit_row(r, m, named)?;
+    encode_left(code, named, bits, word)
 }
 
 // Writes the information bits of the word into the lent buffer: a named index is frozen.
-pub fn inverse_shortened(r: u32, m: u32, named: &[u8], word: &[u8], bits: &mut [u8]) -> Completed
+pub fn inverse_shortened(
+    r: u32,
+    m: u32,
+    named: &[u8],
+    word: &[u8],
+    bits: &mut [u8],
+) -> Result<(), Refusal>
     ensures { encoder.outcome_of result bits.new
         ≡ inverting_shortened r m named.now word.now bits.old }
 {
-    match named::admit_row(r, m, named) {
-        Admitted::Refused(why) => Completed::Refused(why),
-        Admitted::Allowed(code) => inverse_left(code, named, word, bits),
-    }
+    let code = named::admit_row(r, m, named)?;
+    inverse_left(code, named, word, bits)
 }
 
 // Reads the readings by halves: writes the information bits and the word, and gives the penalty.
@@ -49,38 +56,38 @@ pub fn quick_shortened(
     readings: &[i16],
     bits: &mut [u8],
     word: &mut [u8],
-) -> Read
+) -> Result<u32, Refusal>
     ensures { reader.outcome_of result bits.new word.new
         ≡ quick_shortened r m named.now readings.now
         bits.old word.old }
 {
-    match named::admit_row(r, m, named) {
-        Admitted::Refused(why) => Read::Refused(why),
-        Admitted::Allowed(code) => quick_left(code, named, readings, bits, word),
-    }
+    let code = named::admit_row(r, m, named)?;
+    quick_left(code, named, readings, bits, word)
 }
 
 // The tests 2 to 4 of the encoder, and its work.
-fn encode_left(code: Code, named: &[u8], bits: &[u8], word: &mut [u8]) -> Completed
+fn encode_left(
+    code: Code,
+    named: &[u8],
+    bits: &[u8],
+    word: &mut [u8],
+) -> Result<(), Refusal>
     requires { Sound code × GoodRow named.now (kinds code.r code.m) }
     ensures { encoder.outcome_of result word.new
         ≡ encoding_over (left_of named.now code) code bits.now
         word.old }
 {
     if bits.len() != named::count_left(code, named) {
-        return Completed::Refused(Refusal::InputLength);
+        return Err(Refusal::InputLength);
     }
     let n = code.length();
     if word.len() != n {
-        return Completed::Refused(Refusal::OutputLength);
+        return Err(Refusal::OutputLength);
     }
-    let place = code::first_bad_bit(bits);
-    if place < bits.len() {
-        return Completed::Refused(Refusal::Entry(place));
-    }
+    code::test_bits(bits)?;
     let mut kinds = [0u8; 256];
     put_word(code, named, &mut kinds[0..n], bits, word);
-    Completed::Done
+    Ok(())
 }
 
 // The kinds that are left go into a row of scratch, and the bits into the word by these kinds.
@@ -96,7 +103,12 @@ fn put_word(code: Code, named: &[u8], kinds: &mut [u8], bits: &[u8], word: &mut 
 }
 
 // The tests 2 to 4 of the inverse, and its work.
-fn inverse_left(code: Code, named: &[u8], word: &[u8], bits: &mut [u8]) -> Completed
+fn inverse_left(
+    code: Code,
+    named: &[u8],
+    word: &[u8],
+    bits: &mut [u8],
+) -> Result<(), Refusal>
     requires { Sound code × GoodRow named.now (kinds code.r code.m) }
     ensures { encoder.outcome_of result bits.new
         ≡ inverting_over (left_of named.now code) code word.now
@@ -104,15 +116,12 @@ fn inverse_left(code: Code, named: &[u8], word: &[u8], bits: &mut [u8]) -> Compl
 {
     let n = code.length();
     if word.len() != n {
-        return Completed::Refused(Refusal::InputLength);
+        return Err(Refusal::InputLength);
     }
     if bits.len() != named::count_left(code, named) {
-        return Completed::Refused(Refusal::OutputLength);
+        return Err(Refusal::OutputLength);
     }
-    let place = code::first_bad_bit(word);
-    if place < word.len() {
-        return Completed::Refused(Refusal::Entry(place));
-    }
+    code::test_bits(word)?;
     let mut kinds = [0u8; 256];
     let mut row = [0u8; 256];
     take_back(code, named, &mut kinds[0..n], &mut row[0..n], word, bits)
@@ -125,7 +134,7 @@ fn take_back(
     row: &mut [u8],
     word: &[u8],
     bits: &mut [u8],
-) -> Completed
+) -> Result<(), Refusal>
     requires { Workable code named.now kinds.old (length bits.old) (length word.now)
         (Bits word.now) × (length row.old ≡ 2 ^ code.m) }
     ensures { encoder.outcome_of result bits.new
@@ -138,22 +147,23 @@ fn take_back(
 }
 
 // The tests 2 to 4 of the quick reading, and its work.
-fn quick_left(code: Code, named: &[u8], readings: &[i16], bits: &mut [u8], word: &mut [u8]) -> Read
+fn quick_left(
+    code: Code,
+    named: &[u8],
+    readings: &[i16],
+    bits: &mut [u8],
+    word: &mut [u8],
+) -> Result<u32, Refusal>
     requires { Sound code × GoodRow named.now (kinds code.r code.m) }
     ensures { reader.outcome_of result bits.new word.new
         ≡ quick_over (left_of named.now code) code readings.now
         bits.old word.old }
 {
     let left = named::count_left(code, named);
-    match code::admit_for(code, left, readings, bits.len(), word.len()) {
-        Admitted::Refused(why) => Read::Refused(why),
-        Admitted::Allowed(_) => {
-            let mut kinds = [0u8; 256];
-            let n = code.length();
-            let penalty = take_reading(code, named, &mut kinds[0..n], readings, bits, word);
-            Read::Done { penalty }
-        }
-    }
+    code::admit_for(code, left, readings, bits.len(), word.len())?;
+    let mut kinds = [0u8; 256];
+    let n = code.length();
+    Ok(take_reading(code, named, &mut kinds[0..n], readings, bits, word))
 }
 
 fn take_reading(

@@ -1,5 +1,5 @@
 -- The outcomes of the search on a shortened set meet the demands.
-use Rattle.std.specs.Prelude.{◌≡◌, refl, List, [], ◌∷◌, ℕ, ◌^◌, ℤ, length, replicate}
+use Rattle.std.specs.Prelude.{◌≡◌, refl, List, [], ◌∷◌, ℕ, ◌^◌, ℤ, length, replicate, Result, Ok, Err}
 use Rattle.std.proofs.Common.{ap, sym, ◌∙◌, arith, ne_eqb}
 use Rattle.numbers.specs.Sums.{sum}
 use Rattle.words.specs.Kinds.{kinds}
@@ -8,8 +8,6 @@ use Rattle.decoding.proofs.DemandsMet.{demands}
 use Rattle.code.specs.declared.Code.{Code}
 use Rattle.code.specs.declared.Refusal.{Refusal}
 use Rattle.code.specs.declared.Refusal.TheVariants.{Parameters, Named}
-use Rattle.code.specs.declared.Admitted.{Admitted}
-use Rattle.code.specs.declared.Admitted.TheVariants as admission
 use Rattle.code.specs.Sound.{Sound, rm}
 use Rattle.code.specs.SoundLaws.{made_good}
 use Rattle.code.specs.SoundInput.{GoodReadings, SoundFor}
@@ -67,11 +65,11 @@ module _ (r m allowed : ℕ) (named : List ℕ) (l : List ℤ) (bits word : List
 
 -- ---- a larger allowance
 -- a test does not look at it
-test_kept : (t : Admitted) (refuse : Refusal → RunnerUpOutcome) (then then' : Code → RunnerUpOutcome)
+test_kept : (t : Result Code Refusal) (refuse : Refusal → RunnerUpOutcome) (then then' : Code → RunnerUpOutcome)
     → ((c : Code) → ((then c).outcome.number ≡ 6 → ⊥) → then' c ≡ then c)
     → ((after_test t refuse then).outcome.number ≡ 6 → ⊥) → after_test t refuse then' ≡ after_test t refuse then
-test_kept (admission.Refused why) refuse then then' f n = refl
-test_kept (admission.Allowed c) refuse then then' f n = f c n
+test_kept (Err why) refuse then then' f n = refl
+test_kept (Ok c) refuse then then' f n = f c n
 
 pub shortened_larger_allowance : (r m : ℕ) (named : List ℕ) (l : List ℤ) (bits word : List ℕ) → ShortenedLargerAllowance r m named l bits word
 unfolding searching_shortened

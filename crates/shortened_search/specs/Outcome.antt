@@ -1,18 +1,17 @@
 -- What the search on a shortened set reports and leaves, for every input (docs/RULES.md, §15): refused as 1 or 12 by the row's tests, else as the
 -- plain search does, over the words of the kinds that are left.
-use Rattle.std.specs.Prelude.{List, ℕ, ℤ, length}
+use Rattle.std.specs.Prelude.{List, ℕ, ℤ, length, Err}
 use Rattle.numbers.specs.Sums.{sum}
 use Rattle.code.specs.declared.Code.{Code}
 use Rattle.code.specs.declared.Refusal.{Refusal}
 use Rattle.code.specs.Admitted.{admitted_by, after_test}
 use Rattle.named.specs.Named.{row_admitted}
-use Rattle.search.specs.declared.Searched.TheVariants.{Refused}
 use Rattle.search.specs.RunnerUp.{RunnerUpOutcome, runner_up_outcome_of, with_none, runner_up_outcome_by}
 use Rattle.shortened.specs.Outcome.{left_of}
 
 -- the buffers keep their contents, and no runner-up is shown
 abbrev pub refused_with_none : Refusal → List ℕ → List ℕ → RunnerUpOutcome
-refused_with_none why bits word = runner_up_outcome_of (with_none (Refused why)) bits word
+refused_with_none why bits word = runner_up_outcome_of (with_none (Err why)) bits word
 
 -- over the words of a row of kinds: there are as many information bits as indices that carry them
 abbrev pub searching_over : List ℕ → Code → ℕ → List ℤ → List ℕ → List ℕ → RunnerUpOutcome

@@ -11,7 +11,7 @@ ghost use Rattle.search.specs.RunnerUp.{runner_up_outcome_of, runner_up_outcome_
 ghost use Rattle.shortened.specs.Outcome.{left_of};
 ghost use Rattle.shortened_search.specs.Outcome.{searching_over, searching_shortened};
 
-use code::{Admitted, Code};
+use code::Code;
 use search::WithRunnerUp;
 
 // Writes the information bits and the word of least penalty in the smaller set, if no other
@@ -30,8 +30,8 @@ pub fn search_within_shortened(
         bits.old word.old }
 {
     match named::admit_row(r, m, named) {
-        Admitted::Refused(why) => WithRunnerUp::refused(why),
-        Admitted::Allowed(code) => search_left(code, allowed, named, readings, bits, word),
+        Err(why) => WithRunnerUp::refused(why),
+        Ok(code) => search_left(code, allowed, named, readings, bits, word),
     }
 }
 
@@ -67,8 +67,8 @@ fn search_left(
 {
     let left = named::count_left(code, named);
     match code::admit_for(code, left, readings, bits.len(), word.len()) {
-        Admitted::Refused(why) => WithRunnerUp::refused(why),
-        Admitted::Allowed(_) => search_sound(code, allowed, named, readings, bits, word),
+        Err(why) => WithRunnerUp::refused(why),
+        Ok(_) => search_sound(code, allowed, named, readings, bits, word),
     }
 }
 

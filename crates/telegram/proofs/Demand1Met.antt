@@ -1,5 +1,5 @@
 -- The telegram's writer, its reader and the reader of information bits meet demand 1: one of the cases holds, and each case has its outcome.
-use Rattle.std.specs.Prelude.{◌≡◌, refl, ◌⊎◌, List, [], cond, not, ℕ, ◌≤◌, ◌<◌, ℤ, length, replicate, ltb, eqb}
+use Rattle.std.specs.Prelude.{◌≡◌, refl, ◌⊎◌, List, [], cond, not, ℕ, ◌≤◌, ◌<◌, ℤ, length, replicate, ltb, eqb, Result, Ok, Err}
 use Rattle.std.proofs.Common.{ap, sym, ◌∙◌, inl, inr, ⊎_elim, arith, eq-eqb, ne_eqb, lt-ltb, le-ltb}
 use Rattle.std.proofs.Math.Decide.{ℕ_discrete}
 use Rattle.numbers.specs.Choice.{lt_or_le}
@@ -16,8 +16,6 @@ use Rattle.search.specs.Demands.{view, SearchDemand1}
 use Rattle.search.proofs.Demand1Met.{search_demand_1}
 use Rattle.telegram.specs.declared.Telegram.{Telegram}
 use Rattle.guarded.specs.declared.Fault.TheVariants.{Link, Marker, Tilt, ZeroTilt, Field}
-use Rattle.telegram.specs.declared.Tested.{Tested}
-use Rattle.telegram.specs.declared.Tested.TheVariants.{Good, Bad}
 use Rattle.telegram.specs.Telegram.{telegram_of, marker_of, word_of}
 use Rattle.telegram.specs.Faults.{largest_cylinder, largest_direction, largest_tilt, TiltGood, Writable, writer_fault, reader_fault}
 use Rattle.telegram.proofs.FaultLaws.{tilt_high, tilt_level, tilt_good, field_beyond, writer_good, read-writable}
@@ -29,6 +27,7 @@ use Rattle.telegram.proofs.OutcomeLaws.{writing_short, writing-tested, reading-f
 use Rattle.telegram.proofs.OutcomeLaws.{bits_short, bits_entry, bits_judged}
 use Rattle.telegram.specs.Demand1.{TooTilted, LevelToPort, BeyondField, TelegramWriteDemand1, ReaderMeets, link_checks, TelegramReadDemand1}
 use Rattle.telegram.specs.Demand1.{bits_checks, TelegramBitsDemand1}
+use Rattle.guarded.specs.declared.Fault.{Fault}
 
 -- ---- the tilt
 data TiltCase (t : Telegram) : Type 0 where
@@ -86,15 +85,15 @@ module _ (t : Telegram) (word : List ℕ) where
   written_by (beyond e g h) = refused Field word
   written_by (good e w) = done (word_of t)
 
-  tested : (x : Tested) → length word ≡ 32 → writer_fault t ≡ x → written ≡ written_if x t word
-  tested x e f = writing-tested t.cylinder t.direction t.tilt word e ∙ ap (λ (x : Tested). written_if x t word) f
+  tested : (x : Result (Unit {0}) Fault) → length word ≡ 32 → writer_fault t ≡ x → written ≡ written_if x t word
+  tested x e f = writing-tested t.cylinder t.direction t.tilt word e ∙ ap (λ (x : Result (Unit {0}) Fault). written_if x t word) f
 
   written_is : (c : WriterCase t word) → written ≡ written_by c
   written_is (short e) = writing_short t.cylinder t.direction t.tilt word e
-  written_is (tilted e h) = tested (Bad Tilt) e (rw (tilt_high t h))
-  written_is (levelled e h) = tested (Bad ZeroTilt) e (rw (tilt_level t h.0 h.1))
-  written_is (beyond e g h) = tested (Bad Field) e (rw (tilt_good t g, field_beyond t h))
-  written_is (good e w) = tested Good e (writer_good t w)
+  written_is (tilted e h) = tested (Err Tilt) e (rw (tilt_high t h))
+  written_is (levelled e h) = tested (Err ZeroTilt) e (rw (tilt_level t h.0 h.1))
+  written_is (beyond e g h) = tested (Err Field) e (rw (tilt_good t g, field_beyond t h))
+  written_is (good e w) = tested (Ok tt) e (writer_good t w)
 
   -- what each number says about the case
   three : (c : WriterCase t word) → (written_by c).carry.number ≡ 3 → length word ≡ 32 → ⊥
@@ -232,18 +231,18 @@ module _ (checks : Checks) (before : List (List ℕ)) (v : View) (checked : Dema
   link_number : (why : Refusal) → First (λ given. given ≡ why) checks → v.number ≡ number_of why
   link_number why f = ap (λ (v : View). v.number) (checked.refused why f)
 
-  judged_as : (x : Tested) → NoneApplies checks → reader_fault (marker_of b) (telegram_of b) ≡ x → o ≡ shown_if x (telegram_of b) p g w
-  judged_as x none e = reports.found (checked.done.1 none) ∙ ap (λ (x : Tested). shown_if x (telegram_of b) p g w) e
+  judged_as : (x : Result (Unit {0}) Fault) → NoneApplies checks → reader_fault (marker_of b) (telegram_of b) ≡ x → o ≡ shown_if x (telegram_of b) p g w
+  judged_as x none e = reports.found (checked.done.1 none) ∙ ap (λ (x : Result (Unit {0}) Fault). shown_if x (telegram_of b) p g w) e
 
   read_is : (c : Case) → o ≡ read_by c
   read_is (linked why f) =
       reports.other (λ z. omega (arith, z, link_number why f, number_above why))
       ∙ ap (λ (v : View). record { carry = carrying v.number v.place v.penalty v.visits; gap = v.gap; telegram = no_telegram })
       (checked.refused why f)
-  read_is (marked none m) = judged_as (Bad Marker) none (rw m)
-  read_is (inclined none m h) = judged_as (Bad Tilt) none (rw (m, tilt_high (telegram_of b) h))
-  read_is (upright none m h) = judged_as (Bad ZeroTilt) none (rw (m, tilt_level (telegram_of b) h.0 h.1))
-  read_is (clear none m g) = judged_as Good none (rw (m, tilt_good (telegram_of b) g))
+  read_is (marked none m) = judged_as (Err Marker) none (rw m)
+  read_is (inclined none m h) = judged_as (Err Tilt) none (rw (m, tilt_high (telegram_of b) h))
+  read_is (upright none m h) = judged_as (Err ZeroTilt) none (rw (m, tilt_level (telegram_of b) h.0 h.1))
+  read_is (clear none m g) = judged_as (Ok tt) none (rw (m, tilt_good (telegram_of b) g))
 
   -- what each number says about the case
   below_thirteen : (c : Case) (n : ℕ) → 0 < n → n < 13 → (read_by c).carry.number ≡ n → First (λ why. number_of why ≡ n) checks

@@ -1,5 +1,5 @@
 -- Laws of the faults: what numbers the tests give, and which telegrams have none.
-use Rattle.std.specs.Prelude.{◌≡◌, refl, ◌&&◌, ◌⊎◌, ℕ, ◌≤◌, ◌<◌, ltb, eqb}
+use Rattle.std.specs.Prelude.{◌≡◌, refl, ◌&&◌, ◌⊎◌, ℕ, ◌≤◌, ◌<◌, ltb, eqb, Result, Ok, Err}
 use Rattle.std.proofs.Common.{ap, sym, ◌∙◌, inl, inr, ⊎_elim, arith, lt-ltb, le-ltb, eq-eqb, ne_eqb}
 use Rattle.std.proofs.Math.Decide.{ℕ_discrete}
 use Rattle.numbers.specs.Choice.{lt_or_le, cond_by}
@@ -7,49 +7,48 @@ use Rattle.telegram.specs.declared.Telegram.{Telegram}
 use Rattle.guarded.specs.declared.Fault.TheVariants.{Marker, Tilt, ZeroTilt, Field}
 use Rattle.guarded.specs.Faults.{fault_carries}
 use Rattle.guarded.specs.FaultLaws.{fault_above}
-use Rattle.telegram.specs.declared.Tested.{Tested}
-use Rattle.telegram.specs.declared.Tested.TheVariants.{Good, Bad}
 use Rattle.telegram.specs.Faults.{largest_cylinder, largest_direction, largest_tilt, tilt_fault, field_fault, marker_fault, writer_fault, reader_fault}
 use Rattle.telegram.specs.Faults.{before, TiltGood, Writable}
 use Rattle.telegram.specs.TelegramLaws.{Fits}
+use Rattle.guarded.specs.declared.Fault.{Fault}
 
 -- ---- what the tests find has one of the telegram's own numbers
-abbrev pub Own : Tested → Type 0
-Own Good = Unit {0}
-Own (Bad why) = 13 ≤ (fault_carries why).number
+abbrev pub Own : Result (Unit {0}) Fault → Type 0
+Own (Ok _) = Unit {0}
+Own (Err why) = 13 ≤ (fault_carries why).number
 
-own-before : (x y : Tested) → Own x → Own y → Own (before x y)
-own-before Good y a b = b
-own-before (Bad why) y a b = a
+own-before : (x y : Result (Unit {0}) Fault) → Own x → Own y → Own (before x y)
+own-before (Ok _) y a b = b
+own-before (Err why) y a b = a
 
 module _ (t : Telegram) where
   own_tilt : Own (tilt_fault t)
   own_tilt =
-      cond_by Own (ltb largest_tilt t.tilt) (Bad Tilt) _ (λ e. omega arith)
-      (λ e. cond_by Own (eqb t.tilt 0 && eqb t.direction 1) (Bad ZeroTilt) Good (λ f. omega arith) (λ f. tt))
+      cond_by Own (ltb largest_tilt t.tilt) (Err Tilt) _ (λ e. omega arith)
+      (λ e. cond_by Own (eqb t.tilt 0 && eqb t.direction 1) (Err ZeroTilt) (Ok tt) (λ f. omega arith) (λ f. tt))
 
   pub own_reader : (marker : ℕ) → Own (reader_fault marker t)
-  own_reader marker = own-before (marker_fault marker) (tilt_fault t) (cond_by Own (eqb marker 0) Good (Bad Marker) (λ e. tt) (λ e. omega arith)) own_tilt
+  own_reader marker = own-before (marker_fault marker) (tilt_fault t) (cond_by Own (eqb marker 0) (Ok tt) (Err Marker) (λ e. tt) (λ e. omega arith)) own_tilt
 
 -- ---- the telegrams that have no fault
 -- 0 if the tests find nothing, else the fault's number
-abbrev test_number : Tested → ℕ
-test_number Good = 0
-test_number (Bad why) = (fault_carries why).number
+abbrev test_number : Result (Unit {0}) Fault → ℕ
+test_number (Ok _) = 0
+test_number (Err why) = (fault_carries why).number
 
-good_before : (x y : Tested) → before x y ≡ Good → (x ≡ Good) × (y ≡ Good)
-good_before Good y e = (refl, e)
-good_before (Bad why) y e = absurd (omega (arith, ap test_number e, fault_above why))
+good_before : (x y : Result (Unit {0}) Fault) → before x y ≡ (Ok tt) → (x ≡ (Ok tt)) × (y ≡ (Ok tt))
+good_before (Ok _) y e = (refl, e)
+good_before (Err why) y e = absurd (omega (arith, ap test_number e, fault_above why))
 
 module _ (t : Telegram) where
   -- each test when it finds its fault
-  pub tilt_high : largest_tilt < t.tilt → tilt_fault t ≡ Bad Tilt
+  pub tilt_high : largest_tilt < t.tilt → tilt_fault t ≡ Err Tilt
   tilt_high h = rw (lt-ltb largest_tilt t.tilt h)
 
-  pub tilt_level : t.tilt ≡ 0 → t.direction ≡ 1 → tilt_fault t ≡ Bad ZeroTilt
+  pub tilt_level : t.tilt ≡ 0 → t.direction ≡ 1 → tilt_fault t ≡ Err ZeroTilt
   tilt_level z d = rw (le-ltb largest_tilt t.tilt (omega arith), eq-eqb t.tilt 0 z, eq-eqb t.direction 1 d)
 
-  pub field_beyond : (largest_cylinder < t.cylinder) ⊎ (largest_direction < t.direction) → field_fault t ≡ Bad Field
+  pub field_beyond : (largest_cylinder < t.cylinder) ⊎ (largest_direction < t.direction) → field_fault t ≡ Err Field
   field_beyond x =
       ⊎_elim
       (λ h. rw (lt-ltb largest_cylinder t.cylinder h))
@@ -59,14 +58,14 @@ module _ (t : Telegram) where
       (lt_or_le largest_cylinder t.cylinder))
       x
 
-  pub tilt_good : TiltGood t → tilt_fault t ≡ Good
+  pub tilt_good : TiltGood t → tilt_fault t ≡ (Ok tt)
   tilt_good g =
       elim (ℕ_discrete t.tilt 0) [
         | yes z ↦ rw (le-ltb largest_tilt t.tilt g.small, eq-eqb t.tilt 0 z, ne_eqb t.direction 1 (g.zero_level z))
         | no z ↦ rw (le-ltb largest_tilt t.tilt g.small, ne_eqb t.tilt 0 z)
       ]
 
-  good_tilt : tilt_fault t ≡ Good → TiltGood t
+  good_tilt : tilt_fault t ≡ (Ok tt) → TiltGood t
   good_tilt e =
       ⊎_elim
       (λ h. absurd (omega (arith, ap test_number (sym (tilt_high h) ∙ e))))
@@ -77,7 +76,7 @@ module _ (t : Telegram) where
       })
       (lt_or_le largest_tilt t.tilt)
 
-  good_field : field_fault t ≡ Good → (t.cylinder ≤ largest_cylinder) × (t.direction ≤ largest_direction)
+  good_field : field_fault t ≡ (Ok tt) → (t.cylinder ≤ largest_cylinder) × (t.direction ≤ largest_direction)
   good_field e =
       ⊎_elim
       (λ h. absurd (omega (arith, ap test_number (sym (field_beyond (inl h)) ∙ e))))
@@ -92,7 +91,7 @@ module _ (t : Telegram) where
   tilt_writable w = record { small = w.tilt_small; zero_level = λ z d. omega (arith, w.zero_level z) }
 
   -- the writer's tests
-  pub writer_good : Writable t → writer_fault t ≡ Good
+  pub writer_good : Writable t → writer_fault t ≡ (Ok tt)
   writer_good w =
       rw (
         tilt_good (tilt_writable w),
@@ -100,7 +99,7 @@ module _ (t : Telegram) where
         le-ltb largest_direction t.direction w.direction_small,
       )
 
-  pub good_writer : writer_fault t ≡ Good → Writable t
+  pub good_writer : writer_fault t ≡ (Ok tt) → Writable t
   good_writer e =
       let b = good_before (tilt_fault t) (field_fault t) e in
       let g = good_tilt b.0 in
@@ -114,15 +113,15 @@ module _ (t : Telegram) where
       }
 
   -- the reader's
-  pub reader_good : Writable t → reader_fault 0 t ≡ Good
+  pub reader_good : Writable t → reader_fault 0 t ≡ (Ok tt)
   reader_good w = tilt_good (tilt_writable w)
 
-  pub good_reader : (k : ℕ) → reader_fault k t ≡ Good → (k ≡ 0) × TiltGood t
+  pub good_reader : (k : ℕ) → reader_fault k t ≡ (Ok tt) → (k ≡ 0) × TiltGood t
   good_reader k e =
       let b = good_before (marker_fault k) (tilt_fault t) e in
       elim (ℕ_discrete k 0) [
         | yes z ↦ (z, good_tilt b.1)
-        | no z ↦ let bad : marker_fault k ≡ Bad Marker = rw (ne_eqb k 0 z) in absurd (omega (arith, ap test_number (sym bad ∙ b.0)))
+        | no z ↦ let bad : marker_fault k ≡ Err Marker = rw (ne_eqb k 0 z) in absurd (omega (arith, ap test_number (sym bad ∙ b.0)))
       ]
 
 -- a telegram that the writer accepts has room in its fields

@@ -1,5 +1,5 @@
 -- The outcome at each place where the writer and the reader return, by what the encoder and the search promise.
-use Rattle.std.specs.Prelude.{◌≡◌, refl, List, ◌++◌, ℕ, ◌≤◌, ◌<◌, ℤ, length, take, drop, replicate}
+use Rattle.std.specs.Prelude.{◌≡◌, refl, List, ◌++◌, ℕ, ◌≤◌, ◌<◌, ℤ, length, take, drop, replicate, Result, Ok, Err}
 use Rattle.std.proofs.Math.Path.{ap}
 use Rattle.std.proofs.Common.{sym, subst, ◌∙◌, arith}
 use borrow.Author.Tests.{eq-eqb, ne_eqb, lt-ltb, le-ltb}
@@ -19,8 +19,6 @@ use Rattle.code.specs.EntriesLaws.{first-none}
 use Rattle.code.specs.SoundInput.{SoundReadings}
 use Rattle.code.specs.RefusalLaws.{number_above}
 use Rattle.code.specs.AdmittedLaws.{allows, refuses, decided}
-use Rattle.code.specs.declared.Completed.{Completed}
-use Rattle.code.specs.declared.Completed.TheVariants as encode
 use Rattle.encode.specs.Outcome as Encode
 use Rattle.encode.specs.OutcomeLaws.{sound_encoding}
 use Rattle.search.specs.Outcome as Search
@@ -72,11 +70,11 @@ module _ (t : Telegram) (x : List ℕ) (cylinder : x ≡ digits 3 t.cylinder) wh
       bits_put = rw (tilt, direction, cylinder)
 
 -- the encoder writes the telegram's word
-outcome_buffer : (a : Completed) (x : List ℕ) → (Encode.outcome_of a x).buffer ≡ x
-outcome_buffer encode.Done x = refl
-outcome_buffer (encode.Refused why) x = refl
+outcome_buffer : (a : Result (Unit {0}) Refusal) (x : List ℕ) → (Encode.outcome_of a x).buffer ≡ x
+outcome_buffer (Ok _) x = refl
+outcome_buffer (Err why) x = refl
 
-pub word-written : (t : Telegram) (word : List ℕ) → length word ≡ 32 → (a : Completed) (x : List ℕ)
+pub word-written : (t : Telegram) (word : List ℕ) → length word ≡ 32 → (a : Result (Unit {0}) Refusal) (x : List ℕ)
     → Encode.outcome_of a x ≡ Encode.encoding 2 5 (telegram_bits t) word → x ≡ word_of t
 word-written t word e a x is =
     let done =

@@ -1,5 +1,5 @@
 -- The theorems on telegrams hold: by what the encoder and the search promise, and by the demands.
-use Rattle.std.specs.Prelude.{◌≡◌, refl, ◌⊎◌, ◌↔◌, List, [], ◌∷◌, ◌++◌, ℕ, ◌+◌, ◌-◌, ◌*◌, ◌/◌, ◌%◌, ◌≤◌, ◌<◌, ℤ, length, replicate}
+use Rattle.std.specs.Prelude.{◌≡◌, refl, ◌⊎◌, ◌↔◌, List, [], ◌∷◌, ◌++◌, ℕ, ◌+◌, ◌-◌, ◌*◌, ◌/◌, ◌%◌, ◌≤◌, ◌<◌, ℤ, length, replicate, Result, Ok, Err}
 use Rattle.std.proofs.Common.{ap, ap₂, sym, subst, ◌∙◌, inl, inr, ⊎_elim, arith, eq-eqb, ne_eqb}
 use Rattle.std.proofs.Math.Decide.{ℕ_discrete}
 use Rattle.std.proofs.Math.IntN.{neg_ℤ-neg_ℤ}
@@ -25,8 +25,6 @@ use Rattle.search.specs.RunnerUp.{RunnerUpOutcome}
 use Rattle.search.specs.DemandsMet.{larger_allowance, outcome_demands}
 use Rattle.telegram.specs.declared.Telegram.{Telegram}
 use Rattle.guarded.specs.declared.Fault.TheVariants.{Link, Marker}
-use Rattle.telegram.specs.declared.Tested.{Tested}
-use Rattle.telegram.specs.declared.Tested.TheVariants.{Good, Bad}
 use Rattle.telegram.specs.Telegram.{bits_with, telegram_bits, telegram_of, marker_of}
 use Rattle.telegram.specs.TelegramLaws.{length_bits, bits_bits, marker_bits, telegram_bits_lem, fits_telegram, bits_telegram}
 use Rattle.telegram.specs.Faults.{Writable, writer_fault, reader_fault}
@@ -43,6 +41,7 @@ use Rattle.telegram.specs.Demand1.{link_checks}
 use Rattle.telegram.proofs.Demand1Met.{telegram_read_demand_1, unmarked}
 use Rattle.telegram.specs.Theorems.{Finds, turned, WriteTheorems, TelegramLargerAllowance, ReadTheorems, TurnedTheorems, NeverShown, TurnedOver}
 use Rattle.telegram.specs.Theorems.{with_numbers, said_after, BitsTheorems, telegrams, ordinal, Counted, Theorems}
+use Rattle.guarded.specs.declared.Fault.{Fault}
 
 -- ---- words of RM(2,5)
 taken_bits : TakenBack → List ℕ
@@ -70,9 +69,9 @@ ones-word =
     record { bits = marker_alone; long = sym sum_25; are_bits = bits_more (replicate 15 0) 1 (bits_zeros 15) (omega arith); gives = refl }
 
 -- ---- the writer
-written_good : (x : Tested) (t : Telegram) (word : List ℕ) → (written_if x t word).carry.number ≡ 0 → x ≡ Good
-written_good Good t word e = refl
-written_good (Bad why) t word e = absurd (omega (arith, fault_above why))
+written_good : (x : Result (Unit {0}) Fault) (t : Telegram) (word : List ℕ) → (written_if x t word).carry.number ≡ 0 → x ≡ (Ok tt)
+written_good (Ok _) t word e = refl
+written_good (Err why) t word e = absurd (omega (arith, fault_above why))
 
 write_theorems : WriteTheorems
 write_theorems =
@@ -80,7 +79,7 @@ write_theorems =
       accepts = λ t word e.
           let is = writing-tested t.cylinder t.direction t.tilt word e in (
             λ w. good_writer t (written_good (writer_fault t) t word (ap (λ (o : WriteOutcome). o.carry.number) (sym is ∙ w))),
-            λ w. is ∙ ap (λ (x : Tested). written_if x t word) (writer_good t w),
+            λ w. is ∙ ap (λ (x : Result (Unit {0}) Fault). written_if x t word) (writer_good t w),
           );
       one_word = λ t t' w w' e.
           sym (telegram_bits_lem 0 t (writable_fits w))
@@ -92,7 +91,7 @@ write_theorems =
 judged-upright : (t : Telegram) → Writable t → (p g v : ℕ) → judged (telegram_bits t) p g v ≡ showing t p g v
 judged-upright t w p g v =
     ap₂ (λ (k : ℕ) (u : Telegram). shown_if (reader_fault k u) u p g v) (marker_bits 0 t) (telegram_bits_lem 0 t (writable_fits w))
-    ∙ ap (λ (x : Tested). shown_if x t p g v) (reader_good t w)
+    ∙ ap (λ (x : Result (Unit {0}) Fault). shown_if x t p g v) (reader_good t w)
 
 judged-turned : (t : Telegram) (p g v : ℕ) → judged (xors (telegram_bits t) marker_alone) p g v ≡ faulted Marker
 unfolding digits
@@ -191,14 +190,14 @@ never_shown t w l allowed allowed' h =
     (lt_or_le allowed' (needed 5 (kinds 2 5) (turned l)))
 
 -- ---- what is read
-shown_good : (x : Tested) (t : Telegram) (p g v : ℕ) → (shown_if x t p g v).carry.number ≡ 0 → x ≡ Good
-shown_good Good t p g v e = refl
-shown_good (Bad why) t p g v e = absurd (omega (arith, fault_above why))
+shown_good : (x : Result (Unit {0}) Fault) (t : Telegram) (p g v : ℕ) → (shown_if x t p g v).carry.number ≡ 0 → x ≡ (Ok tt)
+shown_good (Ok _) t p g v e = refl
+shown_good (Err why) t p g v e = absurd (omega (arith, fault_above why))
 
 -- no test of the reader gives 6
-shown-own : (x : Tested) (t : Telegram) (p g v : ℕ) → Own x → (shown_if x t p g v).carry.number ≡ 6 → ⊥
-shown-own Good t p g v o e = omega arith
-shown-own (Bad why) t p g v o e = omega arith
+shown-own : (x : Result (Unit {0}) Fault) (t : Telegram) (p g v : ℕ) → Own x → (shown_if x t p g v).carry.number ≡ 6 → ⊥
+shown-own (Ok _) t p g v o e = omega arith
+shown-own (Err why) t p g v o e = omega arith
 
 module _ (allowed : ℕ) (l : List ℤ) (n : (link_search allowed l).number ≡ 0) where
   abbrev b : List ℕ
@@ -216,7 +215,7 @@ module _ (allowed : ℕ) (l : List ℤ) (n : (link_search allowed l).number ≡ 
       let good = shown_good (reader_fault (marker_of b) t) t o.penalty o.gap o.visits (ap (λ (r : ReadOutcome). r.carry.number) (sym is) ∙ z) in
       let g = good_reader t (marker_of b) good in
       let says : (reading_telegram allowed l).telegram ≡ t =
-      ap (λ (r : ReadOutcome). r.telegram) (is ∙ ap (λ (x : Tested). shown_if x t o.penalty o.gap o.visits) good) in
+      ap (λ (r : ReadOutcome). r.telegram) (is ∙ ap (λ (x : Result (Unit {0}) Fault). shown_if x t o.penalty o.gap o.visits) good) in
       let whole : telegram_bits t ≡ b = ap (λ (k : ℕ). bits_with k t) (sym g.0) ∙ bits_telegram b long bits in
       rw says (
         read-writable (fits_telegram b long bits) g.1,
@@ -235,9 +234,9 @@ read_six allowed l e =
     ]
 
 -- ---- information bits
-numbers-beside : (x : Tested) (t : Telegram) (p g v : ℕ) → with_numbers p g v (shown_if x t 0 0 0) ≡ shown_if x t p g v
-numbers-beside Good t p g v = refl
-numbers-beside (Bad why) t p g v = rw (ne_eqb (fault_carries why).number 0 (λ z. omega (arith, z, fault_above why)))
+numbers-beside : (x : Result (Unit {0}) Fault) (t : Telegram) (p g v : ℕ) → with_numbers p g v (shown_if x t 0 0 0) ≡ shown_if x t p g v
+numbers-beside (Ok _) t p g v = refl
+numbers-beside (Err why) t p g v = rw (ne_eqb (fault_carries why).number 0 (λ z. omega (arith, z, fault_above why)))
 
 reader_after_search : (allowed : ℕ) (l : List ℤ) → reading_telegram allowed l ≡ said_after (link_search allowed l)
 reader_after_search allowed l =
@@ -276,7 +275,7 @@ module _ (b : List ℕ) (z : (reading_bits b).carry.number ≡ 0) where
       let good = shown_good (reader_fault (marker_of b) t) t 0 0 0 (ap (λ (r : ReadOutcome). r.carry.number) (sym is) ∙ z) in
       let g = good_reader t (marker_of b) good in
       let says : (reading_bits b).telegram ≡ t =
-      ap (λ (r : ReadOutcome). r.telegram) (is ∙ ap (λ (x : Tested). shown_if x t 0 0 0) good) in
+      ap (λ (r : ReadOutcome). r.telegram) (is ∙ ap (λ (x : Result (Unit {0}) Fault). shown_if x t 0 0 0) good) in
       let whole : telegram_bits t ≡ b = ap (λ (k : ℕ). bits_with k t) (sym g.0) ∙ bits_telegram b long bits in (
         subst Writable (sym says) (read-writable (fits_telegram b long bits) g.1),
         sym whole ∙ ap telegram_bits (sym says),

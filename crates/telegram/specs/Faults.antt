@@ -1,9 +1,8 @@
 -- What is wrong with a telegram, in the order in which it is looked for: the writer's tests 14, 15, 16 and the reader's 13, 14, 15.
-use Rattle.std.specs.Prelude.{cond, ◌&&◌, ◌||◌, ◌≡◌, ℕ, ◌≤◌, ltb, eqb}
+use Rattle.std.specs.Prelude.{cond, ◌&&◌, ◌||◌, ◌≡◌, ℕ, ◌≤◌, ltb, eqb, Result, Ok, Err}
 use Rattle.telegram.specs.declared.Telegram.{Telegram}
 use Rattle.guarded.specs.declared.Fault.TheVariants.{Marker, Tilt, ZeroTilt, Field}
-use Rattle.telegram.specs.declared.Tested.{Tested}
-use Rattle.telegram.specs.declared.Tested.TheVariants.{Good, Bad}
+use Rattle.guarded.specs.declared.Fault.{Fault}
 
 -- the limits; nothing else repeats them
 abbrev pub largest_cylinder : ℕ
@@ -18,25 +17,25 @@ largest_tilt = 1500
 
 -- ---- the tests
 -- 14: the tilt is above the largest; then 15: a tilt of zero with direction 1
-abbrev pub tilt_fault : Telegram → Tested
-tilt_fault t = cond (ltb largest_tilt t.tilt) (Bad Tilt) (cond (eqb t.tilt 0 && eqb t.direction 1) (Bad ZeroTilt) Good)
+abbrev pub tilt_fault : Telegram → Result (Unit {0}) Fault
+tilt_fault t = cond (ltb largest_tilt t.tilt) (Err Tilt) (cond (eqb t.tilt 0 && eqb t.direction 1) (Err ZeroTilt) (Ok tt))
 
 -- 16: a cylinder or a direction above the largest
-abbrev pub field_fault : Telegram → Tested
-field_fault t = cond (ltb largest_cylinder t.cylinder || ltb largest_direction t.direction) (Bad Field) Good
+abbrev pub field_fault : Telegram → Result (Unit {0}) Fault
+field_fault t = cond (ltb largest_cylinder t.cylinder || ltb largest_direction t.direction) (Err Field) (Ok tt)
 
 -- 13: the marker is set
-abbrev pub marker_fault : ℕ → Tested
-marker_fault marker = cond (eqb marker 0) Good (Bad Marker)
+abbrev pub marker_fault : ℕ → Result (Unit {0}) Fault
+marker_fault marker = cond (eqb marker 0) (Ok tt) (Err Marker)
 
-abbrev pub before : Tested → Tested → Tested
-before (Bad why) next = Bad why
-before Good next = next
+abbrev pub before : Result (Unit {0}) Fault → Result (Unit {0}) Fault → Result (Unit {0}) Fault
+before (Err why) next = Err why
+before (Ok _) next = next
 
-abbrev pub writer_fault : Telegram → Tested
+abbrev pub writer_fault : Telegram → Result (Unit {0}) Fault
 writer_fault t = before (tilt_fault t) (field_fault t)
 
-abbrev pub reader_fault : ℕ → Telegram → Tested
+abbrev pub reader_fault : ℕ → Telegram → Result (Unit {0}) Fault
 reader_fault marker t = before (marker_fault marker) (tilt_fault t)
 
 -- what the tests 14 and 15 let through

@@ -1,5 +1,5 @@
 -- What the writer and the reader report and leave, for every input.
-use Rattle.std.specs.Prelude.{List, cond, not, ℕ, ℤ, length, replicate, ltb, eqb}
+use Rattle.std.specs.Prelude.{List, cond, not, ℕ, ℤ, length, replicate, ltb, eqb, Result, Ok, Err}
 use Rattle.code.specs.declared.Refusal.TheVariants.{InputLength, OutputLength, Entry}
 use Rattle.code.specs.Sound.{Carried, carrying}
 use Rattle.code.specs.Entries.{first_bad_bit}
@@ -9,17 +9,14 @@ use Rattle.guarded.specs.declared.Fault.TheVariants.{Link}
 use Rattle.guarded.specs.Faults.{fault_carries}
 use Rattle.guarded.specs.Written.{WriteOutcome, done, refused}
 use Rattle.telegram.specs.declared.Telegram.{Telegram}
-use Rattle.telegram.specs.declared.Tested.{Tested}
-use Rattle.telegram.specs.declared.Tested.TheVariants.{Good, Bad}
 use Rattle.telegram.specs.declared.Heard.{Heard}
-use Rattle.telegram.specs.declared.Heard.TheVariants as hear
 use Rattle.telegram.specs.Telegram.{telegram_of, marker_of, word_of}
 use Rattle.telegram.specs.Faults.{writer_fault, reader_fault}
 
 -- ---- the writer
-abbrev pub written_if : Tested → Telegram → List ℕ → WriteOutcome
-written_if Good t word = done (word_of t)
-written_if (Bad why) t word = refused why word
+abbrev pub written_if : Result (Unit {0}) Fault → Telegram → List ℕ → WriteOutcome
+written_if (Ok _) t word = done (word_of t)
+written_if (Err why) t word = refused why word
 
 -- from cylinder, direction, tilt, and the buffer for the word: 3, then the writer's tests
 unfoldable pub writing_telegram : ℕ → ℕ → ℕ → List ℕ → WriteOutcome
@@ -45,13 +42,13 @@ abbrev pub faulted : Fault → ReadOutcome
 faulted why = record { carry = fault_carries why; gap = 0; telegram = no_telegram }
 
 -- the answer in the rules' numbers
-abbrev pub outcome_of : Heard → ReadOutcome
-outcome_of (hear.Shown t penalty gap visits) = showing t penalty gap visits
-outcome_of (hear.Refused why) = faulted why
+abbrev pub outcome_of : Result Heard Fault → ReadOutcome
+outcome_of (SHOWN t penalty gap visits) = showing t penalty gap visits
+outcome_of (Err why) = faulted why
 
-abbrev pub shown_if : Tested → Telegram → ℕ → ℕ → ℕ → ReadOutcome
-shown_if Good t penalty gap visits = showing t penalty gap visits
-shown_if (Bad why) t penalty gap visits = faulted why
+abbrev pub shown_if : Result (Unit {0}) Fault → Telegram → ℕ → ℕ → ℕ → ReadOutcome
+shown_if (Ok _) t penalty gap visits = showing t penalty gap visits
+shown_if (Err why) t penalty gap visits = faulted why
 
 -- from the information bits that the search found, and their penalty, gap and visits: the reader's tests
 abbrev pub judged : List ℕ → ℕ → ℕ → ℕ → ReadOutcome

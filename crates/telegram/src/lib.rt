@@ -13,8 +13,8 @@ ghost use Rattle.telegram.specs.Outcome.{outcome_of, judged, reading_telegram, r
 
 use code::Refusal;
 use guarded::number_of;
-pub use guarded::{Fault, Written};
-use search::Searched;
+use search::Found;
+pub use guarded::Fault;
 
 // What the tilt head says. Direction 1 is to port; the tilt is in hundredths of a degree.
 #[derive(Clone, Copy)]
@@ -37,67 +37,45 @@ impl Telegram {
     pub const BITS: usize = 16;
 }
 
-// What the tests on a telegram's fields say.
+// What a reader shows: the telegram, and what the search says of its word.
 #[derive(Clone, Copy)]
-pub enum Tested {
-    Good,
-    Bad(Fault),
-}
-
-#[derive(Clone, Copy)]
-pub enum Heard {
-    Shown {
-        telegram: Telegram,
-        penalty: u32,
-        gap: u32,
-        visits: u32,
-    },
-    Refused(Fault),
+pub struct Heard {
+    pub telegram: Telegram,
+    pub found: Found,
 }
 
 // Writes the telegram's word into the lent buffer.
-pub fn write(cylinder: u32, direction: u32, tilt: u32, word: &mut [u8]) -> Written
+pub fn write(cylinder: u32, direction: u32, tilt: u32, word: &mut [u8]) -> Result<(), Fault>
     ensures { written_outcome_of result word.new
         ≡ writing_telegram cylinder direction tilt word.old }
 {
     if word.len() != Telegram::LENGTH {
-        return Written::Refused(Fault::Link(Refusal::OutputLength));
+        return Err(Refusal::OutputLength.into());
     }
     let telegram = Telegram {
         cylinder,
         direction,
         tilt,
     };
-    match writer_fault(telegram) {
-        Tested::Bad(why) => Written::Refused(why),
-        Tested::Good => {
-            put_word(telegram, word);
-            Written::Done
-        }
-    }
+    writer_fault(telegram)?;
+    put_word(telegram, word);
+    Ok(())
 }
 
 // The telegram of the best word for the readings, or why there is none to show.
-pub fn read_within(allowed: u32, readings: &[i16]) -> Heard
+pub fn read_within(allowed: u32, readings: &[i16]) -> Result<Heard, Fault>
     ensures { outcome_of result ≡ reading_telegram allowed readings.now }
 {
-    let mut found = [0u8; 16];
+    let mut bits = [0u8; 16];
     let mut word = [0u8; 32];
-    let answer = search::search_within(2, 5, allowed, readings, &mut found, &mut word);
+    let answer = search::search_within(2, 5, allowed, readings, &mut bits, &mut word);
     // nothing of its runner-up is shown
-    let result = answer.result;
-    match result {
-        Searched::Refused(why) => Heard::Refused(Fault::Link(why)),
-        Searched::Found {
-            penalty,
-            gap,
-            visits,
-        } => judge(&found, penalty, gap, visits),
-    }
+    let found = answer.result?;
+    judge(&bits, found)
 }
 
 // The same, with the default allowance.
-pub fn read(readings: &[i16]) -> Heard
+pub fn read(readings: &[i16]) -> Result<Heard, Fault>
     ensures { outcome_of result
         ≡ reading_telegram default_allowance readings.now }
 {
@@ -105,64 +83,66 @@ pub fn read(readings: &[i16]) -> Heard
 }
 
 // What 16 information bits say, for example those of a runner-up: the reader without its search.
-pub fn of_bits(bits: &[u8]) -> Heard
+pub fn of_bits(bits: &[u8]) -> Result<Heard, Fault>
     ensures { outcome_of result ≡ reading_bits bits.now }
 {
     if bits.len() != Telegram::BITS {
-        return Heard::Refused(Fault::Link(Refusal::InputLength));
+        return Err(Refusal::InputLength.into());
     }
-    let place = code::first_bad_bit(bits);
-    if place < bits.len() {
-        return Heard::Refused(Fault::Link(Refusal::Entry(place)));
-    }
-    judge(bits, 0, 0, 0)
+    code::test_bits(bits)?;
+    judge(
+        bits,
+        Found {
+            penalty: 0,
+            gap: 0,
+            visits: 0,
+        },
+    )
 }
 
 // ---- tests
 // Tests 14 and 15.
-fn tilt_fault(telegram: Telegram) -> Tested
+fn tilt_fault(telegram: Telegram) -> Result<(), Fault>
     ensures { result ≡ tilt_fault telegram }
 {
     if Telegram::LARGEST_TILT < telegram.tilt {
-        return Tested::Bad(Fault::Tilt);
+        return Err(Fault::Tilt);
     }
     if telegram.tilt == 0 {
         if telegram.direction == 1 {
-            return Tested::Bad(Fault::ZeroTilt);
+            return Err(Fault::ZeroTilt);
         }
     }
-    Tested::Good
+    Ok(())
 }
 
 // The writer's: 14, 15, 16.
-fn writer_fault(telegram: Telegram) -> Tested
+fn writer_fault(telegram: Telegram) -> Result<(), Fault>
     ensures { result ≡ writer_fault telegram }
 {
-    match tilt_fault(telegram) {
-        Tested::Bad(why) => Tested::Bad(why),
-        Tested::Good => field_fault(telegram),
-    }
+    tilt_fault(telegram)?;
+    field_fault(telegram)
 }
 
 // Test 16.
-fn field_fault(telegram: Telegram) -> Tested
+fn field_fault(telegram: Telegram) -> Result<(), Fault>
     ensures { result ≡ field_fault telegram }
 {
     if Telegram::LARGEST_CYLINDER < telegram.cylinder {
-        return Tested::Bad(Fault::Field);
+        return Err(Fault::Field);
     }
     if Telegram::LARGEST_DIRECTION < telegram.direction {
-        return Tested::Bad(Fault::Field);
+        return Err(Fault::Field);
     }
-    Tested::Good
+    Ok(())
 }
 
 // The reader's: 13, 14, 15.
-fn reader_fault(marker: u8, telegram: Telegram) -> Tested
+fn reader_fault(marker: u8, telegram: Telegram) -> Result<(), Fault>
     ensures { result ≡ reader_fault marker telegram }
 {
     if marker != 0 {
-        return Tested::Bad(Fault::Marker);
+        return Err(Fault::Marker);
     }
     tilt_fault(telegram)
 }
@@ -174,11 +154,9 @@ fn put_number(number: u32, bits: &mut [u8])
     ensures { bits.new ≡ digits (length bits.old) number }
 {
     let n = bits.len();
-    let mut i = 0;
-    while i < n {
+    for i in 0..n {
         let above = number >> (n - 1 - i);
         bits[i] = (above % 2) as u8;
-        i += 1;
     }
 }
 
@@ -210,18 +188,12 @@ fn telegram_of(bits: &[u8]) -> Telegram
 }
 
 // Shows the telegram of the bits that the search found, unless a fault forbids it.
-fn judge(bits: &[u8], penalty: u32, gap: u32, visits: u32) -> Heard
+fn judge(bits: &[u8], found: Found) -> Result<Heard, Fault>
     requires { Bits bits.now × (length bits.now ≡ 16) }
-    ensures { outcome_of result ≡ judged bits.now penalty gap visits }
+    ensures { outcome_of result
+        ≡ judged bits.now found.penalty found.gap found.visits }
 {
     let telegram = telegram_of(bits);
-    match reader_fault(bits[15], telegram) {
-        Tested::Bad(why) => Heard::Refused(why),
-        Tested::Good => Heard::Shown {
-            telegram,
-            penalty,
-            gap,
-            visits,
-        },
-    }
+    reader_fault(bits[15], telegram)?;
+    Ok(Heard { telegram, found })
 }

@@ -6,8 +6,5 @@ use lib.ListN.{length}
 use Rattle.code.specs.EntriesLaws.{Asked, ask_more, asked_all}
 use Rattle.code.proofs.some_bad_bit.Given as goal
 
-abbrev pub invariant-loop-i : goal.invariant-loop-i
-invariant-loop-i l = Asked 0 (λ b. b) 1 l.bits l.i l.some
-
-abbrev pub decreases-loop-i : goal.decreases-loop-i
-decreases-loop-i l = length l.bits - l.i
+abbrev pub invariant-loop-bit : goal.invariant-loop-bit
+invariant-loop-bit l = Asked 0 (λ b. b) 1 l.bits l.bit-index l.some

@@ -11,22 +11,22 @@ use Rattle.code.specs.EntriesLaws.{Asked, ask_more, asked_all}
 use Rattle.numbers.specs.Parts.{up}
 use Rattle.code.proofs.some_beyond.Goals as goal
 
-pub loop-i-init : goal.loop-i-init
-loop-i-init c = (omega arith, refl)
+pub loop-reading-init : goal.loop-reading-init
+loop-reading-init c = (omega arith, refl)
 
 pub beyond-some-requires : goal.beyond-some-requires
 beyond-some-requires c = let s = c.before.before.before in rw (to_z-of_z s.ranges.largest) s.requires
 
-pub loop-i-preserved : goal.loop-i-preserved
-loop-i-preserved c =
+pub loop-reading-preserved : goal.loop-reading-preserved
+loop-reading-preserved c =
     let s = c.before.before.before.before in
-    let l = c.loop-i in
+    let l = c.loop-reading in
     let is = rw (to_z-of_z s.ranges.largest, to_z-of_z (record { sfits = c.beyond-arg-1.given })) at c.beyond-some.ensures in
     let asked = rw (to_z-of_z s.ranges.largest) at l.invariant in
-    rw (is, to_z-of_z s.ranges.largest) (ask_more (pos 0) nat_abs (up s.args.largest) s.args.readings.now l.i l.some (omega arith) asked)
+    rw (is, to_z-of_z s.ranges.largest) (ask_more (pos 0) nat_abs (up s.args.largest) s.args.readings.now l.reading-index l.some (omega arith) asked)
 
 pub returns : goal.returns
 returns c =
-    let l = c.loop-i in
+    let l = c.loop-reading in
     let s = c.before.before in
-    asked_all (pos 0) nat_abs (up s.args.largest) s.args.readings.now l.i l.some (omega arith) (rw (to_z-of_z s.ranges.largest) at l.invariant)
+    asked_all (pos 0) nat_abs (up s.args.largest) s.args.readings.now l.reading-index l.some (omega arith) (rw (to_z-of_z s.ranges.largest) at l.invariant)

@@ -11,8 +11,5 @@ use Rattle.code.specs.EntriesLaws.{Asked, ask_more, asked_all}
 use Rattle.numbers.specs.Parts.{up}
 use Rattle.code.proofs.some_beyond.Given as goal
 
-abbrev pub invariant-loop-i : goal.invariant-loop-i
-invariant-loop-i l = Asked (pos 0) nat_abs (up l.largest) l.readings l.i l.some
-
-abbrev pub decreases-loop-i : goal.decreases-loop-i
-decreases-loop-i l = length l.readings - l.i
+abbrev pub invariant-loop-reading : goal.invariant-loop-reading
+invariant-loop-reading l = Asked (pos 0) nat_abs (up l.largest) l.readings l.reading-index l.some

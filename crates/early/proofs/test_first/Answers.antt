@@ -1,11 +1,12 @@
 -- The quick reading is in the two lent rows; if it passes the test it is copied, otherwise the search answers.
+use Rattle.std.specs.Prelude.{Result}
 use mathlib.Core.Path.{ap, sym, ◌∙◌}
 use native.Mathlib.Omega.{arith}
 use Rattle.search.specs.RunnerUp.{RunnerUpOutcome}
-use Rattle.early.specs.declared.Answered.{Answered}
 use Rattle.early.specs.Outcome.{outcome_of}
 use Rattle.early.proofs.OutcomeLaws.{at_once, by_search}
 use Rattle.early.proofs.test_first.Goals as goal
+use Rattle.code.specs.declared.Refusal.{Refusal}
 
 pub take_reading-penalty-requires : goal.take_reading-penalty-requires
 take_reading-penalty-requires c =
@@ -37,7 +38,7 @@ returns c =
     let searched = found.search_sound-answer in
     let bits = searched.new.bits in
     let word = searched.new.word in
-    ap (λ (a : Answered). outcome_of a bits word) c.penalty_only.ensures
+    ap (λ (a : Result ℕ Refusal). outcome_of a bits word) c.penalty_only.ensures
     ∙ by_search s.code s.allowed s.readings.now s.bits.now s.word.now quick.result quick.new.bits quick.new.word
     quick.ensures (sym test.surely_right.ensures ∙ else.if-surely_right.false) searched.result.result bits word
     (ap (λ (o : RunnerUpOutcome). o.outcome) searched.ensures)

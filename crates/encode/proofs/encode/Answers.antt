@@ -1,8 +1,8 @@
 -- Each return is the outcome after the tests that led there.
+use Rattle.std.specs.Prelude.{Ok}
 use mathlib.Core.Path.{◌≡◌, ap, sym, ◌∙◌}
 use Rattle.words.specs.Kinds.{kinds, encoded}
 use Rattle.code.specs.declared.Code.{Code}
-use Rattle.code.specs.declared.Made.TheVariants.{Good}
 use Rattle.code.specs.Sound.{made}
 use Rattle.code.specs.SoundLaws.{MadeOf, made_of}
 use Rattle.code.specs.EntriesLaws.{good_bits}
@@ -16,11 +16,11 @@ unfolding encoding
 returns-in_default c = tested_parameters _ _ _ _ _ _ _ (sym c.new.ensures ∙ c.in_default.is)
 
 -- the code that was made
-good : (c : In-Good) → let s = c.args in made s.r s.m ≡ Good
-    c.in-Good.code
-good c = sym c.new.ensures ∙ c.in-Good.is
+good : (c : In-Ok) → let s = c.args in made s.r s.m ≡ Ok
+    c.in-Ok.code
+good c = sym c.new.ensures ∙ c.in-Ok.is
 
-is_made : (c : In-Good) → let s = c.args in MadeOf s.r s.m c.in-Good.code
+is_made : (c : In-Ok) → let s = c.args in MadeOf s.r s.m c.in-Ok.code
 is_made c = made_of _ _ _ (good c)
 
 pub dimension-requires : goal.dimension-requires
@@ -29,16 +29,16 @@ dimension-requires c = (is_made c).sound
 pub returns-then-bits-dimension : goal.returns-then-bits-dimension
 unfolding encoding
 returns-then-bits-dimension c =
-    let g = good ((goal.at.returns-then-bits-dimension c).In-Good) in
+    let g = good ((goal.at.returns-then-bits-dimension c).In-Ok) in
     tested_input _ _ _ _ _ _ _ g (its_dimension _ _ g c.dimension.ensures) c.if-bits-dimension.true
 
 pub length-requires : goal.length-requires
-length-requires c = (is_made ((goal.at.length-requires c).In-Good)).sound
+length-requires c = (is_made ((goal.at.length-requires c).In-Ok)).sound
 
 pub returns-then-word-length : goal.returns-then-word-length
 unfolding encoding
 returns-then-word-length c =
-    let g = good ((goal.at.returns-then-word-length c).In-Good) in
+    let g = good ((goal.at.returns-then-word-length c).In-Ok) in
     let first = its_dimension _ _ g c.dimension.ensures in
     let second = its_length _ _ g c.length.ensures in
     tested-output _ _ _ _ _ _ _ g first c.if-bits-dimension.false second c.if-word-length.true
@@ -49,7 +49,7 @@ returns-then-place-bits c =
     let c3 = c in
     let c4 = c3 in
     let c5 = c4 in
-    let c6 = (goal.at.returns-then-place-bits c5).In-Good in
+    let c6 = (goal.at.returns-then-place-bits c5).In-Ok in
     let g = good c6 in
     let first = its_dimension _ _ g c5.dimension.ensures in
     let second = its_length _ _ g c3.length.ensures in
@@ -61,7 +61,7 @@ put_word-requires c =
     let c4 = c3 in
     let c5 = c4 in
     let c6 = c5 in
-    let c7 = (goal.at.put_word-requires c6).In-Good in
+    let c7 = (goal.at.put_word-requires c6).In-Ok in
     let c8 = c7 in
     let c13 = c8 in
     let first = c5.if-bits-dimension.false ∙ c6.dimension.ensures in
@@ -83,7 +83,7 @@ returns c =
     let c7 = c6 in
     let c8 = c7 in
     let c9 = c8 in
-    let c10 = (goal.at.returns c9).In-Good in
+    let c10 = (goal.at.returns c9).In-Ok in
     let c16 = c10 in
     let s = c16.args in
     let g = good c10 in

@@ -1,9 +1,9 @@
 -- Each return is the outcome after the tests that led there.
+use Rattle.std.specs.Prelude.{Ok}
 use mathlib.Core.Path.{◌≡◌, ap, sym, ◌∙◌}
 use Rattle.words.specs.Kinds.{kinds}
 use Rattle.words.specs.Inverse.{taken_back}
 use Rattle.code.specs.declared.Code.{Code}
-use Rattle.code.specs.declared.Made.TheVariants.{Good}
 use Rattle.code.specs.Sound.{made}
 use Rattle.code.specs.SoundLaws.{MadeOf, made_of}
 use Rattle.code.specs.EntriesLaws.{good_bits}
@@ -17,11 +17,11 @@ unfolding inverting
 returns-in_default c = tested_parameters _ _ _ _ _ _ _ (sym c.new.ensures ∙ c.in_default.is)
 
 -- the code that was made
-good : (c : In-Good) → let s = c.args in made s.r s.m ≡ Good
-    c.in-Good.code
-good c = sym c.new.ensures ∙ c.in-Good.is
+good : (c : In-Ok) → let s = c.args in made s.r s.m ≡ Ok
+    c.in-Ok.code
+good c = sym c.new.ensures ∙ c.in-Ok.is
 
-is_made : (c : In-Good) → let s = c.args in MadeOf s.r s.m c.in-Good.code
+is_made : (c : In-Ok) → let s = c.args in MadeOf s.r s.m c.in-Ok.code
 is_made c = made_of _ _ _ (good c)
 
 pub length-requires : goal.length-requires
@@ -30,16 +30,16 @@ length-requires c = (is_made c).sound
 pub returns-then-word-length : goal.returns-then-word-length
 unfolding inverting
 returns-then-word-length c =
-    let g = good ((goal.at.returns-then-word-length c).In-Good) in
+    let g = good ((goal.at.returns-then-word-length c).In-Ok) in
     tested_input _ _ _ _ _ _ _ g (its_length _ _ g c.length.ensures) c.if-word-length.true
 
 pub dimension-requires : goal.dimension-requires
-dimension-requires c = (is_made ((goal.at.dimension-requires c).In-Good)).sound
+dimension-requires c = (is_made ((goal.at.dimension-requires c).In-Ok)).sound
 
 pub returns-then-bits-dimension : goal.returns-then-bits-dimension
 unfolding inverting
 returns-then-bits-dimension c =
-    let g = good ((goal.at.returns-then-bits-dimension c).In-Good) in
+    let g = good ((goal.at.returns-then-bits-dimension c).In-Ok) in
     let first = its_length _ _ g c.length.ensures in
     let second = its_dimension _ _ g c.dimension.ensures in
     tested-output _ _ _ _ _ _ _ g first c.if-word-length.false second c.if-bits-dimension.true
@@ -50,7 +50,7 @@ returns-then-place-word c =
     let c3 = c in
     let c4 = c3 in
     let c5 = c4 in
-    let c6 = (goal.at.returns-then-place-word c5).In-Good in
+    let c6 = (goal.at.returns-then-place-word c5).In-Ok in
     let g = good c6 in
     let first = its_length _ _ g c5.length.ensures in
     let second = its_dimension _ _ g c3.dimension.ensures in
@@ -62,7 +62,7 @@ take_back-requires c =
     let c4 = c3 in
     let c5 = c4 in
     let c6 = c5 in
-    let c7 = (goal.at.take_back-requires c6).In-Good in
+    let c7 = (goal.at.take_back-requires c6).In-Ok in
     let c8 = c7 in
     let c13 = c8 in
     let first = c5.if-word-length.false ∙ c6.length.ensures in
@@ -84,7 +84,7 @@ returns c =
     let c7 = c6 in
     let c8 = c7 in
     let c9 = c8 in
-    let c10 = (goal.at.returns c9).In-Good in
+    let c10 = (goal.at.returns c9).In-Ok in
     let c16 = c10 in
     let s = c16.args in
     let g = good c10 in

@@ -1,4 +1,5 @@
 -- Each return is the outcome after the tests.
+use Rattle.std.specs.Prelude.{Ok, Err}
 use mathlib.Core.Path.{ap, sym, ◌∙◌, subst}
 use lib.ListN.{length}
 use Rattle.code.specs.declared.Code.{Code}
@@ -17,28 +18,28 @@ returns-then-r-ne1 c =
 pub decode-requires : goal.decode-requires
 decode-requires c =
     let a = c.args in
-    let code = c.in-Allowed.code in
+    let code = c.in-Ok.code in
     let l = a.readings.now in
     let k = length a.bits.now in
     let n = length a.word.now in
-    let is = sym c.in-Allowed.is ∙ c.admit.ensures in
+    let is = sym c.in-Ok.is ∙ c.admit.ensures in
     let same = allowed_code 1 a.m l k n code is in
     subst (λ (d : Code). SoundReadings (rm 1 d.m) l k n) (sym same)
     (subst (λ (d : Code). SoundReadings d l k n) same (allowed_sound 1 a.m l k n code is))
 
-pub returns-in-Refused : goal.returns-in-Refused
-returns-in-Refused c =
+pub returns-in-Err : goal.returns-in-Err
+returns-in-Err c =
     let a = c.args in
     let l = a.readings.now in
-    test_refused a.r a.m l a.bits.now a.word.now c.in-Refused.why (sym c.in-Refused.is ∙ c.admit.ensures)
+    test_refused a.r a.m l a.bits.now a.word.now c.in-Err.why (sym c.in-Err.is ∙ c.admit.ensures)
     ∙ first-order a.r a.m l a.bits.now a.word.now c.if-r-ne1.false
 
-pub returns-in-Allowed : goal.returns-in-Allowed
-returns-in-Allowed c =
+pub returns-in-Ok : goal.returns-in-Ok
+returns-in-Ok c =
     let a = c.args in
     let l = a.readings.now in
-    let code = c.in-Allowed.code in
-    let is = sym c.in-Allowed.is ∙ c.admit.ensures in
+    let code = c.in-Ok.code in
+    let is = sym c.in-Ok.is ∙ c.admit.ensures in
     let same = allowed_code 1 a.m l (length a.bits.now) (length a.word.now) code is in
     c.decode.ensures
     ∙ ap (λ (d : Code). as_search d.m l a.bits.now a.word.now) same

@@ -1,4 +1,5 @@
 -- `float_search::search_kinds`: what the walk ends with is the answer.
+use Rattle.std.specs.Prelude.{Err}
 use borrow.Author.Rules.{rules}
 use mathlib.Core.Path.{◌≡◌, refl, ap, ap₂, sym, ◌∙◌}
 use mathlib.Core.List.{List}
@@ -12,7 +13,6 @@ use borrow.Author.Tests.{lt-ltb, le-ltb}
 use Rattle.words.specs.Kinds.{pick}
 use Rattle.decoding.specs.Readings.{sum_limit}
 use Rattle.code.specs.declared.Refusal.TheVariants.{OutOfVisits, Tied}
-use Rattle.search.specs.declared.Searched.TheVariants.{Refused}
 use Rattle.search.specs.Outcome.{Outcome, found_with}
 use Rattle.search.specs.RunnerUp.{RunnerUpOutcome, roomy, runner_up, runner_up_outcome_of, with_none}
 use Rattle.search.proofs.RunnerUpLaws.{none_put, runner_up_out, runner_up_tied, runner_up-found}
@@ -57,7 +57,7 @@ returns-then-out-ne0 c =
     let start = walked in
     let s = start.args in
     let numbers = walked.walk-end.new.state in
-    none_put start.requires.0 (Refused (OutOfVisits s.allowed)) s.bits.now s.word.now
+    none_put start.requires.0 (Err (OutOfVisits s.allowed)) s.bits.now s.word.now
     ∙ runner_up_out s.m _ _ s.allowed s.bits.now s.word.now
     (out_answer start.requires.1 walked.walk-end.ensures.0 (lt-ltb 0 (get_or numbers 4 0) (omega (arith, c.if-out-ne0.true))))
 
@@ -81,8 +81,8 @@ returns-then-gap-eq0 c =
     let s = start.args in
     let numbers = walked.walk-end.new.state in
     let penalty = whole2.whole-penalty in
-    none_put start.requires.0 (Refused (Tied penalty.result (get_or numbers 3 0))) s.bits.now s.word.now
-    ∙ ap (λ (p : ℕ). runner_up_outcome_of (with_none (Refused (Tied p (get_or numbers 3 0)))) s.bits.now s.word.now) penalty.ensures
+    none_put start.requires.0 (Err (Tied penalty.result (get_or numbers 3 0))) s.bits.now s.word.now
+    ∙ ap (λ (p : ℕ). runner_up_outcome_of (with_none (Err (Tied p (get_or numbers 3 0)))) s.bits.now s.word.now) penalty.ensures
     ∙ runner_up_tied s.m _ _ s.allowed s.bits.now s.word.now
     (tied_answer start.requires.1 walked.walk-end.ensures.0 (on else1) (sym (gap_is else1 c.whole-gap.result c.whole-gap.ensures) ∙ c.if-gap-eq0.true))
 

@@ -1,4 +1,5 @@
 -- `index::find` meets its contract: the packed part of the record that starts there, or none.
+use Rattle.std.specs.Prelude.{Ok, Err}
 use mathlib.Core.Path.{ap, sym, ◌∙◌}
 use mathlib.Core.List.{List}
 use Prim.Native.Nat.{ℕ, ◌<◌}
@@ -12,10 +13,10 @@ use Rattle.index.proofs.find.Goals as goal
 use Rattle.index.proofs.find.Goals.{In-At}
 
 -- the record starts inside the capture
-inside : (c : In-At) → c.in-At.start < length c.args.capture.now
+inside : (c : In-At) → c.in-Ok.start < length c.args.capture.now
 inside c =
     let g = c.args in
-    start_inside g.capture.now g.table.now g.w _ (sym c.start_of.ensures ∙ c.in-At.is)
+    start_inside g.capture.now g.table.now g.w _ (sym c.start_of.ensures ∙ c.in-Ok.is)
 
 pub slice_bounds-packed-count : goal.slice_bounds-packed-count
 slice_bounds-packed-count c = omega (arith, inside c)
@@ -23,14 +24,14 @@ slice_bounds-packed-count c = omega (arith, inside c)
 pub slice_bounds-packed-start : goal.slice_bounds-packed-start
 slice_bounds-packed-start c = omega (arith, inside c)
 
-pub returns-in-At : goal.returns-in-At
-returns-in-At c =
+pub returns-in-Ok : goal.returns-in-Ok
+returns-in-Ok c =
     let s = c.args.capture.now in
     c.packed.ensures
-    ∙ ap (λ (x : List ℕ). part_by (header_of x) x) (lent_from c.in-At.start s)
-    ∙ ap (part_at s) (sym c.in-At.is ∙ c.start_of.ensures)
+    ∙ ap (λ (x : List ℕ). part_by (header_of x) x) (lent_from c.in-Ok.start s)
+    ∙ ap (part_at s) (sym c.in-Ok.is ∙ c.start_of.ensures)
 
-pub returns-in-Refused : goal.returns-in-Refused
-returns-in-Refused c =
+pub returns-in-Err : goal.returns-in-Err
+returns-in-Err c =
     let s = c.args.capture.now in
-    ap (part_at s) (sym c.in-Refused.is ∙ c.start_of.ensures)
+    ap (part_at s) (sym c.in-Err.is ∙ c.start_of.ensures)

@@ -1,7 +1,7 @@
 -- `index::front` meets its contract: the front is found first, then the room is tested, then the entries of its part are written.
+use Rattle.std.specs.Prelude.{Ok}
 use mathlib.Core.Path.{ap, sym, ◌∙◌}
 use native.Mathlib.Omega.{arith}
-use Rattle.index.specs.declared.Fronted.TheVariants.{Done}
 use Rattle.index.specs.Fronting.{front_outcome_of}
 use Rattle.index.proofs.FrontingLaws.{front-part, front_short, front-room, front-done}
 use Rattle.index.proofs.front.Goals as goal
@@ -26,5 +26,5 @@ pub returns : goal.returns
 returns c =
     let g = c.args in
     let found = c.whole-front in
-    ap (front_outcome_of (Done found.result)) c.put_entries.ensures
+    ap (front_outcome_of (Ok found.result)) c.put_entries.ensures
     ∙ front-done g.capture.now g.table.now _ found.ensures (omega (arith, c.entries_for.ensures))

@@ -1,4 +1,5 @@
 -- `index::start_of` meets its contract: each return is what the tests that led there show.
+use Rattle.std.specs.Prelude.{Ok, Err}
 use mathlib.Core.Path.{sym, ◌∙◌}
 use native.Mathlib.Omega.{arith}
 use Rattle.index.proofs.FindingLaws.{start_none, start_past, start-end, start-found, start-refused}
@@ -14,16 +15,16 @@ pub returns-then-start-capture : goal.returns-then-start-capture
 returns-then-start-capture c =
     let g = c.args in
     start-end g.capture.now g.table.now g.w (omega arith) (omega arith) _
-    (sym c.pass.ensures ∙ c.in-At.is) c.if-start-capture.true
+    (sym c.pass.ensures ∙ c.in-Ok.is) c.if-start-capture.true
 
 pub returns-else-start-capture : goal.returns-else-start-capture
 returns-else-start-capture c =
     let g = c.args in
     start-found g.capture.now g.table.now g.w (omega arith) (omega arith) _
-    (sym c.pass.ensures ∙ c.in-At.is) c.if-start-capture.false
+    (sym c.pass.ensures ∙ c.in-Ok.is) c.if-start-capture.false
 
-pub returns-in-Refused : goal.returns-in-Refused
-returns-in-Refused c =
+pub returns-in-Err : goal.returns-in-Err
+returns-in-Err c =
     let g = c.args in
     start-refused g.capture.now g.table.now g.w (omega arith) (omega arith) _
-    (sym c.pass.ensures ∙ c.in-Refused.is)
+    (sym c.pass.ensures ∙ c.in-Err.is)

@@ -1,8 +1,8 @@
 -- `index::step` meets its contract: each return is what the tests that led there show.
+use Rattle.std.specs.Prelude.{Ok}
 use mathlib.Core.Path.{ap, sym, ◌∙◌}
 use Prim.Native.Nat.{ℕ, ◌+◌}
 use native.Mathlib.Omega.{arith}
-use Rattle.index.specs.declared.Place.TheVariants.{At}
 use Rattle.index.proofs.StepsLaws.{step_past, step_bad, step_torn, step_next}
 use Rattle.index.proofs.step.Goals as goal
 
@@ -24,5 +24,5 @@ pub returns : goal.returns
 returns c =
     let g = c.args in
     let bytes = c.record_length-bytes.ensures in
-    ap (λ (k : ℕ). At (g.at + k)) bytes
+    ap (λ (k : ℕ). Ok (g.at + k)) bytes
     ∙ sym (step_next g.capture.now g.at (omega arith) (λ z. c.if-bytes-eq0.false (bytes ∙ z)) (omega (arith, bytes)))

@@ -1,9 +1,9 @@
 -- `index::whole` meets its contract: the records passed and those that the run still has are all of its records.
+use Rattle.std.specs.Prelude.{Ok, Err}
 use mathlib.Core.Path.{◌≡◌, refl, ap, sym, ◌∙◌}
 use mathlib.Core.List.{List}
 use Prim.Native.Nat.{ℕ}
 use native.Mathlib.Omega.{arith}
-use Rattle.index.specs.declared.Place.TheVariants.{At}
 use Rattle.index.specs.Steps.{stepped}
 use Rattle.index.specs.Making.{index_of}
 use Rattle.index.specs.StepsLaws.{Goes}
@@ -15,23 +15,23 @@ use Rattle.index.proofs.whole.Goals.{In-At}
 pub loop-at-init : goal.loop-at-init
 loop-at-init c = (omega arith, omega arith, refl)
 
-pub returns-in-Refused : goal.returns-in-Refused
-returns-in-Refused c =
+pub returns-in-Err : goal.returns-in-Err
+returns-in-Err c =
     let s = c.args.capture.now in
     let o = c.loop-at in
     ap (λ (number : ℕ). record { index = index_of o.records o.at; ended = number }) c.number.ensures
-    ∙ sym (front-refused s o.records o.at _ (omega arith) (sym c.step.ensures ∙ c.in-Refused.is))
+    ∙ sym (front-refused s o.records o.at _ (omega arith) (sym c.step.ensures ∙ c.in-Err.is))
     ∙ o.invariant.2
 
 -- the step goes on
-module _ (c : In-At) where
+module _ (c : In-Ok) where
   abbrev s : List ℕ
   s = c.args.capture.now
 
-  step_on : stepped s c.loop-at.at ≡ At c.in-At.next
-  step_on = sym c.step.ensures ∙ c.in-At.is
+  step_on : stepped s c.loop-at.at ≡ Ok c.in-Ok.next
+  step_on = sym c.step.ensures ∙ c.in-Ok.is
 
-  goes : Goes s c.loop-at.at c.in-At.next
+  goes : Goes s c.loop-at.at c.in-Ok.next
   goes = step_goes s _ _ step_on
 
 pub loop-at-smaller : goal.loop-at-smaller

@@ -1,6 +1,6 @@
 -- `packing::unpack` meets its contract: 2, then 3, then the readings.
+use Rattle.std.specs.Prelude.{Ok}
 use mathlib.Core.Path.{ap, sym, ◌∙◌}
-use Rattle.code.specs.declared.Completed.TheVariants.{Done}
 use Rattle.packing.specs.LayoutLaws.{readings-in}
 use Rattle.packing.specs.Unpacking.{outcome_of}
 use Rattle.packing.specs.UnpackingLaws.{no_part, other_room, all-unpacked}
@@ -25,6 +25,6 @@ pub returns : goal.returns
 returns c =
     let g = c.args in
     let is = c.readings_in-n.ensures in
-    ap (outcome_of Done) c.put_readings.ensures
+    ap (outcome_of (Ok tt)) c.put_readings.ensures
     ∙ sym (all-unpacked g.part.now g.readings.now (λ z. c.if-n-eq0.false (is ∙ z))
     (c.if-readings-n.false ∙ is))

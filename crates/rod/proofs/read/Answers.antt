@@ -1,4 +1,5 @@
 -- `read`: what was found is judged, what was refused is passed on.
+use Rattle.std.specs.Prelude.{Ok, Err}
 use mathlib.Core.Path.{◌≡◌, refl, ap, sym, ◌∙◌}
 use mathlib.Core.List.{List}
 use Prim.Native.Nat.{ℕ, ◌+◌, ◌-◌, ◌^◌, ◌≤◌}
@@ -30,8 +31,8 @@ slice_bounds-judge-end c =
     let small = c.if-m-gt-LARGEST_M.false in
     let f = c.first_order-answer in
     let b = f.new.bits in
-    let good = found_bits m l c.in-Found.penalty c.in-Found.gap c.in-Found.visits _ _
-    ((rw c.in-Found.is at f.ensures) ∙ rod_lent m _ _ l small refl (shifted m small)) in
+    let good = found_bits m l c.in-Ok.penalty c.in-Ok.gap c.in-Ok.visits _ _
+    ((rw c.in-Ok.is at f.ensures) ∙ rod_lent m _ _ l small refl (shifted m small)) in
     let rest : List ℕ = drop (m + 1 - 0) (replicate {A = ℕ} 9 0) in
     omega (arith, good.1, length-append b rest)
 
@@ -43,32 +44,32 @@ judge-requires c =
     let small = c.if-m-gt-LARGEST_M.false in
     let f = c.first_order-answer in
     let b = f.new.bits in
-    let good = found_bits m l c.in-Found.penalty c.in-Found.gap c.in-Found.visits _ _
-    ((rw c.in-Found.is at f.ensures) ∙ rod_lent m _ _ l small refl (shifted m small)) in
+    let good = found_bits m l c.in-Ok.penalty c.in-Ok.gap c.in-Ok.visits _ _
+    ((rw c.in-Ok.is at f.ensures) ∙ rod_lent m _ _ l small refl (shifted m small)) in
     let rest : List ℕ = drop (m + 1 - 0) (replicate {A = ℕ} 9 0) in
     let front = front-found m b rest good in
     (front.0, front.1, small)
 
-pub returns-in-Refused : goal.returns-in-Refused
-returns-in-Refused c =
+pub returns-in-Err : goal.returns-in-Err
+returns-in-Err c =
     let s = c.args in
     let m = s.m in
     let small = c.if-m-gt-LARGEST_M.false in
-    reading-refused m s.readings.now c.in-Refused.why _ _
-    ((rw c.in-Refused.is at c.first_order-answer.ensures) ∙ rod_lent m _ _ s.readings.now small refl (shifted m small))
+    reading-refused m s.readings.now c.in-Err.why _ _
+    ((rw c.in-Err.is at c.first_order-answer.ensures) ∙ rod_lent m _ _ s.readings.now small refl (shifted m small))
 
-pub returns-in-Found : goal.returns-in-Found
-returns-in-Found c =
+pub returns-in-Ok : goal.returns-in-Ok
+returns-in-Ok c =
     let s = c.args in
     let m = s.m in
     let l = s.readings.now in
     let small = c.if-m-gt-LARGEST_M.false in
     let f = c.first_order-answer in
     let b = f.new.bits in
-    let good = found_bits m l c.in-Found.penalty c.in-Found.gap c.in-Found.visits _ _
-    ((rw c.in-Found.is at f.ensures) ∙ rod_lent m _ _ l small refl (shifted m small)) in
+    let good = found_bits m l c.in-Ok.penalty c.in-Ok.gap c.in-Ok.visits _ _
+    ((rw c.in-Ok.is at f.ensures) ∙ rod_lent m _ _ l small refl (shifted m small)) in
     let rest : List ℕ = drop (m + 1 - 0) (replicate {A = ℕ} 9 0) in
     c.judge.ensures
-    ∙ ap (λ (x : List ℕ). position_said (guard.message_if x c.in-Found.penalty c.in-Found.gap 0 (replicate m 0))) (front-is m b rest good.1)
-    ∙ found-reading m l c.in-Found.penalty c.in-Found.gap c.in-Found.visits _ _
-    ((rw c.in-Found.is at f.ensures) ∙ rod_lent m _ _ l small refl (shifted m small))
+    ∙ ap (λ (x : List ℕ). position_said (guard.message_if x c.in-Ok.penalty c.in-Ok.gap 0 (replicate m 0))) (front-is m b rest good.1)
+    ∙ found-reading m l c.in-Ok.penalty c.in-Ok.gap c.in-Ok.visits _ _
+    ((rw c.in-Ok.is at f.ensures) ∙ rod_lent m _ _ l small refl (shifted m small))

@@ -1,4 +1,5 @@
 -- What the walk ends with is the answer.
+use Rattle.std.specs.Prelude.{Err}
 use mathlib.Core.Path.{◌≡◌, refl, ap, ap₂, sym, ◌∙◌}
 use mathlib.Core.List.{List}
 use Prim.Native.Nat.{ℕ, ◌-◌, ◌^◌}
@@ -7,7 +8,6 @@ use lib.ListN.{length, get_or, take}
 use borrow.Author.Tests.{lt-ltb, le-ltb}
 use Rattle.words.specs.Kinds.{pick}
 use Rattle.code.specs.declared.Refusal.TheVariants.{OutOfVisits, Tied}
-use Rattle.search.specs.declared.Searched.TheVariants.{Refused}
 use Rattle.search.specs.Outcome.{Outcome, found_with}
 use Rattle.search.specs.RunnerUp.{RunnerUpOutcome, roomy, runner_up}
 use Rattle.search.proofs.RunnerUpLaws.{none_put, runner_up_out, runner_up_tied, runner_up-found}
@@ -27,7 +27,7 @@ returns-then-out-ne0 c =
     let start = walked in
     let s = start.args in
     let numbers = walked.walk.new.state in
-    none_put start.requires.0 (Refused (OutOfVisits s.allowed)) s.bits.now s.word.now
+    none_put start.requires.0 (Err (OutOfVisits s.allowed)) s.bits.now s.word.now
     ∙ runner_up_out s.m _ _ s.allowed s.bits.now s.word.now
     (out_answer start.requires.1 walked.walk.ensures (lt-ltb 0 (get_or numbers 4 0) (omega (arith, c.if-out-ne0.true))))
 
@@ -43,7 +43,7 @@ returns-then-gap-eq0 c =
     let start = walked in
     let s = start.args in
     let numbers = walked.walk.new.state in
-    none_put start.requires.0 (Refused (Tied (get_or numbers 1 0) (get_or numbers 3 0))) s.bits.now s.word.now
+    none_put start.requires.0 (Err (Tied (get_or numbers 1 0) (get_or numbers 3 0))) s.bits.now s.word.now
     ∙ runner_up_tied s.m _ _ s.allowed s.bits.now s.word.now
     (tied_answer start.requires.1 walked.walk.ensures (le-ltb 0 (get_or numbers 4 0) (omega (arith, c.if-out-ne0.false))) c.if-gap-eq0.true)
 

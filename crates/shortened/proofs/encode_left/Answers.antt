@@ -1,10 +1,10 @@
 -- Each return is the outcome after the tests that led there.
+use Rattle.std.specs.Prelude.{Ok}
 use mathlib.Core.Path.{◌≡◌, ap, ◌∙◌}
 use Prim.Native.Nat.{◌^◌}
 use native.Mathlib.Omega.{arith}
 use lib.ListN.{length}
 use Rattle.words.proofs.KindLaws.{length-kinds}
-use Rattle.code.specs.declared.Made.TheVariants.{Good}
 use Rattle.code.specs.Sound.{made}
 use Rattle.code.specs.SoundLaws.{made_good, length_most}
 use Rattle.code.specs.EntriesLaws.{good_bits}
@@ -15,7 +15,7 @@ use Rattle.shortened.proofs.encode_left.Goals as goal
 use Rattle.shortened.proofs.encode_left.Goals.{Start}
 
 -- the code is one that was made
-good : (s : Start) → made s.args.code.r s.args.code.m ≡ Good s.args.code
+good : (s : Start) → made s.args.code.r s.args.code.m ≡ Ok s.args.code
 good s = made_good s.args.code.r s.args.code.m s.requires.0.m_small s.requires.0.r_small
 
 long-named : (s : Start) → length s.args.named.now ≡ 2 ^ s.args.code.m

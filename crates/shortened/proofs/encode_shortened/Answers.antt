@@ -1,4 +1,5 @@
 -- Each return is the outcome after the row's tests.
+use Rattle.std.specs.Prelude.{Ok, Err}
 use mathlib.Core.Path.{◌∙◌}
 use Rattle.named.specs.NamedLaws.{allowed_row}
 use Rattle.shortened.specs.OutcomeLaws.{encoding-refused, encoding-left}
@@ -8,18 +9,18 @@ pub encode_left-requires : goal.encode_left-requires
 encode_left-requires c =
     let allowed = c in
     let s = allowed.args in
-    let shown = allowed_row s.r s.m s.named.now allowed.in-Allowed.code c.in-Allowed.ensures in
+    let shown = allowed_row s.r s.m s.named.now allowed.in-Ok.code c.in-Ok.ensures in
     (shown.1, shown.2)
 
-pub returns-in-Refused : goal.returns-in-Refused
-returns-in-Refused c =
+pub returns-in-Err : goal.returns-in-Err
+returns-in-Err c =
     let c7 = c in
     let s = c7.args in
-    encoding-refused s.r s.m s.named.now c.in-Refused.why (c.in-Refused.ensures) s.bits.now s.word.now
+    encoding-refused s.r s.m s.named.now c.in-Err.why (c.in-Err.ensures) s.bits.now s.word.now
 
-pub returns-in-Allowed : goal.returns-in-Allowed
-returns-in-Allowed c =
+pub returns-in-Ok : goal.returns-in-Ok
+returns-in-Ok c =
     let done = c in
     let allowed = c in
     let s = allowed.args in
-    done.encode_left.ensures ∙ encoding-left s.r s.m s.named.now allowed.in-Allowed.code c.in-Allowed.ensures s.bits.now s.word.now
+    done.encode_left.ensures ∙ encoding-left s.r s.m s.named.now allowed.in-Ok.code c.in-Ok.ensures s.bits.now s.word.now

@@ -1,4 +1,5 @@
 -- Each return is the outcome after the tests that led there.
+use Rattle.std.specs.Prelude.{Ok, Err}
 use mathlib.Core.Path.{◌≡◌, ap, sym, ◌∙◌}
 use Prim.Native.Nat.{ℕ, ◌^◌}
 use native.Mathlib.Omega.{arith}
@@ -37,25 +38,25 @@ take_reading-penalty-requires c =
     let ks = left_of s.named.now s.code in
     let k = length s.bits.now in
     let n = length s.word.now in
-    let is = c.in-Allowed.ensures ∙ ap (λ (expected : ℕ). admitted_by s.code expected s.readings.now k n) counted in
+    let is = c.in-Ok.ensures ∙ ap (λ (expected : ℕ). admitted_by s.code expected s.readings.now k n) counted in
     record {
       long-named = long-named start;
       long_kinds = zeros-lent s.code _ start.requires.0 c.length-n.ensures;
-      input = (allowed_over s.code (sum ks) s.readings.now k n start.requires.0 c.in-Allowed.field-0 is).1;
+      input = (allowed_over s.code (sum ks) s.readings.now k n start.requires.0 c.in-Ok.field-0 is).1;
     }
 
-pub returns-in-Refused : goal.returns-in-Refused
-returns-in-Refused c =
+pub returns-in-Err : goal.returns-in-Err
+returns-in-Err c =
     let c4 = c in
     let c8 = c4 in
     let s = c8.args in
     let ks = left_of s.named.now s.code in
-    over-refused ks s.code s.readings.now s.bits.now s.word.now c.in-Refused.why
-    (c.in-Refused.ensures
+    over-refused ks s.code s.readings.now s.bits.now s.word.now c.in-Err.why
+    (c.in-Err.ensures
     ∙ ap (λ (expected : ℕ). admitted_by s.code expected s.readings.now (length s.bits.now) (length s.word.now)) c4.count_left-left.ensures)
 
-pub returns-in-Allowed : goal.returns-in-Allowed
-returns-in-Allowed c =
+pub returns-in-Ok : goal.returns-in-Ok
+returns-in-Ok c =
     let c5 = c in
     let c10 = c5 in
     let c12 = c10 in
@@ -65,7 +66,7 @@ returns-in-Allowed c =
     let ks = left_of s.named.now s.code in
     let k = length s.bits.now in
     let n = length s.word.now in
-    let is = c.in-Allowed.ensures ∙ ap (λ (expected : ℕ). admitted_by s.code expected s.readings.now k n) c13.count_left-left.ensures in
-    let same = (allowed_over s.code (sum ks) s.readings.now k n start.requires.0 c.in-Allowed.field-0 is).0 in
+    let is = c.in-Ok.ensures ∙ ap (λ (expected : ℕ). admitted_by s.code expected s.readings.now k n) c13.count_left-left.ensures in
+    let same = (allowed_over s.code (sum ks) s.readings.now k n start.requires.0 c.in-Ok.field-0 is).0 in
     c5.take_reading-penalty.ensures ∙ ap (λ (d : Code). reading_over d.m ks s.readings.now) (sym same)
-    ∙ over_done ks s.code s.readings.now s.bits.now s.word.now c.in-Allowed.field-0 is
+    ∙ over_done ks s.code s.readings.now s.bits.now s.word.now c.in-Ok.field-0 is

@@ -1,4 +1,5 @@
 -- Each return is the outcome after the tests that led there.
+use Rattle.std.specs.Prelude.{Ok, Err}
 use mathlib.Core.Path.{ap, sym, ◌∙◌}
 use Prim.Native.Nat.{ℕ}
 use lib.ListN.{length}
@@ -24,25 +25,25 @@ search_sound-requires c =
     let ks = left_of s.named.now s.code in
     let k = length s.bits.now in
     let n = length s.word.now in
-    let is = sym c.in-Allowed.is ∙ c.admit_for.ensures ∙ ap (λ (expected : ℕ). admitted_by s.code expected s.readings.now k n) c.count_left-left.ensures in
-    (c.requires.1, (allowed_over s.code (sum ks) s.readings.now k n c.requires.0 c.in-Allowed.field-0 is).1)
+    let is = sym c.in-Ok.is ∙ c.admit_for.ensures ∙ ap (λ (expected : ℕ). admitted_by s.code expected s.readings.now k n) c.count_left-left.ensures in
+    (c.requires.1, (allowed_over s.code (sum ks) s.readings.now k n c.requires.0 c.in-Ok.field-0 is).1)
 
-pub returns-in-Refused : goal.returns-in-Refused
-returns-in-Refused c =
+pub returns-in-Err : goal.returns-in-Err
+returns-in-Err c =
     let s = c.args in
     let ks = left_of s.named.now s.code in
     ap (λ (a : WithRunnerUp). runner_up_outcome_of a s.bits.now s.word.now) c.refused.ensures
-    ∙ over-refused ks s.code s.allowed s.readings.now s.bits.now s.word.now c.in-Refused.why
-    (sym c.in-Refused.is ∙ c.admit_for.ensures
+    ∙ over-refused ks s.code s.allowed s.readings.now s.bits.now s.word.now c.in-Err.why
+    (sym c.in-Err.is ∙ c.admit_for.ensures
     ∙ ap (λ (expected : ℕ). admitted_by s.code expected s.readings.now (length s.bits.now) (length s.word.now)) c.count_left-left.ensures)
 
-pub returns-in-Allowed : goal.returns-in-Allowed
-returns-in-Allowed c =
+pub returns-in-Ok : goal.returns-in-Ok
+returns-in-Ok c =
     let s = c.args in
     let ks = left_of s.named.now s.code in
     let k = length s.bits.now in
     let n = length s.word.now in
-    let is = sym c.in-Allowed.is ∙ c.admit_for.ensures ∙ ap (λ (expected : ℕ). admitted_by s.code expected s.readings.now k n) c.count_left-left.ensures in
-    let same = (allowed_over s.code (sum ks) s.readings.now k n c.requires.0 c.in-Allowed.field-0 is).0 in
+    let is = sym c.in-Ok.is ∙ c.admit_for.ensures ∙ ap (λ (expected : ℕ). admitted_by s.code expected s.readings.now k n) c.count_left-left.ensures in
+    let same = (allowed_over s.code (sum ks) s.readings.now k n c.requires.0 c.in-Ok.field-0 is).0 in
     c.search_sound.ensures ∙ ap (λ (d : Code). runner_up_outcome_by d.m ks s.readings.now s.allowed s.bits.now s.word.now) (sym same)
-    ∙ over_answered ks s.code s.allowed s.readings.now s.bits.now s.word.now c.in-Allowed.field-0 is
+    ∙ over_answered ks s.code s.allowed s.readings.now s.bits.now s.word.now c.in-Ok.field-0 is

@@ -1,6 +1,6 @@
 -- Each return is the outcome after the row's tests.
+use Rattle.std.specs.Prelude.{Ok, Err}
 use mathlib.Core.Path.{◌≡◌, ap, sym, ◌∙◌}
-use Rattle.code.specs.declared.Admitted.TheVariants.{Allowed}
 use Rattle.named.specs.Named.{row_admitted}
 use Rattle.named.specs.NamedLaws.{allowed_row}
 use Rattle.search.specs.declared.WithRunnerUp.{WithRunnerUp}
@@ -10,29 +10,29 @@ use borrow.Author.Rules.{rules}
 use Rattle.shortened_search.proofs.search_within_shortened.Goals as goal
 use Rattle.shortened_search.proofs.search_within_shortened.Goals.{In-Allowed}
 
-is_allowed : (c : In-Allowed)
+is_allowed : (c : In-Ok)
     → let s = c.args in
-    Allowed c.in-Allowed.code ≡ row_admitted s.r s.m s.named.now
-is_allowed c = sym c.in-Allowed.is ∙ c.admit_row.ensures
+    Ok c.in-Ok.code ≡ row_admitted s.r s.m s.named.now
+is_allowed c = sym c.in-Ok.is ∙ c.admit_row.ensures
 
 pub search_left-requires : goal.search_left-requires
 search_left-requires c =
-    let allowed = (goal.at.search_left-requires c).In-Allowed in
+    let allowed = (goal.at.search_left-requires c).In-Ok in
     let s = allowed.args in
-    let shown = allowed_row s.r s.m s.named.now allowed.in-Allowed.code (is_allowed allowed) in
+    let shown = allowed_row s.r s.m s.named.now allowed.in-Ok.code (is_allowed allowed) in
     (shown.1, shown.2)
 
-pub returns-in-Refused : goal.returns-in-Refused
-returns-in-Refused c =
+pub returns-in-Err : goal.returns-in-Err
+returns-in-Err c =
     let s = c.args in
     ap (λ (a : WithRunnerUp). runner_up_outcome_of a s.bits.now s.word.now) c.refused.ensures
-    ∙ searching-refused s.r s.m s.allowed s.named.now s.readings.now s.bits.now s.word.now c.in-Refused.why (sym
-    c.in-Refused.is ∙ c.admit_row.ensures)
+    ∙ searching-refused s.r s.m s.allowed s.named.now s.readings.now s.bits.now s.word.now c.in-Err.why (sym
+    c.in-Err.is ∙ c.admit_row.ensures)
 
-pub returns-in-Allowed : goal.returns-in-Allowed
-returns-in-Allowed c =
-    let allowed = (goal.at.returns-in-Allowed c).In-Allowed in
+pub returns-in-Ok : goal.returns-in-Ok
+returns-in-Ok c =
+    let allowed = (goal.at.returns-in-Ok c).In-Ok in
     let s = allowed.args in
     c.search_left.ensures
-    ∙ searching-left s.r s.m s.allowed s.named.now s.readings.now s.bits.now s.word.now allowed.in-Allowed.code
+    ∙ searching-left s.r s.m s.allowed s.named.now s.readings.now s.bits.now s.word.now allowed.in-Ok.code
     (is_allowed allowed)

@@ -1,4 +1,5 @@
 -- `cinorbis_length` meets its contract.
+use Rattle.std.specs.Prelude.{Ok, Err}
 use mathlib.Core.Path.{◌∙◌, ap, sym}
 use Rattle.code.specs.SoundLaws.{made_of}
 use Rattle.pumpbox.specs.Lengths.{length_in}
@@ -7,10 +8,10 @@ use Rattle.pumpbox.proofs.lengths.cinorbis_length.Goals as goal
 
 pub length-requires : goal.length-requires
 length-requires c = (made_of 0 c.args.m _
-    (sym c.new.ensures ∙ c.in-Good.is)).sound
+    (sym c.new.ensures ∙ c.in-Ok.is)).sound
 
-pub returns-in-Good : goal.returns-in-Good
-returns-in-Good c = c.length.ensures ∙ ap length_in (sym (sym c.new.ensures ∙ c.in-Good.is))
+pub returns-in-Ok : goal.returns-in-Ok
+returns-in-Ok c = c.length.ensures ∙ ap length_in (sym (sym c.new.ensures ∙ c.in-Ok.is))
 
-pub returns-in-Bad : goal.returns-in-Bad
-returns-in-Bad c = ap length_in (sym (sym c.new.ensures ∙ c.in-Bad.is))
+pub returns-in-Err : goal.returns-in-Err
+returns-in-Err c = ap length_in (sym (sym c.new.ensures ∙ c.in-Err.is))
