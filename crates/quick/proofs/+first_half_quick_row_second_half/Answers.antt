@@ -45,7 +45,7 @@ quick_row-returns-then-not-some_information t c =
     let rows = c.args.rows.now in
     let kinds = c.args.kinds.now in
     let word = c.args.word.now in
-    c.put_zeros.ensures
+    c.fill.ensures.after (λ y e. e)
     ∙ frozen_word m kinds word (row_of (2 ^ m) rows) c.requires.sized.long_word (sym c.some_information.ensures ∙ c.if-not-some_information.true)
 
 pub quick_row-returns-then-not-barred : goal.quick_row-returns-then-not-barred

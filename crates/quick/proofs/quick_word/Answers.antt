@@ -7,7 +7,8 @@ use lib.IntN.{pos}
 use lib.ListN.{length, get_or, take}
 use lib.Pow.{pow_pos, pow_mono}
 use Rattle.decoding.specs.Quick.{decide}
-use Rattle.rows.specs.RowLaws.{reading_fits, reading-read}
+use Rattle.std.specs.Int.{w16, w32}
+use Rattle.std.proofs.Common.{to_z-of_z}
 use Rattle.quick.specs.EngineLaws.{one_word, lower_word, Foldable, row_halves, lower-ready, lower-back, upper_asked, upper-ready, upper-back}
 use Rattle.quick.proofs.quick_word.Goals as goal
 
@@ -20,9 +21,6 @@ bounds-kinds-0 c = let g = c in omega (arith, g.requires.1.long_kinds, pow_pos g
 pub bounds-readings-0 : goal.bounds-readings-0
 bounds-readings-0 c = let g = c in omega (arith, g.requires.1.long_row, pow_pos g.args.m)
 
-pub overflow_cast-readings : goal.overflow_cast-readings
-overflow_cast-readings c = reading_fits {z = get_or c.args.readings.now 0 (pos 0)} (record { sfits = c.decide-arg-1.given })
-
 pub bounds-word-0 : goal.bounds-word-0
 bounds-word-0 c = let g = c in omega (arith, g.requires.1.long_word, pow_pos g.args.m)
 
@@ -33,8 +31,10 @@ returns-then-m-eq0 c =
     let l = g.args.readings.now in
     let kinds = g.args.kinds.now in
     let word = g.args.word.now in
+    let is : c.from.result ≡ get_or l 0 (pos 0) = c.from.ensures ∙ to_z-of_z {w = w16} {z = get_or l 0 (pos 0)} (record { sfits = omega arith }) in
+    let read = to_z-of_z {w = w32} {z = c.from.result} (record { sfits = omega arith }) ∙ is in
     one_word m kinds word l c.decide.result c.if-m-eq0.true g.requires.1.long_word
-    (c.decide.ensures ∙ ap (decide (get_or kinds 0 0)) (reading-read (record { sfits = c.decide-arg-1.given })))
+    (c.decide.ensures ∙ ap (decide (get_or kinds 0 0)) read)
 
 pub lower_top-requires : goal.lower_top-requires
 lower_top-requires c =
