@@ -163,14 +163,12 @@ pub fn transform(word: &mut [u8], m: usize)
     layers(word, 8, m - 3);
 }
 
-pub fn copy(from: &[u8], to: &mut [u8])
+pub fn copy<T: Copy>(from: &[T], to: &mut [T])
     requires { length to.old ≡ length from.now }
     ensures { to.new ≡ from.now }
 {
-    let mut i = 0;
-    while i < from.len() {
-        to[i] = from[i];
-        i += 1;
+    for (i, x) in from.iter().enumerate() {
+        to[i] = *x;
     }
 }
 

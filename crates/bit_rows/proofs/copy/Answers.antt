@@ -1,24 +1,11 @@
 -- The loop's invariant: what is copied comes first, then what is unchanged.
-use mathlib.Core.Path.{◌≡◌, refl, ◌∙◌}
-use Prim.Native.Nat.{zero-le}
-use native.Mathlib.Omega.{arith}
-use native.Mathlib.Numerals.{add-one}
-use lib.ListN.{length, length-set}
-use Rattle.numbers.specs.Front.{front-suc, front-all}
+use Rattle.std.proofs.Common.{add-one, arith}
+use Rattle.numbers.specs.Front.{front-suc}
 use Rattle.bit_rows.proofs.copy.Goals as goal
 
-pub loop-i-init : goal.loop-i-init
-loop-i-init c = (zero-le, refl, refl)
-
 pub loop-i-preserved : goal.loop-i-preserved
-loop-i-preserved c =
-    let g = c.args in
+loop-i-preserved g c =
     let l = c.loop-i in
-    (omega arith, rw (add-one, l.invariant.1) (front-suc g.to.now g.from.now l.i 0 (omega arith) (omega arith)), length-set l.to _ _ ∙ l.invariant.2)
-
-pub returns : goal.returns
-returns c =
-    let g = c.args in
-    let l = c.loop-i in
-    let all : l.i ≡ length g.from.now = omega arith in
-    l.invariant.1 ∙ rw all (front-all g.to.now g.from.now c.requires)
+    let x = c.index-from-i.result in
+    let step = front-suc c.args.to.now c.args.from.now l.i x (omega arith) c.loop-i-test.true in
+    rw (add-one, l.invariant, c.index-from-i.is) step
