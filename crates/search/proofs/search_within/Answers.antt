@@ -8,7 +8,7 @@ use Rattle.search.specs.declared.WithRunnerUp.{WithRunnerUp}
 use Rattle.search.specs.RunnerUp.{runner_up_outcome_of}
 use Rattle.search.proofs.RunnerUpLaws.{runner_up-refused, runner_up_answered}
 use Rattle.search.proofs.search_within.Goals as goal
-use Rattle.search.proofs.search_within.Goals.{In-Allowed}
+use Rattle.search.proofs.search_within.Goals.{In-Ok}
 
 is-allowed : (c : In-Ok)
     → let s = c.args in
