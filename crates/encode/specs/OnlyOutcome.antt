@@ -3,14 +3,15 @@ use Rattle.std.specs.Prelude.{◌≡◌, refl, List, ℕ, ◌^◌, ◌<◌, Resu
 use Rattle.std.proofs.Common.{ap, sym, ◌∙◌, arith}
 use Rattle.words.specs.Kinds.{kinds, dimension, encoded}
 use Rattle.words.specs.Inverse.{TakenBack, taken, frozen_one, taken_back}
+use Rattle.code.specs.declared.Refusal.{Refusal}
 use Rattle.code.specs.Sound.{carrying}
 use Rattle.code.specs.RefusalLaws.{refusal_only, carries_none, number_above}
 use Rattle.encode.specs.Outcome.{Outcome, outcome_of, done, encoding, inverting, taking_back}
 use Rattle.encode.specs.OutcomeLaws.{tested_small}
-use Rattle.code.specs.declared.Refusal.{Refusal}
 
 -- two answers that report the same, with a number that carries nothing but a place
-same_answer : (a b : Result (Unit {0}) Refusal) (x y : List ℕ) → outcome_of a x ≡ outcome_of b y → ((outcome_of a x).number ≡ 6 → ⊥) → ((outcome_of a x).number ≡ 7 → ⊥) → a ≡ b
+same_answer : (a b : Result (Unit {0}) Refusal) (x y : List ℕ) → outcome_of a x ≡ outcome_of b y
+    → ((outcome_of a x).number ≡ 6 → ⊥) → ((outcome_of a x).number ≡ 7 → ⊥) → a ≡ b
 same_answer (Ok _) (Ok _) x y e f g = refl
 same_answer (Ok _) (Err why) x y e f g = absurd (omega (arith, number_above why, ap (λ (o : Outcome). o.number) e))
 same_answer (Err why) (Ok _) x y e f g = absurd (omega (arith, number_above why, ap (λ (o : Outcome). o.number) e))

@@ -6,6 +6,7 @@ use Rattle.code.specs.declared.Refusal.{Refusal}
 use Rattle.code.specs.declared.Refusal.TheVariants.{Parameters, InputLength, OutputLength, Entry, NotAWord}
 use Rattle.code.specs.Sound.{made, carried}
 use Rattle.code.specs.Entries.{first_bad_bit}
+use Rattle.code.specs.Admitted.{bits_tested}
 use Rattle.code.specs.declared.Code.{Code}
 
 pub record Outcome : Type 0 where
@@ -31,6 +32,11 @@ outcome_of (Err why) = refused why
 abbrev pub is_good : Result Code Refusal → Bool
 is_good (Ok code) = true
 is_good (Err _) = false
+
+-- tests 2 to 4 in their order: an input of bits that is to be so long, and a lent output of this length that is to have so much room
+abbrev pub bits_admitted : List ℕ → ℕ → ℕ → ℕ → Result (Unit {0}) Refusal
+bits_admitted input long output room =
+    cond (not (eqb (length input) long)) (Err InputLength) (cond (not (eqb output room)) (Err OutputLength) (bits_tested input))
 
 -- tests 1 to 4 in their order, over an input of bits and a lent output with the lengths that they should have; `rest` if no test applies
 unfoldable pub tested : ℕ → ℕ → List ℕ → ℕ → List ℕ → ℕ → Outcome → Outcome

@@ -1,5 +1,5 @@
 -- The outcome at each place where a call returns, and what an outcome says about the tests 1 to 4.
-use Rattle.std.specs.Prelude.{◌≡◌, refl, List, ◌⊎◌, true, false, cond, ℕ, ◌^◌, ◌≤◌, ◌<◌, length, ltb, Result, Ok, Err}
+use Rattle.std.specs.Prelude.{◌≡◌, refl, List, ◌⊎◌, Bool, true, false, not, cond, ℕ, ◌^◌, ◌≤◌, ◌<◌, length, ltb, eqb, Result, Ok, Err}
 use Rattle.std.proofs.Common.{ap, ◌∙◌, subst, inl, inr, ⊎_elim, arith}
 use Rattle.std.proofs.Math.Path.{sym}
 use Rattle.std.proofs.Math.Decide.{ℕ_discrete}
@@ -11,21 +11,22 @@ use Rattle.words.specs.Kinds.{kinds, dimension, pick, encoded}
 use Rattle.words.specs.Inverse.{taken, frozen_one, first_frozen_one, taken_back}
 use Rattle.code.specs.declared.Code.{Code}
 use Rattle.code.specs.declared.Refusal.{Refusal}
-use Rattle.code.specs.declared.Refusal.TheVariants.{Parameters, InputLength, OutputLength, Entry, NotAWord}
+use Rattle.code.specs.declared.Refusal.TheVariants.{InputLength, OutputLength, Entry, NotAWord}
 use Rattle.code.specs.Sound.{Sound, made, number_of, rm}
 use Rattle.code.specs.SoundInput.{SoundInput}
-use Rattle.code.specs.SoundLaws.{made_of, made_good}
+use Rattle.code.specs.SoundLaws.{made_of, made_good, made_refused}
 use Rattle.code.specs.RefusalLaws.{number_above}
 use Rattle.code.specs.Entries.{first_bad_bit}
 use Rattle.code.specs.EntriesLaws.{first-none, good_bits}
-use Rattle.encode.specs.Outcome.{Outcome, done, refused, tested, encoding, inverting, taking_back}
+use Rattle.code.specs.AdmittedLaws.{entry_ok}
+use Rattle.encode.specs.Outcome.{Outcome, done, refused, bits_admitted, tested, encoding, inverting, taking_back}
 use Rattle.encode.specs.Work.{taking_row}
 
 -- ---- the tests, one after the other, with the numbers k and n that the code compares
 module _ (r m : ℕ) (input : List ℕ) (long : ℕ) (output : List ℕ) (room : ℕ) (rest : Outcome) where
-  pub tested_parameters : made r m ≡ Err Parameters → refused Parameters output ≡ tested r m input long output room rest
+  pub tested_parameters : {why : Refusal} → made r m ≡ Err why → refused why output ≡ tested r m input long output room rest
   unfolding tested
-  tested_parameters e = rw e
+  tested_parameters e = rw (made_refused r m _ e, e)
 
   module _ {c : Code} (good : made r m ≡ Ok c) {k : ℕ} (e : k ≡ long) where
     pub tested_input : (length input ≡ k → ⊥) → refused InputLength output ≡ tested r m input long output room rest
@@ -48,6 +49,53 @@ module _ (r m : ℕ) (input : List ℕ) (long : ℕ) (output : List ℕ) (room :
         tested-all h =
             rw (good, eq-eqb (length input) long (a ∙ e), eq-eqb (length output) room (b ∙ f), ← place, le-ltb i (length input) h)
 
+-- ---- the tests 2 to 4 as one step
+-- the outcome after a step that refuses or passes
+abbrev pub after : Result (Unit {0}) Refusal → List ℕ → Outcome → Outcome
+after (Ok _) output rest = rest
+after (Err why) output rest = refused why output
+
+after_each : (a b d : Bool) (i : ℕ) (output : List ℕ) (rest : Outcome)
+    → after (cond (not a) (Err InputLength) (cond (not b) (Err OutputLength) (cond d (Err (Entry i)) (Ok tt)))) output rest
+    ≡ cond (not a) (refused InputLength output) (cond (not b) (refused OutputLength output) (cond d (refused (Entry i) output) rest))
+after_each false b d i output rest = refl
+after_each true false d i output rest = refl
+after_each true true true i output rest = refl
+after_each true true false i output rest = refl
+
+module _ (r m : ℕ) (input : List ℕ) (long : ℕ) (output : List ℕ) (room : ℕ) (rest : Outcome) {c : Code} (good : made r m ≡ Ok c)
+    {k n : ℕ} (e : k ≡ long) (f : n ≡ room) where
+  after_tests : after (bits_admitted input k (length output) n) output rest ≡ tested r m input long output room rest
+  unfolding tested
+  after_tests =
+      let i = first_bad_bit input in
+      rw (good, e, f) (after_each (eqb (length input) long) (eqb (length output) room) (ltb i (length input)) i output rest)
+
+  pub tested_refused : {why : Refusal} → bits_admitted input k (length output) n ≡ Err why
+      → refused why output ≡ tested r m input long output room rest
+  tested_refused t = ap (λ (x : Result (Unit {0}) Refusal). after x output rest) (sym t) ∙ after_tests
+
+  pub tested_passed : {u : Unit {0}} → bits_admitted input k (length output) n ≡ Ok u → rest ≡ tested r m input long output room rest
+  tested_passed t = ap (λ (x : Result (Unit {0}) Refusal). after x output rest) (sym t) ∙ after_tests
+
+-- what passes
+pub record Passed (input : List ℕ) (long output room : ℕ) : Type 0 where
+  pub long_input : length input ≡ long
+  pub long_output : output ≡ room
+  pub entries : Bits input
+
+pub bits_passed : {u : Unit {0}} (input : List ℕ) (long output room : ℕ) → bits_admitted input long output room ≡ Ok u → Passed input long output room
+bits_passed input long output room e =
+    elim (ℕ_discrete (length input) long) [
+      | yes i ↦ elim (ℕ_discrete output room) [
+        | yes o ↦
+            let t = rw (eq-eqb (length input) long i, eq-eqb output room o) at e in
+            record { long_input = i; long_output = o; entries = good_bits input (entry_ok (first_bad_bit input) (length input) t) }
+        | no o ↦ let z : ◌≡◌ {A = ℕ} 0 1 = cc (rw (eq-eqb (length input) long i, ne_eqb output room o) at e) in absurd (omega arith)
+      ]
+      | no i ↦ let z : ◌≡◌ {A = ℕ} 0 1 = cc (rw (ne_eqb (length input) long i) at e) in absurd (omega arith)
+    ]
+
 -- n and k of a made code are those of r and m
 module _ (r m : ℕ) {c : Code} (good : made r m ≡ Ok c) where
   pub its_length : {n : ℕ} → n ≡ 2 ^ c.m → n ≡ 2 ^ m
@@ -56,9 +104,9 @@ module _ (r m : ℕ) {c : Code} (good : made r m ≡ Ok c) where
   pub its_dimension : {k : ℕ} → k ≡ dimension c.r c.m → k ≡ dimension r m
   its_dimension e = e ∙ ap (λ (d : Code). dimension d.r d.m) (made_of r m c good).same
 
-good_or_bad : (x : Result Code Refusal) → ((c : Code) × (x ≡ Ok c)) ⊎ (x ≡ Err Parameters)
+good_or_bad : (x : Result Code Refusal) → ((c : Code) × (x ≡ Ok c)) ⊎ ((why : Refusal) × (x ≡ Err why))
 good_or_bad (Ok c) = inl (c, refl)
-good_or_bad (Err _) = inr refl
+good_or_bad (Err why) = inr (why, refl)
 
 module _ (r m : ℕ) (input : List ℕ) (long : ℕ) (output : List ℕ) (room : ℕ) (rest : Outcome) where
   pub passes-all : Sound (rm r m) → length input ≡ long → length output ≡ room → Bits input → tested r m input long output room rest ≡ rest
@@ -87,7 +135,8 @@ module _ (r m : ℕ) (input : List ℕ) (long : ℕ) (output : List ℕ) (room :
         ]
         | no i ↦ refuses InputLength (omega arith) (tested_input r m input long output room rest g.1 refl i)
       ])
-      (λ e. refuses Parameters (omega arith) (tested_parameters r m input long output room rest e))
+      (λ (g : (why : Refusal) × (made r m ≡ Err why)).
+      refuses g.0 (rw (made_refused r m g.0 g.1) (omega arith)) (tested_parameters r m input long output room rest g.1))
       (good_or_bad (made r m))
 
   pub tested_small : rest.number < 6 → (tested r m input long output room rest).number < 6

@@ -7,7 +7,7 @@ ghost use Rattle.words.specs.Bits.{Bits};
 ghost use Rattle.words.specs.Kinds.{kinds, fill, encoded};
 ghost use Rattle.words.specs.Inverse.{taken_back};
 ghost use Rattle.code.specs.SoundInput.{SoundInput};
-ghost use Rattle.encode.specs.Outcome.{outcome_of, encoding, inverting, taking_back};
+ghost use Rattle.encode.specs.Outcome.{outcome_of, bits_admitted, encoding, inverting, taking_back};
 ghost use Rattle.encode.specs.Work.{taking_row};
 
 use code::{Code, Refusal};
@@ -18,13 +18,7 @@ pub fn encode(r: u32, m: u32, bits: &[u8], word: &mut [u8]) -> Result<(), Refusa
         ≡ encoding r m bits.now word.old }
 {
     let code = Code::new(r, m)?;
-    if bits.len() != code.dimension() {
-        return Err(Refusal::InputLength);
-    }
-    if word.len() != code.length() {
-        return Err(Refusal::OutputLength);
-    }
-    code::test_bits(bits)?;
+    admit_bits(bits, code.dimension(), word.len(), code.length())?;
     put_word(code, bits, word);
     Ok(())
 }
@@ -35,14 +29,22 @@ pub fn inverse(r: u32, m: u32, word: &[u8], bits: &mut [u8]) -> Result<(), Refus
         ≡ inverting r m word.now bits.old }
 {
     let code = Code::new(r, m)?;
-    if word.len() != code.length() {
+    admit_bits(word, code.length(), bits.len(), code.dimension())?;
+    take_back(code, word, bits)
+}
+
+// The tests 2 to 4, for an input of bits that is to be so long, and a lent output of this length
+// that is to have so much room.
+pub fn admit_bits(input: &[u8], long: usize, output: usize, room: usize) -> Result<(), Refusal>
+    ensures { result ≡ bits_admitted input.now long output room }
+{
+    if input.len() != long {
         return Err(Refusal::InputLength);
     }
-    if bits.len() != code.dimension() {
+    if output != room {
         return Err(Refusal::OutputLength);
     }
-    code::test_bits(word)?;
-    take_back(code, word, bits)
+    code::test_bits(input)
 }
 
 // The row u of the information bits. The few kinds of a short row are written out for it.

@@ -1,6 +1,6 @@
 -- The layout of a packed record, fields to bytes and back (docs/RULES.md, §7).
 -- Each field is a whole number of nibbles, four bits each: m one, r one, a reading three. All run most significant first, two nibbles to a byte.
-use Rattle.std.specs.Prelude.{◌≡◌, List, [], ◌∷◌, cond, ℕ, zero, suc, ◌+◌, ◌-◌, ◌*◌, ◌/◌, ◌%◌, ◌^◌, ℤ, pos, negsuc, neg_ℤ, get_or, ltb, eqb}
+use Rattle.std.specs.Prelude.{◌≡◌, List, [], ◌∷◌, cond, ℕ, zero, suc, ◌+◌, ◌-◌, ◌*◌, ◌/◌, ◌%◌, ◌^◌, ℤ, pos, negsuc, neg_ℤ, get_or, ltb, eqb, Option, None, Some}
 use Rattle.code.specs.Sound.{largest_record_reading}
 
 -- nibbles to bytes, with zero bits to a whole byte
@@ -69,3 +69,8 @@ pad_of (suc m) p = 0
 unfoldable pub readings_in : ℕ → ℕ → ℕ
 readings_in zero k = 0
 readings_in (suc m) k = cond (eqb k (part_length m)) (2 ^ m) (readings_in m k)
+
+-- that number as code has it: None in place of 0
+abbrev pub part_readings : ℕ → Option ℕ
+part_readings zero = None
+part_readings (suc n) = Some (suc n)

@@ -1,6 +1,6 @@
 -- Laws of the layout: packing and unpacking are inverse to each other; lengths; one reading by its number.
 use Rattle.std.specs.Prelude.{◌≡◌, refl, List, [], ◌∷◌, ◌++◌, ℕ, zero, suc, ◌+◌, ◌-◌, ◌*◌, ◌/◌, ◌%◌, ◌^◌, ◌≤◌, ◌<◌, ℤ, pos, negsuc, nat_abs, ◌+ℤ◌, ◌-ℤ◌, length}
-use Rattle.std.specs.Prelude.{get_or}
+use Rattle.std.specs.Prelude.{get_or, None, Some}
 use Rattle.std.proofs.Common.{ap, sym, ◌∙◌, ⊎_elim, arith, lt-ltb, le-ltb, eq-eqb, ne_eqb}
 use Rattle.std.proofs.Math.Nat.{two-pow-succ}
 use Rattle.std.proofs.Math.Decide.{ℕ_discrete}
@@ -9,7 +9,7 @@ use Rattle.decoding.specs.Readings.{Within}
 use Rattle.code.specs.Sound.{largest_record_reading}
 use Rattle.numbers.specs.PartsLaws.{parts, by_parts, sum_parts}
 use Rattle.packing.specs.Layout.{bytes, nibbles, field, bottom_rail, reading, NoRail, spread, gathered, record_of, packed, unpacked, part_length}
-use Rattle.packing.specs.Layout.{pad_of, readings_in}
+use Rattle.packing.specs.Layout.{pad_of, readings_in, part_readings}
 
 -- every entry is below b
 abbrev pub Below : ℕ → List ℕ → Type 0
@@ -316,3 +316,20 @@ record_parts r m l = refl
 
 pub length_record : (r m : ℕ) (l : List ℤ) → length l ≡ 2 ^ m → length (record_of r m l) ≡ suc (part_length m)
 length_record r m l e = ap length (record_parts r m l) ∙ ap suc (length-packed m l e)
+
+-- how many readings, as code has it
+pub part_readings-some : (n : ℕ) → 0 < n → part_readings n ≡ Some n
+part_readings-some zero h = absurd (omega arith)
+part_readings-some (suc n) h = refl
+
+pub part_readings-no : (n : ℕ) → part_readings n ≡ None → n ≡ 0
+part_readings-no zero e = refl
+part_readings-no (suc n) e = absurd (cc e)
+
+pub record Held (n k : ℕ) : Type 0 where
+  pub some : n ≡ 0 → ⊥
+  pub is : n ≡ k
+
+pub part_readings-is : (n k : ℕ) → part_readings n ≡ Some k → Held n k
+part_readings-is zero k e = absurd (cc e)
+part_readings-is (suc n) k e = record { some = λ z. omega (arith, z); is = cc e }

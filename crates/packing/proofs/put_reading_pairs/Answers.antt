@@ -1,5 +1,5 @@
 -- `packing::put_reading_pairs` meets its contract: pass by pass the next two readings are stored.
-use mathlib.Core.Path.{◌≡◌, refl, ◌∙◌, sym}
+use mathlib.Core.Path.{◌≡◌, ◌∙◌, sym}
 use Prim.Native.Nat.{◌+◌, ◌*◌, ◌/◌, ◌≤◌}
 use native.Mathlib.Omega.{arith}
 use lib.IntN.{pos}
@@ -12,26 +12,14 @@ use Rattle.packing.specs.LayoutLaws.{length-unpacked, reading_even, reading_odd}
 use Rattle.packing.specs.PairLaws.{front_two}
 use Rattle.packing.proofs.put_reading_pairs.Goals as goal
 
-pub loop-j-init : goal.loop-j-init
-loop-j-init c = (refl, omega arith, refl, refl)
-
 pub bounds-part-j : goal.bounds-part-j
 bounds-part-j c = omega (arith, length-unpacked c.args.part.now)
-
-pub wide-a-requires : goal.wide-a-requires
-wide-a-requires c = tt
 
 pub bounds-part-j-in-loop-j : goal.bounds-part-j-in-loop-j
 bounds-part-j-in-loop-j c = omega (arith, length-unpacked c.args.part.now)
 
-pub wide-b-requires : goal.wide-b-requires
-wide-b-requires c = tt
-
 pub bounds-part-j-in-loop-j-2 : goal.bounds-part-j-in-loop-j-2
 bounds-part-j-in-loop-j-2 c = omega (arith, length-unpacked c.args.part.now)
-
-pub wide-c-requires : goal.wide-c-requires
-wide-c-requires c = tt
 
 pub bounds-readings-j-in-loop-j : goal.bounds-readings-j-in-loop-j
 bounds-readings-j-in-loop-j c =
@@ -48,24 +36,19 @@ loop-j-preserved c =
     let first : to_z w16 (of_z w16 c.reading_of.result) ≡ get_or x (2 * o.j) (pos 0) =
     to_z-of_z {w = w16} {z = c.reading_of.result} (record { sfits = c.reading_of.type_inv })
     ∙ c.reading_of.ensures
-    ∙ rw (c.wide-a.ensures.0, c.wide-b.ensures.0)
+    ∙ rw (c.from-a.ensures, c.from-b.ensures)
     (sym (reading_even o.j p (omega arith))) in
     let second : to_z w16 (of_z w16 c.reading_of-in-loop-j.result) ≡ get_or x (2 * o.j + 1) (pos 0) =
     to_z-of_z {w = w16} {z = c.reading_of-in-loop-j.result} (record { sfits = c.reading_of-in-loop-j.type_inv })
     ∙ c.reading_of-in-loop-j.ensures
-    ∙ rw (c.wide-b.ensures.0, c.wide-c.ensures.0) (sym (reading_odd o.j p long)) in (
-      refl,
-      omega arith,
-      rw (first, second, o.invariant.2) (front_two g.readings.now x (pos 0) o.j (omega arith) (omega arith)),
-      simp length-set o.invariant.3,
+    ∙ rw (c.from-b.ensures, c.from-c.ensures) (sym (reading_odd o.j p long)) in (
+      rw (first, second, o.invariant.0) (front_two g.readings.now x (pos 0) o.j (omega arith) (omega arith)),
+      simp length-set o.invariant.1,
     )
-
-pub shape_of-readings : goal.shape_of-readings
-shape_of-readings c = c.loop-j.invariant.3
 
 pub returns : goal.returns
 returns c =
     let g = c.args in
     let o = c.loop-j in
     let e : o.j ≡ length g.readings.now / 2 = omega arith in
-    rw (← e) o.invariant.2
+    rw (← e) o.invariant.0

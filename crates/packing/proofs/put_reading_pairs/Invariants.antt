@@ -1,6 +1,6 @@
 -- `packing::put_reading_pairs` meets its contract: pass by pass the next two readings are stored.
 use mathlib.Core.Path.{◌≡◌}
-use Prim.Native.Nat.{◌-◌, ◌*◌, ◌/◌, ◌≤◌}
+use Prim.Native.Nat.{◌*◌}
 use lib.ListN.{length}
 use Rattle.numbers.specs.Front.{front}
 use Rattle.packing.specs.Layout.{unpacked}
@@ -8,8 +8,5 @@ use Rattle.packing.proofs.put_reading_pairs.Given as goal
 
 abbrev pub invariant-loop-j : goal.invariant-loop-j
 invariant-loop-j l =
-    (l.pairs ≡ length l.initial.readings / 2) × (l.j ≤ l.pairs) × (l.readings ≡ front l.initial.readings (unpacked l.part) (2 * l.j))
+    (l.readings ≡ front l.initial.readings (unpacked l.part) (2 * l.j))
     × (length l.readings ≡ length l.initial.readings)
-
-abbrev pub decreases-loop-j : goal.decreases-loop-j
-decreases-loop-j l = l.pairs - l.j

@@ -29,7 +29,7 @@ returns-then-n-eq1 c =
     let stored : to_z w16 (of_z w16 c.reading_of.result) ≡ get_or x (2 * k) (pos 0) =
     to_z-of_z {w = w16} {z = c.reading_of.result} (record { sfits = c.reading_of.type_inv })
     ∙ c.reading_of.ensures
-    ∙ rw (c.wide.ensures.0, c.wide-then-n-eq1.ensures.0) (sym (reading_even k p (omega (arith, length-unpacked p)))) in
+    ∙ rw (c.from-first.ensures, c.from-second.ensures) (sym (reading_even k p (omega (arith, length-unpacked p)))) in
     ap₂ (λ (l : List ℤ) (v : ℤ). set l (2 * k) v) c.put_reading_pairs.ensures stored
     ∙ pairs_and_last d x (pos 0) (sym g.requires) c.if-n-eq1.true
 

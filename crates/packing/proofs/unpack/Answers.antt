@@ -1,30 +1,26 @@
 -- `packing::unpack` meets its contract: 2, then 3, then the readings.
-use Rattle.std.specs.Prelude.{Ok}
-use mathlib.Core.Path.{ap, sym, ◌∙◌}
-use Rattle.packing.specs.LayoutLaws.{readings-in}
+use Rattle.std.proofs.Common.{ap, sym, ◌∙◌, Ok}
+use Rattle.packing.specs.LayoutLaws.{readings-in, part_readings-no, part_readings-is}
 use Rattle.packing.specs.Unpacking.{outcome_of}
 use Rattle.packing.specs.UnpackingLaws.{no_part, other_room, all-unpacked}
 use Rattle.packing.proofs.unpack.Goals as goal
 
-pub returns-then-n-eq0 : goal.returns-then-n-eq0
-returns-then-n-eq0 c = sym (no_part c.args.part.now c.args.readings.now
-    (sym c.readings_in-n.ensures ∙ c.if-n-eq0.true))
+pub returns-in_default : goal.returns-in_default
+returns-in_default c =
+    sym (no_part c.args.part.now c.args.readings.now (part_readings-no _ (sym c.readings_in.ensures ∙ c.in_default.is)))
 
 pub returns-then-readings-n : goal.returns-then-readings-n
 returns-then-readings-n c =
-    let g = c.args in
-    let is = c.readings_in-n.ensures in
-    sym (other_room g.part.now g.readings.now (λ z. c.if-n-eq0.false (is ∙ z)) (λ e. c.if-readings-n.true (e ∙ sym is)))
+    let held = part_readings-is _ _ (sym c.readings_in.ensures ∙ c.in-Some.is) in
+    sym (other_room c.args.part.now c.args.readings.now held.some (λ e. c.if-readings-n.true (e ∙ held.is)))
 
 pub put_readings-requires : goal.put_readings-requires
 put_readings-requires c =
-    let is = c.readings_in-n.ensures in
-    c.if-readings-n.false ∙ is ∙ readings-in _ c.args.part.now (λ z. c.if-n-eq0.false (is ∙ z))
+    let held = part_readings-is _ _ (sym c.readings_in.ensures ∙ c.in-Some.is) in
+    c.if-readings-n.false ∙ sym held.is ∙ readings-in _ c.args.part.now held.some
 
 pub returns : goal.returns
 returns c =
-    let g = c.args in
-    let is = c.readings_in-n.ensures in
+    let held = part_readings-is _ _ (sym c.readings_in.ensures ∙ c.in-Some.is) in
     ap (outcome_of (Ok tt)) c.put_readings.ensures
-    ∙ sym (all-unpacked g.part.now g.readings.now (λ z. c.if-n-eq0.false (is ∙ z))
-    (c.if-readings-n.false ∙ is))
+    ∙ sym (all-unpacked c.args.part.now c.args.readings.now held.some (c.if-readings-n.false ∙ sym held.is))
