@@ -52,14 +52,12 @@ next_word p s e h x y long begins doubles =
 pub record Doubles (p h n : ℕ) : Type 0 where
   pub next : h + h ≡ 2 ^ suc p
   pub room : h + h ≤ n
-  pub small : h + h ≤ 256
 
-pub doubles : (p m h n : ℕ) → p < m → m ≤ 8 → h ≡ 2 ^ p → n ≡ 2 ^ m → Doubles p h n
-doubles p m h n more most is long =
+pub doubles : (p m h n : ℕ) → p < m → h ≡ 2 ^ p → n ≡ 2 ^ m → Doubles p h n
+doubles p m h n more is long =
     let up : 2 ^ suc p ≤ 2 ^ m = pow_mono more in
-    let top : 2 ^ m ≤ 256 = pow_mono most in
     let next : h + h ≡ 2 ^ suc p = omega (arith, two-pow-succ p) in
-    record { next = next; room = omega arith; small = omega arith }
+    record { next = next; room = omega arith }
 
 -- the loop of `double`, after j passes
 abbrev pub doubling : List ℕ → ℕ → ℕ → ℕ → List ℕ

@@ -1,5 +1,6 @@
 -- What the inner functions require and give.
 use Rattle.std.specs.Prelude.{◌≡◌, ◌⊎◌, List, ◌++◌, map, ℕ, ◌+◌, ◌*◌, ◌^◌, ◌%◌, ◌≤◌, ◌<◌, ℤ, pos, nat_abs, get_or, take, drop}
+use Rattle.std.specs.Int.{from_bool}
 use Rattle.decoding.specs.Quick.{hard}
 use Rattle.hadamard.specs.Hadamard.{sums, differences, LargestTwo}
 use Rattle.first_order.specs.declared.Seen.{Seen}
@@ -27,7 +28,7 @@ pub record Top (f : ℕ → ℕ) (j most : ℕ) : Type 0 where
 -- what looking at all entries finds
 pub record Looked (h : List ℤ) (s : Seen) : Type 0 where
   pub largest : LargestTwo h s.place s.best s.second
-  pub sign-is : s.sign ≡ hard (get_or h s.place (pos 0))
+  pub sign-is : from_bool s.negative ≡ hard (get_or h s.place (pos 0))
 
 -- the first h bits repeated after them, each plus b, modulo 2
 abbrev pub doubled : ℕ → ℕ → List ℕ → List ℕ

@@ -22,7 +22,7 @@ use search::Found;
 #[derive(Clone, Copy)]
 pub struct Seen {
     pub place: usize,
-    pub sign: u32,
+    pub negative: bool,
     pub best: u32,
     pub second: u32,
 }
@@ -47,12 +47,7 @@ pub fn first_order(
 }
 
 // The work, once no test refuses.
-fn decode(
-    m: usize,
-    readings: &[i16],
-    bits: &mut [u8],
-    word: &mut [u8],
-) -> Result<Found, Refusal>
+fn decode(m: usize, readings: &[i16], bits: &mut [u8], word: &mut [u8]) -> Result<Found, Refusal>
     requires { SoundReadings (rm 1 m) readings.now (length bits.old) (length word.old) }
     ensures { outcome_of result bits.new word.new
         ≡ as_search m readings.now bits.old word.old }
@@ -64,8 +59,9 @@ fn decode(
     if seen.best == seen.second {
         return Err(Refusal::Tied { penalty, visits: 0 });
     }
-    put_bits(bits, m, seen.place, seen.sign);
-    put_word(word, m, seen.place, seen.sign as u8);
+    let sign = u8::from(seen.negative);
+    put_bits(bits, m, seen.place, sign);
+    put_word(word, m, seen.place, sign);
     Ok(Found {
         penalty,
         gap: (seen.best - seen.second) / 2,
@@ -88,9 +84,8 @@ fn put_sums(readings: &[i16], row: &mut [i32])
     requires { length row.old ≡ length readings.now }
     ensures { row.new ≡ readings.now }
 {
-    for j in 0..readings.len() {
-        let x = readings[j] as i32;
-        row[j] = x;
+    for (j, reading) in readings.iter().enumerate() {
+        row[j] = i32::from(*reading);
     }
 }
 
@@ -100,18 +95,18 @@ fn cross(row: &mut [i32], h: usize)
     requires { (length row.old ≡ h + h) × (sizes row.old < 2 ^ 31) }
     ensures { row.new ≡ crossed h row.old }
 {
-    let mut j = 0;
-    while j < h {
+    for j in 0..h {
         let a = row[j];
         let b = row[h + j];
         row[j] = a + b;
         row[h + j] = a - b;
-        j += 1;
     }
 }
 
 // The transforms of four, eight and sixteen entries. All their steps are constants: the compiler
 // makes straight vector code of them.
+// stays: a size that is a const parameter cannot be halved, and a closure for the half needs a
+// contract longer than the three.
 fn four(row: &mut [i32])
     requires { (length row.old ≡ 4) × (sizes row.old < 2 ^ 31) }
     ensures { row.new ≡ hadamard 2 row.old }
@@ -158,34 +153,14 @@ fn transform(row: &mut [i32], m: usize)
 }
 
 // ---- looking at all entries
-fn size(x: i32) -> u32
-    requires { nat_abs x < 2 ^ 31 }
-    ensures { result ≡ nat_abs x }
-{
-    if x < 0 { (-x) as u32 } else { x as u32 }
-}
-
-// The bit that an entry speaks for.
-fn sign_of(x: i32) -> u32
-    ensures { result ≡ hard x }
-{
-    if x < 0 { 1 } else { 0 }
-}
-
-fn larger(a: u32, b: u32) -> u32
-    ensures { result ≡ max a b }
-{
-    if a < b { b } else { a }
-}
-
 // The sum of the readings' sizes.
 fn total_size(readings: &[i16]) -> u32
     requires { sizes readings.now < 2 ^ 31 }
     ensures { result ≡ sizes readings.now }
 {
     let mut sum = 0u32;
-    for j in 0..readings.len() {
-        sum += size(readings[j] as i32);
+    for reading in readings {
+        sum += u32::from(reading.unsigned_abs());
     }
     sum
 }
@@ -198,7 +173,7 @@ fn top_key(row: &[i32]) -> u32
     let mut most = 0u32;
     let n = row.len() as u32;
     for j in 0..n {
-        most = larger(most, size(row[j as usize]) * 256 + j);
+        most = most.max(row[j as usize].unsigned_abs() * 256 + j);
     }
     most
 }
@@ -209,8 +184,8 @@ fn top_size(row: &[i32]) -> u32
     ensures { Top (size_at row.now) (length row.now) result }
 {
     let mut most = 0u32;
-    for j in 0..row.len() {
-        most = larger(most, size(row[j]));
+    for entry in row {
+        most = most.max(entry.unsigned_abs());
     }
     most
 }
@@ -223,12 +198,12 @@ fn look(row: &mut [i32]) -> Seen
 {
     let key = top_key(row);
     let place = (key % 256) as usize;
-    let sign = sign_of(row[place]);
+    let negative = row[place].is_negative();
     row[place] = 0;
     let second = top_size(row);
     Seen {
         place,
-        sign,
+        negative,
         best: key / 256,
         second,
     }
@@ -240,10 +215,8 @@ fn double(word: &mut [u8], h: usize, bit: u8)
     requires { (h + h ≤ length word.old) × Bits (take h word.old) × (bit < 2) }
     ensures { word.new ≡ doubled h bit word.old }
 {
-    let mut j = 0;
-    while j < h {
+    for j in 0..h {
         word[h + j] = (word[j] + bit) % 2;
-        j += 1;
     }
 }
 
@@ -253,26 +226,20 @@ pub fn put_word(word: &mut [u8], m: usize, place: usize, sign: u8)
     ensures { word.new ≡ first_order m place sign }
 {
     word[0] = sign;
-    let mut h = 1;
-    let mut p = 0;
-    while p < m {
+    for p in 0..m {
         let above = place >> p;
-        double(word, h, (above % 2) as u8);
-        h = h + h;
-        p += 1;
+        double(word, 1 << p, (above % 2) as u8);
     }
 }
 
 // The digits of the place, the highest first; then the sign plus their number of ones, modulo 2.
-fn put_bits(bits: &mut [u8], m: usize, place: usize, sign: u32)
+fn put_bits(bits: &mut [u8], m: usize, place: usize, sign: u8)
     requires { (length bits.old ≡ m + 1) × (m ≤ largest_m) × (place < 2 ^ m) × (sign < 2) }
     ensures { bits.new ≡ bits_of m place sign }
 {
-    let mut i = 0;
-    while i < m {
+    for i in 0..m {
         let above = place >> (m - 1 - i);
         bits[i] = (above % 2) as u8;
-        i += 1;
     }
-    bits[m] = ((usize::count_ones(place) % 2 + sign) % 2) as u8;
+    bits[m] = ((place.count_ones() % 2) as u8 + sign) % 2;
 }

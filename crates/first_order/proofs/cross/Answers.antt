@@ -15,7 +15,7 @@ use Rattle.first_order.proofs.cross.Goals as goal
 use Rattle.first_order.proofs.cross.Goals.{After-b-1}
 
 pub loop-j-init : goal.loop-j-init
-loop-j-init c = (zero-le, λ long. crossing-none c.args.row.now c.args.h long, refl)
+loop-j-init c = λ long. crossing-none c.args.row.now c.args.h long
 
 -- what a pass stores
 abbrev first_read : After-b-1 → ℤ
@@ -43,8 +43,8 @@ pair c =
     let d = c.args.row.now in
     let h = c.args.h in
     let long = c.requires.0 in (
-      to_z-of_z {w = w32} (record { sfits = c.a-1.given }) ∙ read_first d h long o.row o.j (omega arith) (o.invariant.1 long),
-      to_z-of_z {w = w32} (record { sfits = c.b-1.given }) ∙ read-second d h long o.row o.j (omega arith) (o.invariant.1 long),
+      to_z-of_z {w = w32} (record { sfits = omega arith }) ∙ read_first d h long o.row o.j (omega arith) (o.invariant long),
+      to_z-of_z {w = w32} (record { sfits = omega arith }) ∙ read-second d h long o.row o.j (omega arith) (o.invariant long),
     )
 
 pub overflow_add-row : goal.overflow_add-row
@@ -76,17 +76,11 @@ pub loop-j-preserved : goal.loop-j-preserved
 loop-j-preserved c =
     let o = c.loop-j in
     let d = c.args.row.now in
-    let h = c.args.h in (
-      omega arith,
-      λ long.
-          pass_stores d h long o.row o.j (omega arith) (o.invariant.1 long) _ _
-          (to_z-of_z {w = w32} (overflow_add-row c) ∙ ap₂ ◌+ℤ◌ (pair c).0 (pair c).1)
-          (to_z-of_z {w = w32} (overflow_sub-row c) ∙ ap₂ ◌-ℤ◌ (pair c).0 (pair c).1),
-      length-set (set o.row o.j (sum-stored c)) (h + o.j) (difference-stored c) ∙ length-set o.row o.j (sum-stored c) ∙ o.invariant.2,
-    )
-
-pub shape_of-row : goal.shape_of-row
-shape_of-row c = c.loop-j.invariant.2
+    let h = c.args.h in
+    λ long.
+    pass_stores d h long o.row o.j (omega arith) (o.invariant long) _ _
+    (to_z-of_z {w = w32} (overflow_add-row c) ∙ ap₂ ◌+ℤ◌ (pair c).0 (pair c).1)
+    (to_z-of_z {w = w32} (overflow_sub-row c) ∙ ap₂ ◌-ℤ◌ (pair c).0 (pair c).1)
 
 pub returns : goal.returns
 returns c =
@@ -95,4 +89,4 @@ returns c =
     let h = c.args.h in
     let long = c.requires.0 in
     let e : o.j ≡ h = omega arith in
-    o.invariant.1 long ∙ ap (crossing d h long) e ∙ crossing-all d h long
+    o.invariant long ∙ ap (crossing d h long) e ∙ crossing-all d h long

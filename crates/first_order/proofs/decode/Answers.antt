@@ -1,4 +1,6 @@
 -- What the look finds gives the outcome.
+use Rattle.std.specs.Prelude.{◌≡◌}
+use Rattle.decoding.specs.Quick.{hard}
 use mathlib.Core.Path.{ap, sym, ◌∙◌}
 use Prim.Native.Nat.{ℕ, ◌-◌, ◌/◌}
 use native.Mathlib.Omega.{arith}
@@ -15,6 +17,7 @@ use Rattle.search.specs.Outcome.{found_with, refused}
 use Rattle.decoding.specs.PathLaws.{hard_bit}
 use Rattle.first_order.specs.OutcomeLaws.{sums_small, best_most, tied_reported, found-reported}
 use Rattle.first_order.proofs.decode.Goals as goal
+use Rattle.first_order.proofs.decode.Goals.{After-from-sign}
 
 pub slice_bounds-sums-end : goal.slice_bounds-sums-end
 slice_bounds-sums-end c = let s = c in omega (arith, length_most s.requires.sound, s.requires.entries.long)
@@ -53,6 +56,10 @@ returns-then-seen c =
     ap (λ (t : ℕ). refused (Tied ((t - r.best) / 2) 0) a.bits.now a.word.now) c.total_size.ensures
     ∙ tied_reported a.m a.readings.now a.bits.now a.word.now c.requires r.place r.best r.second f.ensures.largest c.if-seen.true
 
+-- the sign as a bit
+sign_bit : (c : After-from-sign) → c.from-sign.result ≡ hard (entry c.args.m c.args.readings.now c.find-seen.result.place)
+sign_bit c = c.from-sign.ensures ∙ c.find-seen.ensures.sign-is
+
 pub put_bits-requires : goal.put_bits-requires
 put_bits-requires c =
     let m = c.args.m in
@@ -61,17 +68,13 @@ put_bits-requires c =
       c.requires.long_bits ∙ sym (sum-kinds 1 m) ∙ sum-first_order m ∙ omega arith,
       c.requires.sound.m_small,
       omega (arith, f.ensures.largest.within, length-hadamard m c.args.readings.now c.requires.entries.long),
-      omega (arith, f.ensures.sign-is, hard_bit z),
+      omega (arith, sign_bit (goal.at.put_bits-requires c).After-from-sign, hard_bit z),
     )
-
-pub overflow_cast-seen : goal.overflow_cast-seen
-overflow_cast-seen c =
-    omega (arith, c.find-seen.ensures.sign-is, hard_bit (entry c.args.m c.args.readings.now c.find-seen.result.place))
 
 pub put_word-requires : goal.put_word-requires
 put_word-requires c =
     let z = entry c.args.m c.args.readings.now c.find-seen.result.place in
-    (c.requires.long_word, c.requires.sound.m_small, omega (arith, c.find-seen.ensures.sign-is, hard_bit z))
+    (c.requires.long_word, c.requires.sound.m_small, omega (arith, sign_bit (goal.at.put_word-requires c).After-from-sign, hard_bit z))
 
 pub returns : goal.returns
 returns c =
@@ -82,4 +85,4 @@ returns c =
     let w = c.put_word in
     ap (λ (t : ℕ). found_with ((t - r.best) / 2) ((r.best - r.second) / 2) 0 b.new.bits w.new.word) c.total_size.ensures
     ∙ found-reported a.m a.readings.now a.bits.now a.word.now c.requires r.place r.best r.second f.ensures.largest
-    c.if-seen.false r.sign f.ensures.sign-is b.new.bits w.new.word b.ensures w.ensures
+    c.if-seen.false c.from-sign.result (sign_bit (goal.at.returns c).After-from-sign) b.new.bits w.new.word b.ensures w.ensures

@@ -1,12 +1,7 @@
 -- The loop's invariant: the sum is that of the part that is read.
-use mathlib.Core.Path.{◌≡◌}
-use Prim.Native.Nat.{◌-◌, ◌≤◌}
-use lib.ListN.{length, take}
+use Rattle.std.specs.Prelude.{◌≡◌, take}
 use Rattle.decoding.specs.Readings.{sizes}
 use Rattle.first_order.proofs.total_size.Given as goal
 
-abbrev pub invariant-loop-j : goal.invariant-loop-j
-invariant-loop-j l = (l.j ≤ length l.readings) × (l.sum ≡ sizes (take l.j l.readings))
-
-abbrev pub decreases-loop-j : goal.decreases-loop-j
-decreases-loop-j l = length l.readings - l.j
+abbrev pub invariant-loop-reading : goal.invariant-loop-reading
+invariant-loop-reading l = l.sum ≡ sizes (take l.reading-index l.readings)
