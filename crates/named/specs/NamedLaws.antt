@@ -1,7 +1,8 @@
 -- Laws of rows that name indices: the kinds left, the test, and what the loops over a row have found so far.
 use Rattle.std.specs.Prelude.{◌≡◌, Bool, true, false, ◌&&◌, ◌||◌, ℕ, zero, suc, ◌+◌, ◌^◌, ◌≤◌, ◌<◌, length, get_or, drop, replicate, Result, Ok, Err}
 use Rattle.std.proofs.Math.Path.{refl, ap, ap₂}
-use Rattle.std.proofs.Common.{sym, ◌∙◌, subst, true≢false, zero-le, suc-ne-zero, drop_of_length-le}
+use Rattle.std.specs.Result.{is_err}
+use Rattle.std.proofs.Common.{sym, ◌∙◌, subst, ⊎_elim, true≢false, zero-le, suc-ne-zero, drop_of_length-le}
 use Rattle.std.proofs.Math.Bool.{not}
 use mathlib.Core.List.{List, [], ◌∷◌}
 use native.Mathlib.Omega.{arith}
@@ -12,19 +13,22 @@ use Rattle.std.proofs.lemmas.List.{length-replicate}
 use Rattle.std.proofs.Math.Seq.{drop-cons}
 use Rattle.std.proofs.Math.Dec.{ltb, eqb}
 use borrow.Author.Tests.{eq-eqb, ne_eqb, eqb-true, lt-ltb, le-ltb, ltb-true, ltb-false, not-true}
+use Rattle.numbers.specs.Choice.{lt_or_le}
 use Rattle.numbers.specs.Sums.{sum}
 use Rattle.words.specs.Bits.{Bits}
 use Rattle.words.specs.Kinds.{kinds, Frozen}
 use Rattle.words.proofs.KindLaws.{length-kinds, bits_kinds, sum_kinds_pos}
 use Rattle.words.specs.TransformLaws.{bits_zeros}
 use Rattle.code.specs.declared.Code.{Code}
+use Rattle.code.specs.declared.Refusal.{Refusal}
 use Rattle.code.specs.declared.Refusal.TheVariants.{Parameters, Named}
 use Rattle.code.specs.Sound.{Sound, made, rm}
-use Rattle.code.specs.SoundLaws.{made_of}
+use Rattle.code.specs.SoundLaws.{made_refused, made_of}
 use Rattle.code.specs.Entries.{first_bad_bit}
 use Rattle.code.specs.EntriesLaws.{good_bits, first-none}
+use Rattle.code.specs.Admitted.{bits_tested}
+use Rattle.code.specs.AdmittedLaws.{entry_refused, entry_passed}
 use Rattle.named.specs.Named.{kind_left, left, GoodRow, named_frozen, names_frozen, good_row, row_admitted}
-use Rattle.code.specs.declared.Refusal.{Refusal}
 
 -- ---- the kinds left
 kind_left_frozen : (a : ℕ) → kind_left a 0 ≡ 0
@@ -168,9 +172,26 @@ module _ (named ks : List ℕ) (are : Bits ks) where
       unfolding good_row
       none_wrong e = rw (eq-eqb (length named) (length ks) long, le-ltb (first_bad_bit named) (length named) bits, e)
 
+-- what the test of its bytes shows
+pub byte_wrong : (named : List ℕ) → is_err (bits_tested named) ≡ true → first_bad_bit named < length named
+byte_wrong named e =
+    let place = first_bad_bit named in
+    ⊎_elim
+    (λ h. h)
+    (λ h. absurd (true≢false (sym e ∙ ap is_err (sym (entry_passed place (length named) h)))))
+    (lt_or_le place (length named))
+
+pub bytes_right : (named : List ℕ) → is_err (bits_tested named) ≡ false → length named ≤ first_bad_bit named
+bytes_right named e =
+    let place = first_bad_bit named in
+    ⊎_elim
+    (λ h. absurd (true≢false (ap is_err (entry_refused place (length named) h) ∙ e)))
+    (λ h. h)
+    (lt_or_le place (length named))
+
 -- ---- the tests 1 and 12
 module _ (r m : ℕ) (named : List ℕ) where
-  pub row_parameters : made r m ≡ Err Parameters → Err Parameters ≡ row_admitted r m named
+  pub row_parameters : {why : Refusal} → made r m ≡ Err why → Err why ≡ row_admitted r m named
   unfolding row_admitted
   row_parameters e = rw e
 
@@ -203,7 +224,9 @@ module _ (r m : ℕ) (named : List ℕ) where
 
   row_decided_by : (x : Result Code Refusal) → made r m ≡ x → RowDecided r m named
   row_decided_by (Ok c) e = row_decided_good c (good_row named (kinds c.r c.m)) e refl
-  row_decided_by (Err _) e = bad_parameters e (row_parameters r m named e)
+  row_decided_by (Err why) e =
+      let is = made_refused r m why e in
+      bad_parameters (e ∙ ap Err is) (ap Err (sym is) ∙ row_parameters r m named e)
 
   pub row_decided : RowDecided r m named
   row_decided = row_decided_by (made r m) refl
