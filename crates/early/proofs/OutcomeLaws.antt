@@ -26,7 +26,7 @@ refusal_whole : (why : Refusal) (bits word : List ℕ) → refused why bits word
 refusal_whole why bits word = rw (ne_eqb (number_of why) 0 (λ e. omega (arith, number_above why, e)))
 
 pub penalty_only_outcome : (a : Result Found Refusal) (bits word : List ℕ) → outcome_of (penalty_only a) bits word ≡ word_only (Search.outcome_of a bits word)
-penalty_only_outcome (FOUND penalty gap visits) bits word = refl
+penalty_only_outcome (Ok best) bits word = refl
 penalty_only_outcome (Err why) bits word = refusal_whole why bits word
 
 module _ (r m allowed : ℕ) (l : List ℤ) (bits word : List ℕ) where

@@ -14,7 +14,7 @@ use Rattle.search.specs.declared.Found.{Found}
 
 -- the answer as a search's, without gap and visits
 abbrev pub as_searched : Result ℕ Refusal → Result Found Refusal
-as_searched (Ok penalty) = FOUND penalty 0 0
+as_searched (Ok penalty) = Ok (record { penalty = penalty; gap = 0; visits = 0 })
 as_searched (Err why) = Err why
 
 -- the answer in the rules' numbers

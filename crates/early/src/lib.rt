@@ -2,7 +2,7 @@
 // the search's.
 #![tactic(auto)]
 
-ghost use Rattle.std.specs.Prelude.{◌≡◌, ◌^◌, ◌≤◌, ◌<◌, max, nat_abs, length};
+ghost use Rattle.std.specs.Prelude.{◌≡◌, ◌^◌, ◌≤◌, ◌<◌, nat_abs, length};
 ghost use Rattle.decoding.specs.Readings.{loss};
 ghost use Rattle.sure.specs.Sure.{largest, doubt_at, doubt};
 ghost use Rattle.sure.specs.Test.{is_sure};
@@ -117,31 +117,19 @@ fn surely_right(code: Code, readings: &[i16], word: &[u8]) -> bool
     doubt(largest, readings, word) < largest * (1u32 << (code.m - code.r))
 }
 
-fn larger(x: u32, y: u32) -> u32
-    ensures { result ≡ max x y }
-{
-    if x < y { y } else { x }
-}
-
 // What the reading loses by the bit.
 fn against(reading: i16, bit: u8) -> u32
     ensures { result ≡ loss reading bit }
 {
-    rows::loss(reading as i32, bit)
-}
-
-fn size(reading: i16) -> u32
-    ensures { result ≡ nat_abs reading }
-{
-    against(reading, 0) + against(reading, 1)
+    rows::loss(i32::from(reading), bit)
 }
 
 fn largest_size(readings: &[i16]) -> u32
     ensures { result ≡ largest readings.now }
 {
     let mut most = 0u32;
-    for j in 0..readings.len() {
-        most = larger(most, size(readings[j]));
+    for reading in readings {
+        most = most.max(u32::from(reading.unsigned_abs()));
     }
     most
 }
@@ -163,8 +151,8 @@ fn doubt(largest: u32, readings: &[i16], word: &[u8]) -> u32
     ensures { result ≡ doubt largest readings.now word.now }
 {
     let mut sum = 0u32;
-    for j in 0..word.len() {
-        sum += doubt_at(largest, readings[j], word[j]);
+    for (j, bit) in word.iter().enumerate() {
+        sum += doubt_at(largest, readings[j], *bit);
     }
     sum
 }

@@ -1,16 +1,12 @@
 -- The reading, widened to 32 bits.
-use mathlib.Core.Path.{ap, ◌∙◌}
-use native.Mathlib.Omega.{arith}
-use lib.IntN.{ℤ}
+use Rattle.std.specs.Prelude.{◌≡◌, ℤ}
+use Rattle.std.proofs.Common.{ap, ◌∙◌, arith, to_z-of_z}
+use Rattle.std.specs.Int.{w16, w32}
 use Rattle.decoding.specs.Readings.{loss}
-use Rattle.rows.specs.RowLaws.{reading_fits, reading-read, reading-size}
 use Rattle.early.proofs.against.Goals as goal
 
-pub overflow_cast-reading : goal.overflow_cast-reading
-overflow_cast-reading c = reading_fits c.ranges.reading
-
-pub loss-requires : goal.loss-requires
-loss-requires c = rw (reading-read c.ranges.reading) (omega (arith, reading-size c.args.reading c.ranges.reading))
-
 pub returns : goal.returns
-returns c = c.loss.ensures ∙ ap (λ (x : ℤ). loss x c.args.bit) (reading-read c.ranges.reading)
+returns c =
+    let is : c.from.result ≡ c.args.reading = c.from.ensures ∙ to_z-of_z {w = w16} c.ranges.reading in
+    let read = to_z-of_z {w = w32} {z = c.from.result} (record { sfits = omega arith }) ∙ is in
+    c.loss.ensures ∙ ap (λ (x : ℤ). loss x c.args.bit) read

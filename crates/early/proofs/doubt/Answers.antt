@@ -15,13 +15,13 @@ use Rattle.early.proofs.doubt.Goals.{After-doubt_at-sum}
 
 pub loop-j-init : goal.loop-j-init
 unfolding doubt
-loop-j-init c = (omega arith, refl)
+loop-j-init c = refl
 
 pub doubt_at-sum-requires : goal.doubt_at-sum-requires
 doubt_at-sum-requires c =
     let g = c in
     let j = c.loop-j.j in
-    (rw (to_z-of_z (record { sfits = c.doubt_at-arg-1.given })) (g.requires.within j), g.requires.small)
+    (rw (to_z-of_z {w = w16} {z = get_or g.args.readings.now j (pos 0)} (record { sfits = omega arith })) (g.requires.within j), g.requires.small)
 
 -- one more position
 more : (c : After-doubt_at-sum)
@@ -34,8 +34,8 @@ more c =
     let l = g.readings.now in
     let x = g.word.now in
     let M = g.largest in
-    let read = to_z-of_z {w = w16} {z = get_or l o.j (pos 0)} (record { sfits = c.doubt_at-arg-1.given }) in
-    ap₂ ◌+◌ o.invariant.1 (c.doubt_at-sum.ensures ∙ ap (λ (z : ℤ). doubt_at M z (get_or x o.j 0)) read)
+    let read = to_z-of_z {w = w16} {z = get_or l o.j (pos 0)} (record { sfits = omega arith }) in
+    ap₂ ◌+◌ o.invariant (c.doubt_at-sum.ensures ∙ ap (λ (z : ℤ). doubt_at M z (get_or x o.j 0)) read)
     ∙ sym (doubt-more M l x o.j (omega (arith, c.requires.long)) (omega arith))
 
 pub overflow_add-sum : goal.overflow_add-sum
@@ -47,11 +47,11 @@ overflow_add-sum c =
     record { fits = omega (arith, more c, doubt-part g.args.largest l x j, g.requires.sum_small) }
 
 pub loop-j-preserved : goal.loop-j-preserved
-loop-j-preserved c = (omega arith, more c)
+loop-j-preserved c = more c
 
 pub returns : goal.returns
 returns c =
     let g = c in
     let l = g.args.readings.now in
-    c.loop-j.invariant.1
+    c.loop-j.invariant
     ∙ ap (λ (k : List ℤ). doubt g.args.largest k g.args.word.now) (take_all c.loop-j.j l (omega (arith, g.requires.long)))

@@ -1,5 +1,5 @@
 -- The quick reading is in the two lent rows; if it passes the test it is copied, otherwise the search answers.
-use Rattle.std.specs.Prelude.{Result}
+use Rattle.std.specs.Prelude.{ℕ, Result}
 use mathlib.Core.Path.{ap, sym, ◌∙◌}
 use native.Mathlib.Omega.{arith}
 use Rattle.search.specs.RunnerUp.{RunnerUpOutcome}
