@@ -67,21 +67,10 @@ fn search_sound(
     let mut own = [0.0f32; 256];
     let n = code.length();
     code::put_kinds(code, &mut kinds[0..n]);
-    copy_readings(readings, &mut own[0..n]);
+    bit_rows::copy(readings, &mut own[0..n]);
     let mut runner_up = [0u8; 256];
     let result = search_kinds(&own, &kinds, code.m, allowed, bits, word, &mut runner_up);
     WithRunnerUp { result, runner_up }
-}
-
-fn copy_readings(from: &[f32], to: &mut [f32])
-    requires { length to.old ≡ length from.now }
-    ensures { to.new ≡ from.now }
-{
-    let mut i = 0;
-    while i < from.len() {
-        to[i] = from[i];
-        i += 1;
-    }
 }
 
 // The search over the words of any row of 2^m kinds. The walk holds its rows in arrays of its own,
@@ -137,6 +126,7 @@ fn search_kinds(
 }
 
 // The count that a penalty is.
+// stays: u32 has no From of a float; the contract says for which floats the cast is defined.
 fn whole(x: f32) -> u32
     requires { Penalty x }
     ensures { result ≡ count x }

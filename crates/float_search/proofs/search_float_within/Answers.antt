@@ -9,7 +9,7 @@ use Rattle.search.specs.RunnerUp.{runner_up_outcome_of}
 use Rattle.search.proofs.RunnerUpLaws.{runner_up-refused, runner_up_answered}
 use Rattle.float_numbers.specs.Whole.{wholes}
 use Rattle.float_search.proofs.search_float_within.Goals as goal
-use Rattle.float_search.proofs.search_float_within.Goals.{In-Allowed}
+use Rattle.float_search.proofs.search_float_within.Goals.{In-Ok}
 
 is-allowed : (c : In-Ok)
     → let s = c.args in

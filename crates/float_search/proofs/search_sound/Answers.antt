@@ -33,8 +33,8 @@ slice_bounds-own-end c =
     let sized = c in
     omega (arith, length_most sized.requires.sound, sized.length-n.ensures)
 
-pub copy_readings-requires : goal.copy_readings-requires
-copy_readings-requires c =
+pub copy-requires : goal.copy-requires
+copy-requires c =
     let filled = c in
     let sized = filled in
     let start = sized in
@@ -50,7 +50,7 @@ search_kinds-result-requires c =
     let s = start.args in
     let n = 2 ^ s.code.m in (
       refl,
-      same_readings (own_is copied.copy_readings.new.to _ s.readings.now n copied.copy_readings.ensures start.requires.entries.long)
+      same_readings (own_is copied.copy.new.to _ s.readings.now n copied.copy.ensures start.requires.entries.long)
           (searchable _
           (front-is filled.put_kinds.new.row _ (kinds s.code.r s.code.m) n filled.put_kinds.ensures (length-kinds s.code.r s.code.m))
           start.requires),
@@ -64,7 +64,7 @@ returns c =
     let start = filled in
     let s = start.args in
     let m = s.code.m in
-    let own = own_is copied.copy_readings.new.to _ s.readings.now (2 ^ m) copied.copy_readings.ensures start.requires.entries.long in
+    let own = own_is copied.copy.new.to _ s.readings.now (2 ^ m) copied.copy.ensures start.requires.entries.long in
     let is = front-is filled.put_kinds.new.row _ (kinds s.code.r m) (2 ^ m) filled.put_kinds.ensures (length-kinds s.code.r m) in
     done.search_kinds-result.ensures
     ∙ ap₂ (λ (ks : List ℕ) (x : List ℤ). runner_up_outcome_by m ks x s.allowed s.bits.now s.word.now) is own
