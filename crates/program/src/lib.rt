@@ -41,7 +41,7 @@ fn refuse(w: u64, s: &[u8], why: Refusal, out: &mut [u8], at: usize) -> Step
     let number = why.shown().number;
     let end = lines::put_refused(w, number, out, at);
     Step {
-        taken: record::record_length(s[0]),
+        taken: record::record_length(s[0]).unwrap_or(0),
         end,
         answered: false,
         stop: is_last(number),
@@ -64,7 +64,7 @@ fn report(
 {
     let end = lines::put_answer(w, bits, found.penalty, found.gap, found.visits, out, at);
     Step {
-        taken: record::record_length(s[0]),
+        taken: record::record_length(s[0]).unwrap_or(0),
         end,
         answered: true,
         stop: false,

@@ -5,9 +5,9 @@ use Rattle.decoding.specs.Readings.{Within}
 use Rattle.code.specs.Sound.{largest_record_reading, rm}
 use Rattle.packing.specs.Layout.{bytes, nibbles, field, bottom_rail, NoRail, spread, packed}
 use Rattle.packing.specs.LayoutLaws.{field_below}
-use Rattle.record.specs.Reader.{part_of, header_of, part_by}
+use Rattle.record.specs.Reader.{part_of, part_by}
 use Rattle.record.specs.Writing.{writing}
-use Rattle.record.specs.WrittenRead.{Asked, writes_asked, written_read}
+use Rattle.record.specs.WrittenRead.{writes_asked, written_read}
 use Rattle.code.specs.declared.Code.{Code}
 use Rattle.code.specs.declared.Refusal.{Refusal}
 

@@ -15,6 +15,11 @@ abbrev pub length_by : Result Code Refusal → ℕ
 length_by (Err _) = 0
 length_by (Ok c) = suc (part_length c.m)
 
+-- the same as code has it, or the refusal of that byte
+abbrev pub sized_by : Result Code Refusal → Result ℕ Refusal
+sized_by (Err why) = Err why
+sized_by (Ok c) = Ok (suc (part_length c.m))
+
 -- the packed part of bytes s that begin with a record of the code c
 abbrev pub part_of : Code → List ℕ → List ℕ
 part_of c s = take (part_length c.m) (drop 1 s)

@@ -3,7 +3,7 @@
 use Rattle.std.specs.Prelude.{◌≡◌, List, ℕ, ◌+◌, ◌*◌, ◌≤◌, ℤ, pos, nat_abs, length, get_or, replicate, Ok}
 use Rattle.std.proofs.Common.{arith, mul-le-mul_right}
 use Rattle.numbers.specs.Sums.{sum}
-use Rattle.decoding.specs.Readings.{penalty, sizes, Within}
+use Rattle.decoding.specs.Readings.{penalty, Within}
 use Rattle.decoding.specs.Best.{least_penalty, gap}
 use Rattle.decoding.specs.Quick.{lower_row, upper_row}
 use Rattle.decoding.specs.Walk.{value}

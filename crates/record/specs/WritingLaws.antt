@@ -14,13 +14,13 @@ use Rattle.code.specs.EntriesLaws.{first-none, good_readings}
 use Rattle.code.specs.RefusalLaws.{refusal_only, number_above}
 use Rattle.code.specs.declared.Code.{Code}
 use Rattle.code.specs.declared.Refusal.{Refusal}
-use Rattle.code.specs.declared.Refusal.TheVariants.{Parameters, InputLength, OutputLength, Entry}
+use Rattle.code.specs.declared.Refusal.TheVariants.{InputLength, OutputLength, Entry}
 use Rattle.packing.specs.Layout.{record_of, part_length}
 use Rattle.record.specs.Writing.{WrittenOutcome, outcome_of, writable, written_by}
 
 -- the answers of the tests
 module _ (r m : ℕ) (l : List ℤ) (bytes place : ℕ) where
-  pub not_made : made r m ≡ Err Parameters → Err Parameters ≡ writable r m l bytes place
+  pub not_made : {why : Refusal} → made r m ≡ Err why → Err why ≡ writable r m l bytes place
   unfolding writable
   not_made e = rw e
 
@@ -83,7 +83,7 @@ module _ (r m : ℕ) (l : List ℤ) (bytes place : ℕ) where
 
   decided_by : (x : Result Code Refusal) → made r m ≡ x → Decided r m l bytes place
   decided_by (Ok c) e = decided_good c e
-  decided_by (Err _) e = refuses Parameters (not_made r m l bytes place e)
+  decided_by (Err why) e = refuses why (not_made r m l bytes place e)
 
   pub allowed_writable : (c : Code) → Ok c ≡ writable r m l bytes place → Writable r m l bytes place c
   allowed_writable c e =

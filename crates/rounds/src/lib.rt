@@ -68,7 +68,7 @@ fn is_there(input: &[u8], s: Situation) -> bool
     if s.ended {
         return true;
     }
-    record::record_length(input[at]) <= end - at
+    record::record_length(input[at]).unwrap_or(0) <= end - at
 }
 
 // For an output of this many bytes.

@@ -1,18 +1,18 @@
 -- The outcome at each place where a call returns.
-use Rattle.std.specs.Prelude.{◌≡◌, List, ℕ, ℤ, length, Ok, Err}
+use Rattle.std.specs.Prelude.{◌≡◌, List, ℕ, ◌^◌, ℤ, length, Ok, Err}
 use Rattle.std.proofs.Common.{subst, ◌∙◌}
 use Rattle.numbers.specs.Sums.{sum}
 use Rattle.words.specs.Kinds.{kinds}
-use Rattle.words.proofs.KindLaws.{bits_kinds}
+use Rattle.words.proofs.KindLaws.{length-kinds, bits_kinds}
 use Rattle.code.specs.declared.Code.{Code}
 use Rattle.code.specs.declared.Refusal.{Refusal}
-use Rattle.code.specs.Sound.{Sound, rm}
+use Rattle.code.specs.Sound.{Sound, made, rm}
 use Rattle.code.specs.SoundLaws.{made_good}
 use Rattle.code.specs.SoundInput.{GoodReadings, SoundFor}
 use Rattle.code.specs.Admitted.{admitted_by}
 use Rattle.code.specs.AdmittedLaws.{tested-made, allowed_sound_for}
 use Rattle.named.specs.Named.{GoodRow, row_admitted}
-use Rattle.named.specs.NamedLaws.{good-row, row_allowed}
+use Rattle.named.specs.NamedLaws.{good-row, row_allowed, allowed_row}
 use Rattle.encode.specs.Outcome as encoder
 use Rattle.quick.specs.Outcome as reader
 use Rattle.shortened.specs.Outcome.{left_of, encoding_over, inverting_over, quick_over, encoding_shortened, inverting_shortened, quick_shortened}
@@ -43,6 +43,23 @@ module _ (r m : ℕ) (named : List ℕ) where
     pub quick-left : (l : List ℤ) (bits word : List ℕ) → quick_over (left_of named c) c l bits word ≡ quick_shortened r m named l bits word
     unfolding quick_shortened
     quick-left l bits word = rw (← e)
+
+-- what a call knows of the code and the row that are allowed
+pub record Allowed (named : List ℕ) (c : Code) : Type 0 where
+  pub sound : Sound c
+  pub good : made c.r c.m ≡ Ok c
+  pub row : GoodRow named (kinds c.r c.m)
+  pub long-named : length named ≡ 2 ^ c.m
+
+pub is_allowed : (r m : ℕ) (named : List ℕ) (c : Code) → Ok c ≡ row_admitted r m named → Allowed named c
+is_allowed r m named c e =
+    let shown = allowed_row r m named c e in
+    record {
+      sound = shown.1;
+      good = made_good c.r c.m shown.1.m_small shown.1.r_small;
+      row = shown.2;
+      long-named = shown.2.long ∙ length-kinds c.r c.m;
+    }
 
 -- a good row of a sound code is allowed
 pub good_allowed : (r m : ℕ) (named : List ℕ) → Sound (rm r m) → GoodRow named (kinds r m) → Ok (rm r m) ≡ row_admitted r m named

@@ -1,5 +1,5 @@
 -- `record::search_record` meets its contract: the header decides, then the search.
-use Rattle.std.specs.Prelude.{Result, Ok, Err}
+use Rattle.std.specs.Prelude.{Result}
 use mathlib.Core.Path.{◌∙◌, ap, sym}
 use mathlib.Core.List.{[]}
 use Rattle.search.specs.declared.WithRunnerUp.{WithRunnerUp}

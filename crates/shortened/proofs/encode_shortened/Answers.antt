@@ -1,26 +1,69 @@
--- Each return is the outcome after the row's tests.
-use Rattle.std.specs.Prelude.{Ok, Err}
-use mathlib.Core.Path.{◌∙◌}
-use Rattle.named.specs.NamedLaws.{allowed_row}
-use Rattle.shortened.specs.OutcomeLaws.{encoding-refused, encoding-left}
+-- Each return is the outcome after the tests that led there.
+use Rattle.std.specs.Prelude.{◌≡◌, length, Ok}
+use Rattle.std.proofs.Common.{rules, ap, sym, ◌∙◌, arith}
+use Rattle.code.specs.SoundLaws.{length_most}
+use Rattle.named.specs.Named.{row_admitted}
+use Rattle.encode.specs.Outcome.{refused, done}
+use Rattle.encode.specs.OutcomeLaws.{tested_refused, tested_passed, bits_passed}
+use Rattle.shortened.specs.Outcome.{encoding_shortened}
+use Rattle.shortened.specs.OutcomeLaws.{encoding-refused, encoding-left, Allowed, is_allowed}
+use Rattle.shortened.specs.WorkLaws.{zeros-lent}
 use Rattle.shortened.proofs.encode_shortened.Goals as goal
+use Rattle.shortened.proofs.encode_shortened.Goals.{In_ok-code}
 
-pub encode_left-requires : goal.encode_left-requires
-encode_left-requires c =
-    let allowed = c in
-    let s = allowed.args in
-    let shown = allowed_row s.r s.m s.named.now allowed.in-Ok.code c.in-Ok.ensures in
-    (shown.1, shown.2)
+pub returns-in_err-code : goal.returns-in_err-code
+returns-in_err-code c =
+    let s = c.args in
+    let e = encoding-refused s.r s.m s.named.now c.in_err-code.field-0.0 (sym c.in_err-code.was ∙ c.admit_row.ensures) s.bits.now s.word.now in
+    search rules
 
-pub returns-in-Err : goal.returns-in-Err
-returns-in-Err c =
-    let c7 = c in
-    let s = c7.args in
-    encoding-refused s.r s.m s.named.now c.in-Err.why (c.in-Err.ensures) s.bits.now s.word.now
+-- the code and the row that are allowed
+row_is : (c : In_ok-code) → Ok c.in_ok-code.code ≡ row_admitted c.args.r c.args.m c.args.named.now
+row_is c = sym c.in_ok-code.was ∙ c.admit_row.ensures
 
-pub returns-in-Ok : goal.returns-in-Ok
-returns-in-Ok c =
-    let done = c in
-    let allowed = c in
-    let s = allowed.args in
-    done.encode_left.ensures ∙ encoding-left s.r s.m s.named.now allowed.in-Ok.code c.in-Ok.ensures s.bits.now s.word.now
+allowed : (c : In_ok-code) → Allowed c.args.named.now c.in_ok-code.code
+allowed c = is_allowed _ _ _ _ (row_is c)
+
+pub length-n-requires : goal.length-n-requires
+length-n-requires c = (allowed c).sound
+
+pub count_left-requires : goal.count_left-requires
+count_left-requires c = let a = allowed (goal.at.count_left-requires c).In_ok-code in (a.sound, a.long-named)
+
+pub returns-in_err-admit_bits : goal.returns-in_err-admit_bits
+returns-in_err-admit_bits c =
+    let s = c.args in
+    let made = (goal.at.returns-in_err-admit_bits c).In_ok-code in
+    let e : refused c.in_err-admit_bits.field-0.0 s.word.now ≡ encoding_shortened s.r s.m s.named.now s.bits.now s.word.now =
+    tested_refused _ _ _ _ _ _ _ (allowed made).good c.count_left.ensures c.length-n.ensures (sym c.admit_bits.ensures ∙ c.in_err-admit_bits.was)
+    ∙ encoding-left s.r s.m s.named.now c.in_ok-code.code (row_is made) s.bits.now s.word.now in
+    search rules
+
+pub slice_bounds-kinds-end : goal.slice_bounds-kinds-end
+slice_bounds-kinds-end c =
+    let a = allowed (goal.at.slice_bounds-kinds-end c).In_ok-code in
+    omega (arith, length_most a.sound, c.length-n.ensures)
+
+pub put_word-requires : goal.put_word-requires
+put_word-requires c =
+    let s = c.args in
+    let a = allowed (goal.at.put_word-requires c).In_ok-code in
+    let passed = bits_passed s.bits.now c.count_left.result (length s.word.now) c.length-n.result (sym c.admit_bits.ensures ∙ c.in_ok-admit_bits.was) in
+    record {
+      long-named = a.long-named;
+      long_kinds = zeros-lent c.in_ok-code.code _ a.sound c.length-n.ensures;
+      input = record {
+        sound = a.sound;
+        long_bits = passed.long_input ∙ c.count_left.ensures;
+        long_word = passed.long_output ∙ c.length-n.ensures;
+        entries = passed.entries;
+      };
+    }
+
+pub returns : goal.returns
+returns c =
+    let s = c.args in
+    let made = (goal.at.returns c).In_ok-code in
+    ap done c.put_word.ensures
+    ∙ tested_passed _ _ _ _ _ _ _ (allowed made).good c.count_left.ensures c.length-n.ensures (sym c.admit_bits.ensures ∙ c.in_ok-admit_bits.was)
+    ∙ encoding-left s.r s.m s.named.now c.in_ok-code.code (row_is made) s.bits.now s.word.now

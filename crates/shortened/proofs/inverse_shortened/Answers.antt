@@ -1,26 +1,72 @@
--- Each return is the outcome after the row's tests.
-use Rattle.std.specs.Prelude.{Ok, Err}
-use mathlib.Core.Path.{◌∙◌}
-use Rattle.named.specs.NamedLaws.{allowed_row}
-use Rattle.shortened.specs.OutcomeLaws.{inverting-refused, inverting-left}
+-- Each return is the outcome after the tests that led there.
+use Rattle.std.specs.Prelude.{◌≡◌, length, Ok}
+use Rattle.std.proofs.Common.{rules, sym, ◌∙◌, arith}
+use Rattle.code.specs.SoundLaws.{length_most}
+use Rattle.named.specs.Named.{row_admitted}
+use Rattle.encode.specs.Outcome.{refused}
+use Rattle.encode.specs.OutcomeLaws.{tested_refused, tested_passed, bits_passed}
+use Rattle.shortened.specs.Outcome.{inverting_shortened}
+use Rattle.shortened.specs.OutcomeLaws.{inverting-refused, inverting-left, Allowed, is_allowed}
+use Rattle.shortened.specs.WorkLaws.{zeros-lent}
 use Rattle.shortened.proofs.inverse_shortened.Goals as goal
+use Rattle.shortened.proofs.inverse_shortened.Goals.{In_ok-code}
 
-pub inverse_left-requires : goal.inverse_left-requires
-inverse_left-requires c =
-    let allowed = c in
-    let s = allowed.args in
-    let shown = allowed_row s.r s.m s.named.now allowed.in-Ok.code c.in-Ok.ensures in
-    (shown.1, shown.2)
+pub returns-in_err-code : goal.returns-in_err-code
+returns-in_err-code c =
+    let s = c.args in
+    let e = inverting-refused s.r s.m s.named.now c.in_err-code.field-0.0 (sym c.in_err-code.was ∙ c.admit_row.ensures) s.word.now s.bits.now in
+    search rules
 
-pub returns-in-Err : goal.returns-in-Err
-returns-in-Err c =
-    let c7 = c in
-    let s = c7.args in
-    inverting-refused s.r s.m s.named.now c.in-Err.why (c.in-Err.ensures) s.word.now s.bits.now
+-- the code and the row that are allowed
+row_is : (c : In_ok-code) → Ok c.in_ok-code.code ≡ row_admitted c.args.r c.args.m c.args.named.now
+row_is c = sym c.in_ok-code.was ∙ c.admit_row.ensures
 
-pub returns-in-Ok : goal.returns-in-Ok
-returns-in-Ok c =
-    let done = c in
-    let allowed = c in
-    let s = allowed.args in
-    done.inverse_left.ensures ∙ inverting-left s.r s.m s.named.now allowed.in-Ok.code c.in-Ok.ensures s.word.now s.bits.now
+allowed : (c : In_ok-code) → Allowed c.args.named.now c.in_ok-code.code
+allowed c = is_allowed _ _ _ _ (row_is c)
+
+pub length-n-requires : goal.length-n-requires
+length-n-requires c = (allowed c).sound
+
+pub count_left-requires : goal.count_left-requires
+count_left-requires c = let a = allowed (goal.at.count_left-requires c).In_ok-code in (a.sound, a.long-named)
+
+pub returns-in_err-admit_bits : goal.returns-in_err-admit_bits
+returns-in_err-admit_bits c =
+    let s = c.args in
+    let made = (goal.at.returns-in_err-admit_bits c).In_ok-code in
+    let e : refused c.in_err-admit_bits.field-0.0 s.bits.now ≡ inverting_shortened s.r s.m s.named.now s.word.now s.bits.now =
+    tested_refused _ _ _ _ _ _ _ (allowed made).good c.length-n.ensures c.count_left.ensures (sym c.admit_bits.ensures ∙ c.in_err-admit_bits.was)
+    ∙ inverting-left s.r s.m s.named.now c.in_ok-code.code (row_is made) s.word.now s.bits.now in
+    search rules
+
+pub slice_bounds-kinds-end : goal.slice_bounds-kinds-end
+slice_bounds-kinds-end c =
+    let a = allowed (goal.at.slice_bounds-kinds-end c).In_ok-code in
+    omega (arith, length_most a.sound, c.length-n.ensures)
+
+pub take_back-requires : goal.take_back-requires
+take_back-requires c =
+    let s = c.args in
+    let a = allowed (goal.at.take_back-requires c).In_ok-code in
+    let passed = bits_passed s.word.now c.length-n.result (length s.bits.now) c.count_left.result (sym c.admit_bits.ensures ∙ c.in_ok-admit_bits.was) in
+    let zeros = zeros-lent c.in_ok-code.code _ a.sound c.length-n.ensures in (
+      record {
+        long-named = a.long-named;
+        long_kinds = zeros;
+        input = record {
+          sound = a.sound;
+          long_bits = passed.long_output ∙ c.count_left.ensures;
+          long_word = passed.long_input ∙ c.length-n.ensures;
+          entries = passed.entries;
+        };
+      },
+      zeros,
+    )
+
+pub returns : goal.returns
+returns c =
+    let s = c.args in
+    let made = (goal.at.returns c).In_ok-code in
+    c.take_back.ensures
+    ∙ tested_passed _ _ _ _ _ _ _ (allowed made).good c.length-n.ensures c.count_left.ensures (sym c.admit_bits.ensures ∙ c.in_ok-admit_bits.was)
+    ∙ inverting-left s.r s.m s.named.now c.in_ok-code.code (row_is made) s.word.now s.bits.now
