@@ -23,55 +23,43 @@ walk-requires c = (refl, walkable c.requires.1)
 
 pub returns-then-out-ne0 : goal.returns-then-out-ne0
 returns-then-out-ne0 c =
-    let walked = c in
-    let start = walked in
-    let s = start.args in
-    let numbers = walked.walk.new.state in
-    none_put start.requires.0 (Err (OutOfVisits s.allowed)) s.bits.now s.word.now
+    let s = c.args in
+    let numbers = c.walk.new.state in
+    none_put c.requires.0 (Err (OutOfVisits s.allowed)) s.bits.now s.word.now
     ∙ runner_up_out s.m _ _ s.allowed s.bits.now s.word.now
-    (out_answer start.requires.1 walked.walk.ensures (lt-ltb 0 (get_or numbers 4 0) (omega (arith, c.if-out-ne0.true))))
+    (out_answer c.requires.1 c.walk.ensures (lt-ltb 0 (get_or numbers 4 0) (omega (arith, c.if-out-ne0.true))))
 
 pub overflow_sub-gap : goal.overflow_sub-gap
 overflow_sub-gap c =
-    let walked = c in
-    let numbers = walked.walk.new.state in
-    ordered walked.requires.1 walked.walk.ensures (le-ltb 0 (get_or numbers 4 0) (omega (arith, c.if-out-ne0.false)))
+    let numbers = c.walk.new.state in
+    ordered c.requires.1 c.walk.ensures (le-ltb 0 (get_or numbers 4 0) (omega (arith, c.if-out-ne0.false)))
 
 pub returns-then-gap-eq0 : goal.returns-then-gap-eq0
 returns-then-gap-eq0 c =
-    let walked = c in
-    let start = walked in
-    let s = start.args in
-    let numbers = walked.walk.new.state in
-    none_put start.requires.0 (Err (Tied (get_or numbers 1 0) (get_or numbers 3 0))) s.bits.now s.word.now
+    let s = c.args in
+    let numbers = c.walk.new.state in
+    none_put c.requires.0 (Err (Tied (get_or numbers 1 0) (get_or numbers 3 0))) s.bits.now s.word.now
     ∙ runner_up_tied s.m _ _ s.allowed s.bits.now s.word.now
-    (tied_answer start.requires.1 walked.walk.ensures (le-ltb 0 (get_or numbers 4 0) (omega (arith, c.if-out-ne0.false))) c.if-gap-eq0.true)
+    (tied_answer c.requires.1 c.walk.ensures (le-ltb 0 (get_or numbers 4 0) (omega (arith, c.if-out-ne0.false))) c.if-gap-eq0.true)
 
 pub put_second-requires : goal.put_second-requires
 put_second-requires c =
-    let put = c in
-    let start = put in
-    (start.requires.0, pickable start.args.kinds.now start.requires.1 (search rules) (search rules))
+    (c.requires.0, pickable c.args.kinds.now c.requires.1 (search rules) (search rules))
 
 pub returns : goal.returns
 returns c =
-    let put = c in
-    let if2 = put in
-    let if1 = if2 in
-    let walked = if1 in
-    let start = walked in
-    let s = start.args in
-    let numbers = walked.walk.new.state in
-    let written = put.put_best.ensures in
-    let on = le-ltb 0 (get_or numbers 4 0) (omega (arith, if1.if-out-ne0.false)) in
+    let s = c.args in
+    let numbers = c.walk.new.state in
+    let written = c.put_best.ensures in
+    let on = le-ltb 0 (get_or numbers 4 0) (omega (arith, c.if-out-ne0.false)) in
     let kinds = s.kinds.now in
-    let second = walked.walk.new.second in
+    let second = c.walk.new.second in
     let shown : List ℕ = c.put_second.new.runner_up in
-    let same : length put.put_best.new.word ≡ length s.word.now = put.put_best.auto.word in
+    let same : length c.put_best.new.word ≡ length s.word.now = c.put_best.auto.word in
     let is : shown ≡ runner_up s.m (take (2 ^ s.m) kinds) (take (2 ^ s.m) s.readings.now) =
     c.put_second.ensures
-    ∙ ap (λ (n : ℕ). roomy (pick (take n kinds) (take n second))) (same ∙ start.requires.1.long_word)
-    ∙ sym (runner_up-is start.requires.1 walked.walk.ensures on) in
+    ∙ ap (λ (n : ℕ). roomy (pick (take n kinds) (take n second))) (same ∙ c.requires.1.long_word)
+    ∙ sym (runner_up-is c.requires.1 c.walk.ensures on) in
     ap₂ (λ (b x : List ℕ). outcome_with (found_with (get_or numbers 1 0) (get_or numbers 2 0 - get_or numbers 1 0) (get_or numbers 3 0) b x) shown)
     written.bits_are written.word-is
-    ∙ runner_up-found s.m _ _ s.allowed s.bits.now s.word.now (found-answer start.requires.1 walked.walk.ensures on if2.if-gap-eq0.false) is
+    ∙ runner_up-found s.m _ _ s.allowed s.bits.now s.word.now (found-answer c.requires.1 c.walk.ensures on c.if-gap-eq0.false) is
