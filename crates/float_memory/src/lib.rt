@@ -22,10 +22,10 @@ fn row(rows: &mut [f32], path: &[u8], word: &mut [u8], t: usize, i: usize)
     let b = i / h;
     if b % 2 == 1 {
         memory::left_word(path, word, b * h, h, t);
-        float_rows::upper_row(rows, h, word);
+        rows::upper_row::<float_rows::Float>(rows, h, word);
         return;
     }
-    float_rows::lower_row(rows, h);
+    rows::lower_row::<float_rows::Float>(rows, h);
 }
 
 // The same from all readings.
@@ -41,10 +41,10 @@ fn top_row(readings: &[f32], rows: &mut [f32], path: &[u8], word: &mut [u8], t: 
     let b = i / h;
     if b % 2 == 1 {
         memory::left_word(path, word, b * h, h, t);
-        float_rows::upper_top(readings, rows, h, word);
+        rows::upper_top::<float_rows::Float>(readings, rows, h, word);
         return;
     }
-    float_rows::lower_top(readings, rows, h);
+    rows::lower_top::<float_rows::Float>(readings, rows, h);
 }
 
 // The highest row that is made.
@@ -104,7 +104,7 @@ fn start_of_1(rows: &mut [f32], path: &[u8], i: usize)
     ensures { wholes rows.new
         ≡ remade 1 i path.now (wholes rows.old) }
 {
-    float_rows::upper_row(rows, 1, &path[i - 1..i]);
+    rows::upper_row::<float_rows::Float>(rows, 1, &path[i - 1..i]);
 }
 
 // For a block of two and none of four: two rows.
@@ -115,8 +115,8 @@ fn start_of_2(rows: &mut [f32], path: &[u8], word: &mut [u8], i: usize)
         ≡ remade 2 i path.now (wholes rows.old) }
 {
     memory::word_of_2(path, word, i);
-    float_rows::upper_row(rows, 2, word);
-    float_rows::lower_row(rows, 1);
+    rows::upper_row::<float_rows::Float>(rows, 2, word);
+    rows::lower_row::<float_rows::Float>(rows, 1);
 }
 
 // For a block of four and none of eight: three rows.
@@ -127,9 +127,9 @@ fn start_of_4(rows: &mut [f32], path: &[u8], word: &mut [u8], i: usize)
         ≡ remade 3 i path.now (wholes rows.old) }
 {
     memory::word_of_4(path, word, i);
-    float_rows::upper_row(rows, 4, word);
-    float_rows::lower_row(rows, 2);
-    float_rows::lower_row(rows, 1);
+    rows::upper_row::<float_rows::Float>(rows, 4, word);
+    rows::lower_row::<float_rows::Float>(rows, 2);
+    rows::lower_row::<float_rows::Float>(rows, 1);
 }
 
 // The value at index i of the path, whichever index the rows are for.

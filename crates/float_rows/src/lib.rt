@@ -1,15 +1,15 @@
-// The crate rows in float arithmetic: the two combining steps, on one pair and over rows; what a
-// bit loses at a value. Sums of whole numbers below 2^24 are exact, so that each function gives
-// what its twin gives for the whole numbers that its floats are.
+// Float arithmetic for the crate rows: the two combining steps on one pair; what a bit loses at a
+// value. Sums of whole numbers below 2^24 are exact, so that each function gives what whole numbers
+// give for those that its floats are.
 #![tactic(auto)]
 
-ghost use Rattle.std.specs.Prelude.{◌≡◌, ◌+◌, ◌≤◌, ◌<◌, pos, nat_abs, length, take};
+ghost use Rattle.std.specs.Prelude.{◌≡◌, ◌<◌, pos, nat_abs};
 ghost use Rattle.decoding.specs.Readings.{loss, sizes, sum_limit};
-ghost use Rattle.decoding.specs.Quick.{lower, upper, lower_row, upper_row};
 ghost use Rattle.rows.specs.Order.{lesser, greater};
-ghost use Rattle.rows.specs.Rows.{row_of, with_row};
+ghost use Rattle.float_rows.specs.FloatRowLaws.{each_float, small_pair};
 ghost use Rattle.float_numbers.specs.Whole.{whole_of, wholes};
 
+// stays: the library's f32::min and max ask for a NaN first, which makes the row of four sums slower.
 fn lesser(x: f32, y: f32) -> f32
     requires { (nat_abs (whole_of x) < sum_limit) × (nat_abs (whole_of y) < sum_limit) }
     ensures { whole_of result ≡ lesser (whole_of x) (whole_of y) }
@@ -24,22 +24,44 @@ fn greater(x: f32, y: f32) -> f32
     if x < y { y } else { x }
 }
 
-// The smaller of |x| and |y|, with the sign of their product: the greater of the lesser one and
-// minus the greater one, which needs no branch.
-pub fn lower(x: f32, y: f32) -> f32
-    requires { (nat_abs (whole_of x) < sum_limit) × (nat_abs (whole_of y) < sum_limit) }
-    ensures { whole_of result ≡ lower (whole_of x) (whole_of y) }
-{
-    let turned = -greater(x, y);
-    greater(lesser(x, y), turned)
-}
+// Sums that are floats, of readings that are floats: each one a whole number.
+pub struct Float;
 
-// y + x where a is 0, else y - x.
-pub fn upper(x: f32, y: f32, a: u8) -> f32
-    requires { nat_abs (whole_of x) + nat_abs (whole_of y) < sum_limit }
-    ensures { whole_of result ≡ upper (whole_of x) (whole_of y) a }
-{
-    if a == 0 { y + x } else { y - x }
+impl rows::Arithmetic for Float {
+    type Sum = f32;
+
+    type Reading = f32;
+
+    ghost whole = { whole_of };
+
+    ghost wholes = { wholes };
+
+    ghost read = { whole_of };
+
+    ghost reads = { wholes };
+
+    ghost asked = { λ l. sizes l < sum_limit };
+
+    ghost known = { λ z. Unit {0} };
+
+    ghost each_sum = { each_float };
+
+    ghost each_reading = { each_float };
+
+    ghost small = { small_pair };
+
+    fn of_reading(reading: f32) -> f32 {
+        reading
+    }
+
+    fn lower(x: f32, y: f32) -> f32 {
+        let turned = -greater(x, y);
+        greater(lesser(x, y), turned)
+    }
+
+    fn upper(x: f32, y: f32, a: u8) -> f32 {
+        if a == 0 { y + x } else { y - x }
+    }
 }
 
 // The size of a value that the bit contradicts, else 0.
@@ -57,63 +79,4 @@ pub fn loss(value: f32, bit: u8) -> f32
         return 0.0;
     }
     value
-}
-
-// The row of h sums for the lower half, from the row of 2h sums.
-pub fn lower_row(rows: &mut [f32], h: usize)
-    requires { (h + h + (h + h) ≤ length rows.old)
-        × (sizes (row_of (h + h) (wholes rows.old)) < sum_limit) }
-    ensures { wholes rows.new
-        ≡ with_row h (wholes rows.old)
-        (lower_row h (row_of (h + h) (wholes rows.old))) }
-{
-    for j in 0..h {
-        let x = rows[h + h + j];
-        let y = rows[h + h + (h + j)];
-        rows[h + j] = lower(x, y);
-    }
-}
-
-// The row of h sums for the upper half, from the row of 2h sums and the lower half's word.
-pub fn upper_row(rows: &mut [f32], h: usize, word: &[u8])
-    requires { (h + h + (h + h) ≤ length rows.old) × (h ≤ length word.now)
-        × (sizes (row_of (h + h) (wholes rows.old)) < sum_limit) }
-    ensures { wholes rows.new
-        ≡ with_row h (wholes rows.old)
-        (upper_row h (row_of (h + h) (wholes rows.old)) (take h word.now)) }
-{
-    for j in 0..h {
-        let x = rows[h + h + j];
-        let y = rows[h + h + (h + j)];
-        rows[h + j] = upper(x, y, word[j]);
-    }
-}
-
-// The row of h sums for the lower half, from 2h readings.
-pub fn lower_top(readings: &[f32], rows: &mut [f32], h: usize)
-    requires { (length readings.now ≡ h + h) × (h + h ≤ length rows.old)
-        × (sizes (wholes readings.now) < sum_limit) }
-    ensures { wholes rows.new
-        ≡ with_row h (wholes rows.old) (lower_row h (wholes readings.now)) }
-{
-    for j in 0..h {
-        let x = readings[j];
-        let y = readings[h + j];
-        rows[h + j] = lower(x, y);
-    }
-}
-
-// The row of h sums for the upper half, from 2h readings and the lower half's word.
-pub fn upper_top(readings: &[f32], rows: &mut [f32], h: usize, word: &[u8])
-    requires { (length readings.now ≡ h + h) × (h + h ≤ length rows.old)
-        × (h ≤ length word.now) × (sizes (wholes readings.now) < sum_limit) }
-    ensures { wholes rows.new
-        ≡ with_row h (wholes rows.old)
-        (upper_row h (wholes readings.now) (take h word.now)) }
-{
-    for j in 0..h {
-        let x = readings[j];
-        let y = readings[h + j];
-        rows[h + j] = upper(x, y, word[j]);
-    }
 }

@@ -42,8 +42,8 @@ pub fn number_of(bits: &[u8]) -> u32
 impl From<Refusal> for Fault {
     ghost from_gives = { λ why fault. fault ≡ Link why };
 
-    fn from(why: Refusal) -> Fault {
-        Fault::Link(why)
+    fn from(refusal: Refusal) -> Fault {
+        Fault::Link(refusal)
     }
 }
 

@@ -1,10 +1,9 @@
 -- Finding a record by its number meets demand 1.
-use Rattle.std.specs.Prelude.{◌≡◌, refl, ◌⊎◌, List, [], ℕ, zero, suc, ◌-◌, ◌/◌, ◌%◌, ◌<◌, length, get_or, drop, Result, Ok, Err}
+use Rattle.std.specs.Prelude.{◌≡◌, refl, List, [], ℕ, zero, suc, ◌-◌, ◌/◌, ◌%◌, ◌<◌, length, get_or, drop, Result, Ok, Err}
 use Rattle.std.proofs.Common.{ap, sym, subst, ◌∙◌, inl, inr, ⊎_elim, arith, eq-eqb, ne_eqb}
 use Rattle.std.proofs.Math.Decide.{ℕ_discrete}
 use Rattle.numbers.specs.Choice.{lt_or_le}
 use Rattle.code.specs.declared.Refusal.{Refusal}
-use Rattle.code.specs.declared.Refusal.TheVariants.{Parameters, Torn}
 use Rattle.code.specs.Demand1Laws.{Decides, demand_1}
 use Rattle.record.specs.Reader.{header_of, outcome_of, part_by}
 use Rattle.record.specs.Demands.{header_view}

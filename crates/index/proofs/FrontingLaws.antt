@@ -1,27 +1,33 @@
 -- Laws of a capture's front: its run record by record; its part is a capture of whole records, and what ended it refuses every longer part.
-use Rattle.std.specs.Prelude.{◌≡◌, refl, ◌⊎◌, ℕ, zero, suc, ◌+◌, ◌-◌, ◌*◌, ◌≤◌, ◌<◌, length, get_or, take, Result, Ok, Err}
+use Rattle.std.specs.Prelude.{◌≡◌, refl, ℕ, zero, suc, ◌+◌, ◌-◌, ◌≤◌, ◌<◌, length, get_or, take, Option, None, Some, Result, Ok, Err}
 use Rattle.std.proofs.Common.{ap, subst, sym, ◌∙◌, inl, inr, ⊎_elim, arith, pow_pos, length-take-le, get_or-take, eq-eqb, ne_eqb, lt-ltb, le-ltb}
-use mathlib.Core.List.{List, [], ◌++◌}
+use mathlib.Core.List.{List, [], ◌∷◌, ◌++◌}
 use Rattle.std.proofs.Math.Decide.{ℕ_discrete}
 use Rattle.std.proofs.Math.ListN.{drop}
 use Rattle.numbers.specs.Choice.{lt_or_le}
+use Rattle.code.specs.RefusalLaws.{number_above}
 use Rattle.code.specs.Sound.{number_of}
 use Rattle.code.specs.declared.Refusal.{Refusal}
 use Rattle.code.specs.declared.Refusal.TheVariants.{OutputLength}
 use Rattle.packing.specs.Layout.{part_length}
 use Rattle.record.specs.Reader.{code_of, length_by}
 use Rattle.index.specs.declared.FrontIndex.{FrontIndex}
-use Rattle.index.specs.Steps.{bytes_at, stepped, Starts, these, refused, and_these, starts_at, starts_of}
-use Rattle.index.specs.Making.{entries_of, index_of, entries_for, list_of, Enterable, entered}
-use Rattle.index.specs.Fronting.{Run, run_end, and_run, run_after, run_from, run_at, run_of, front_outcome_of, front_by, fronting}
+use Rattle.index.specs.Steps.{bytes_at, stepped, Starts, these, refused, and_these, starts_after, starts_from, starts_at, starts_of}
+use Rattle.index.specs.Making.{entries_of, index_of, counted, entries_for, list_of, Enterable, entered}
+use Rattle.index.specs.Fronting.{Run, number_in, run_end, and_run, run_after, run_from, run_at, run_of, front_outcome_of, front_by, fronting}
 use Rattle.index.specs.StepsLaws.{Goes}
 use Rattle.index.proofs.StepsLaws.{step_bad, step_torn, step_next, step_goes, starts-end, starts-next, starts-refused}
 use Rattle.index.proofs.MakingLaws.{length_entries}
 use Rattle.index.specs.FrontingLaws.{Halted, Stops}
 use Rattle.code.specs.declared.Code.{Code}
 
+-- the starts of a run, or the refusal that ended it
+abbrev starts_in : Option Refusal → List ℕ → Starts
+starts_in None l = these l
+starts_in (Some why) l = refused why
+
 -- ---- the run from a place on
-fuel_end : (k : ℕ) (s : List ℕ) → run_from k s (length s) ≡ run_end (length s) 0
+fuel_end : (k : ℕ) (s : List ℕ) → run_from k s (length s) ≡ run_end (length s) None
 unfolding run_from
 fuel_end zero s = refl
 fuel_end (suc k) s = rw (eq-eqb (length s) (length s) refl)
@@ -56,7 +62,7 @@ fuel_same (suc k) (suc k') s at h f g =
     (lt_or_le at (length s))
 
 module _ (s : List ℕ) (at : ℕ) where
-  run_end_lem : at ≡ length s → run_at s at ≡ run_end at 0
+  run_end_lem : at ≡ length s → run_at s at ≡ run_end at None
   run_end_lem e = rw e (fuel_end (length s) s)
 
   module _ (h : at < length s) where
@@ -66,25 +72,25 @@ module _ (s : List ℕ) (at : ℕ) where
     run-next : (next : ℕ) → stepped s at ≡ Ok next → run_at s at ≡ and_run at (run_at s next)
     run-next next e = run_on ∙ ap (λ (p : Result ℕ Refusal). run_after at p (run_at s)) e
 
-    run-refused : (why : Refusal) → stepped s at ≡ Err why → run_at s at ≡ run_end at (number_of why)
+    run-refused : (why : Refusal) → stepped s at ≡ Err why → run_at s at ≡ run_end at (Some why)
     run-refused why e = run_on ∙ ap (λ (p : Result ℕ Refusal). run_after at p (run_at s)) e
 
 -- ---- in steps, as code makes it
-abbrev front_index : ℕ → ℕ → ℕ → FrontIndex
+abbrev front_index : ℕ → ℕ → Option Refusal → FrontIndex
 front_index records used ended = record { index = index_of records used; ended = ended }
 
 module _ (s : List ℕ) (n at : ℕ) where
   pub front_on : (next : ℕ) → at < length s → stepped s at ≡ Ok next → front_by n (run_at s at) ≡ front_by (n + 1) (run_at s next)
   front_on next h e =
       let run = run_at s next in
-      ap (front_by n) (run-next s at h next e) ∙ ap (λ (k : ℕ). front_index k run.used run.ended) (omega arith)
+      ap (front_by n) (run-next s at h next e) ∙ ap (λ (k : ℕ). front_index k run.used run.why) (omega arith)
 
   pub front-refused : (why : Refusal) → at < length s → stepped s at ≡ Err why
-      → front_by n (run_at s at) ≡ record { index = index_of n at; ended = number_of why }
-  front-refused why h e = ap (front_by n) (run-refused s at h why e) ∙ ap (λ (k : ℕ). front_index k at (number_of why)) (omega arith)
+      → front_by n (run_at s at) ≡ record { index = index_of n at; ended = Some why }
+  front-refused why h e = ap (front_by n) (run-refused s at h why e) ∙ ap (λ (k : ℕ). front_index k at (Some why)) (omega arith)
 
-  pub front-end : at ≡ length s → front_by n (run_at s at) ≡ record { index = index_of n at; ended = 0 }
-  front-end e = ap (front_by n) (run_end_lem s at e) ∙ ap (λ (k : ℕ). front_index k at 0) (omega arith)
+  pub front-end : at ≡ length s → front_by n (run_at s at) ≡ record { index = index_of n at; ended = None }
+  front-end e = ap (front_by n) (run_end_lem s at e) ∙ ap (λ (k : ℕ). front_index k at None) (omega arith)
 
 -- ---- a step, seen from a part at the capture's front
 module _ (s : List ℕ) (n : ℕ) (h : n ≤ length s) where
@@ -193,6 +199,76 @@ module _ (s : List ℕ) where
 
   pub run-stops : Stops s 0 (run_of s)
   run-stops = stops_from (length s) 0 (omega arith) (omega arith)
+
+-- ---- what ended a run, and the starts that are met; k records at most
+module _ (s : List ℕ) where
+  ended_after : (at : ℕ) (p : Result ℕ Refusal) (f : ℕ → Run) → ((next : ℕ) → (f next).ended ≡ number_in (f next).why)
+      → let run = run_after at p f in run.ended ≡ number_in run.why
+  ended_after at (Err why) f h = refl
+  ended_after at (Ok next) f h = h next
+
+  ended_from : (k at : ℕ) → let run = run_from k s at in run.ended ≡ number_in run.why
+  unfolding run_from
+  ended_from zero at = refl
+  ended_from (suc k) at =
+      elim (ℕ_discrete at (length s)) [
+        | yes e ↦ rw (eq-eqb at (length s) e)
+        | no n ↦ rw (ne_eqb at (length s) n) (ended_after at (stepped s at) (λ next. run_from k s next) (ended_from k))
+      ]
+
+  pub ended_is : (run_of s).ended ≡ number_in (run_of s).why
+  ended_is = ended_from (length s) 0
+
+  -- all starts, or the refusal
+  abbrev met : Run → Starts
+  met run = starts_in run.why run.starts
+
+  met_and : (at : ℕ) (run : Run) → and_these at (met run) ≡ met (and_run at run)
+  met_and at run = by run.why
+    where
+      by : (why : Option Refusal) → and_these at (starts_in why run.starts) ≡ starts_in why (at ∷ run.starts)
+      by None = refl
+      by (Some why) = refl
+
+  met_after : (at : ℕ) (p : Result ℕ Refusal) (f : ℕ → Starts) (g : ℕ → Run) → ((next : ℕ) → f next ≡ met (g next))
+      → starts_after at p f ≡ met (run_after at p g)
+  met_after at (Err why) f g h = refl
+  met_after at (Ok next) f g h = ap (and_these at) (h next) ∙ met_and at (g next)
+
+  met_from : (k at : ℕ) → starts_from k s at ≡ met (run_from k s at)
+  unfolding run_from starts_from
+  met_from zero at = refl
+  met_from (suc k) at =
+      elim (ℕ_discrete at (length s)) [
+        | yes e ↦ rw (eq-eqb at (length s) e)
+        | no n ↦ rw (ne_eqb at (length s) n) (met_after at (stepped s at) (λ next. starts_from k s next) (λ next. run_from k s next) (met_from k))
+      ]
+
+  pub run_starts : starts_of s ≡ starts_in (run_of s).why (run_of s).starts
+  run_starts = met_from (length s) 0
+
+  -- none means the capture's end
+  pub all_used : (run_of s).why ≡ None → (run_of s).used ≡ length s
+  all_used e =
+      let z : (run_of s).ended ≡ 0 = ended_is ∙ ap number_in e in
+      ⊎_elim (λ end. end.1) (λ h. absurd (omega (arith, number_above h.why, h.number, z))) (run-stops s).stop
+
+-- ---- what making finds, by the front that was found
+module _ (s : List ℕ) (found : FrontIndex) (is : found ≡ front_by 0 (run_of s)) where
+  why_is : found.ended ≡ (run_of s).why
+  why_is = ap (λ (f : FrontIndex). f.ended) is
+
+  pub found_refused : (why : Refusal) → found.ended ≡ Some why → Err why ≡ counted 0 (starts_of s)
+  found_refused why e =
+      sym (ap (counted 0) (run_starts s ∙ ap (λ (w : Option Refusal). starts_in w (run_of s).starts) (sym why_is ∙ e)))
+
+  pub found_whole : found.ended ≡ None → Ok found.index.records ≡ counted 0 (starts_of s)
+  found_whole e =
+      ap (λ (f : FrontIndex). Ok f.index.records) is
+      ∙ sym (ap (counted 0) (run_starts s ∙ ap (λ (w : Option Refusal). starts_in w (run_of s).starts) (sym why_is ∙ e)))
+
+  pub found_used : found.ended ≡ None → found.index.used ≡ length s
+  found_used e = ap (λ (f : FrontIndex). f.index.used) is ∙ all_used s (sym why_is ∙ e)
 
 -- ---- the two answers, by the front that was found
 module _ (s table : List ℕ) where

@@ -1,4 +1,4 @@
--- Laws of making: counting record by record, and the entries one by one from the front of the table.
+-- Laws of making: the entries one by one from the front of the table.
 use Rattle.std.specs.Prelude.{◌≡◌, refl, List, [], ◌∷◌, ◌++◌, ℕ, zero, suc, ◌+◌, ◌-◌, ◌*◌, ◌/◌, ◌%◌, ◌≤◌, ◌<◌, length, get_or, drop, set, Ok, Err}
 use Rattle.std.proofs.Math.Path.{ap}
 use Rattle.std.proofs.Common.{sym, ◌∙◌, ⊎_elim, arith, length-drop, take_all, eq-eqb, ne_eqb, lt-ltb, le-ltb}
@@ -8,26 +8,11 @@ use Rattle.numbers.specs.Front.{front, front-suc}
 use Rattle.code.specs.declared.Refusal.{Refusal}
 use Rattle.code.specs.declared.Refusal.TheVariants.{OutputLength}
 use Rattle.index.specs.Finding.{block}
-use Rattle.index.specs.Steps.{bytes_at, stepped, Starts, these, refused, and_these, starts_at, starts_of}
+use Rattle.index.specs.Steps.{stepped, Starts, these, refused, starts_at, starts_of}
 use Rattle.index.specs.Making.{every, entries_of, index_of, outcome_of, made_by, making, counted, entries_for, Room, with_entry, list_of, Enterable, entered}
-use Rattle.index.specs.StepsLaws.{Goes, Begins}
-use Rattle.index.proofs.StepsLaws.{starts-end, starts-next, starts-refused, starts_begin, starts_none}
+use Rattle.index.specs.StepsLaws.{Begins}
+use Rattle.index.proofs.StepsLaws.{step_goes, starts-end, starts_begin, starts_none}
 use Rattle.index.specs.MakingLaws.{Entering}
-
--- ---- counting
-counted-and : (n at : ℕ) (t : Starts) → counted n (and_these at t) ≡ counted (n + 1) t
-counted-and n at (these l) = ap Ok (omega arith)
-counted-and n at (refused why) = refl
-
-module _ (s : List ℕ) (n at : ℕ) where
-  pub count_on : (next : ℕ) → at < length s → stepped s at ≡ Ok next → counted n (starts_at s at) ≡ counted (n + 1) (starts_at s next)
-  count_on next h e = ap (counted n) (starts-next s at next h e) ∙ counted-and n at (starts_at s next)
-
-  pub count-refused : (why : Refusal) → at < length s → stepped s at ≡ Err why → counted n (starts_at s at) ≡ Err why
-  count-refused why h e = ap (counted n) (starts-refused s at why h e)
-
-  pub count-end : at ≡ length s → counted n (starts_at s at) ≡ Ok n
-  count-end e = ap (counted n) (starts-end s at e) ∙ ap Ok (omega arith)
 
 -- ---- every 16th
 length-every : (k : ℕ) (l : List ℕ) → k < block → length (every k l) ≡ (length l + ((block - 1) - k)) / block
@@ -87,10 +72,9 @@ module _ (s before now : List ℕ) (at w : ℕ) (h : Entering s before at w now)
   begins : at < length s → Begins s at (get_or all w 0) (drop (w + 1) all)
   begins inside = starts_begin s at (get_or all w 0) (drop (w + 1) all) h.inside (h.left ∙ ap these (drop-cons all w (one_left inside)))
 
-  pub enter_goes : at < length s → (k : ℕ) → k ≡ bytes_at s at → Goes s at (at + k)
-  enter_goes inside k e =
-      let go = (begins inside).goes in
-      record { inside = inside; further = omega (arith, go.by, go.further); there = omega (arith, go.by, go.there); by = ap (λ (k : ℕ). at + k) e }
+  -- so a step that is refused has come to the end
+  pub enter_stopped : ((next : ℕ) → stepped s at ≡ Ok next → ⊥) → length s ≤ at
+  enter_stopped none = ⊎_elim (λ inside. absurd (none (begins inside).next (begins inside).step)) (λ past. past) (lt_or_le at (length s))
 
   pub entry-room : at < length s → Room (length now) w
   entry-room inside e = omega (arith, h.same, length_entries all, one_left inside, h.enough)
@@ -117,20 +101,20 @@ module _ (s before now : List ℕ) (at w : ℕ) (h : Entering s before at w now)
             rw (ne_eqb (w % block) 0 n) (h.is ∙ ap (front before made) f)
       ]
 
-  pub enter_next : at < length s → (k : ℕ) (then : List ℕ) → k ≡ bytes_at s at → then ≡ with_entry w at now → length then ≡ length now
-      → Entering s before (at + k) (w + 1) then
-  enter_next inside k then e f g =
-      let b = begins inside in
-      let go = enter_goes inside k e in
-      let same : at + k ≡ b.next = omega (arith, go.by, b.goes.by) in
+  pub enter_next : (next : ℕ) (then : List ℕ) → stepped s at ≡ Ok next → then ≡ with_entry w at now → length then ≡ length now
+      → Entering s before next (w + 1) then
+  enter_next next then e f g =
+      let go = step_goes s at next e in
+      let b = begins go.inside in
+      let same : next ≡ b.next = cc in
       record {
-        inside = omega (arith, go.there);
+        inside = go.there;
         few = omega (arith, go.further, h.few);
         left = ap (starts_at s) same ∙ b.others;
-        some = omega (arith, one_left inside);
+        some = omega (arith, one_left go.inside);
         enough = h.enough;
         same = g ∙ h.same;
-        is = f ∙ next-entry inside;
+        is = f ∙ next-entry go.inside;
       }
 
   pub enter_done : length s ≤ at → now ≡ entered s before

@@ -1,14 +1,33 @@
 -- Laws of stepping: when each answer of a step is given; the starts from a place on, record by record.
-use Rattle.std.specs.Prelude.{◌≡◌, refl, Bool, List, [], ◌∷◌, ℕ, zero, suc, ◌+◌, ◌-◌, ◌≤◌, ◌<◌, length, Result, Ok, Err}
+use Rattle.std.specs.Prelude.{◌≡◌, refl, Bool, List, [], ◌∷◌, ℕ, zero, suc, ◌+◌, ◌-◌, ◌/◌, ◌%◌, ◌≤◌, ◌<◌, length, Result, Ok, Err}
 use Rattle.std.proofs.Common.{ap, sym, ◌∙◌, ⊎_elim, arith}
 use Rattle.std.proofs.Math.Bool.{cond}
 use Rattle.std.proofs.Math.Decide.{ℕ_discrete}
 use borrow.Author.Tests.{le-leb, lt-leb, lt-ltb, le-ltb, eq-eqb, ne_eqb}
 use Rattle.numbers.specs.Choice.{lt_or_le}
+use Rattle.code.specs.declared.Code.{Code}
 use Rattle.code.specs.declared.Refusal.{Refusal}
 use Rattle.code.specs.declared.Refusal.TheVariants.{Parameters, Torn}
+use Rattle.code.specs.SoundLaws.{made_refused}
+use Rattle.packing.specs.Layout.{part_length}
+use Rattle.record.specs.Reader.{code_of, length_by, sized_by}
 use Rattle.index.specs.Steps.{bytes_at, stepped, onward, passed, Starts, these, refused, and_these, starts_after, starts_from, starts_at}
 use Rattle.index.specs.StepsLaws.{Goes, Begins}
+
+-- ---- how many bytes a record has, as code has it
+pub sized-none : (first : ℕ) (why : Refusal) → sized_by (code_of first) ≡ Err why → (why ≡ Parameters) × (length_by (code_of first) ≡ 0)
+sized-none first why e = by (code_of first) refl e
+  where
+    by : (k : Result Code Refusal) → code_of first ≡ k → sized_by k ≡ Err why → (why ≡ Parameters) × (length_by k ≡ 0)
+    by (Err why') f g = let same : why' ≡ why = cc in (sym same ∙ made_refused (first % 16) (first / 16) why' f, refl)
+    by (Ok c) f g = let z : ◌≡◌ {A = ℕ} 0 1 = cc in absurd (omega arith)
+
+pub sized-some : (first k : ℕ) → sized_by (code_of first) ≡ Ok k → (k ≡ length_by (code_of first)) × (0 < k)
+sized-some first k e = by (code_of first) e
+  where
+    by : (c : Result Code Refusal) → sized_by c ≡ Ok k → (k ≡ length_by c) × (0 < k)
+    by (Err why) g = let z : ◌≡◌ {A = ℕ} 0 1 = cc in absurd (omega arith)
+    by (Ok c) g = let same : suc (part_length c.m) ≡ k = cc in (sym same, omega arith)
 
 -- ---- the answers of a step, by its tests
 module _ (s : List ℕ) (at : ℕ) where

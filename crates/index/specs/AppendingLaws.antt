@@ -1,7 +1,5 @@
 -- Laws of an append: when each answer is given.
 use Rattle.std.specs.Prelude.{◌≡◌, List, false, ℕ, ℤ}
-use Rattle.std.proofs.Math.Path.{ap}
-use Rattle.record.specs.Writing as Writing
 use Rattle.record.specs.Writing.{writing}
 use Rattle.index.specs.declared.Index.{Index}
 use Rattle.index.specs.Appending.{full}

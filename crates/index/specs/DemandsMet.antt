@@ -1,5 +1,5 @@
 -- Finding a record by its number meets demand 1.
-use Rattle.std.specs.Prelude.{◌≡◌, ◌⊎◌, ◌-◌}
+use Rattle.std.specs.Prelude.{◌≡◌, ◌⊎◌}
 use Rattle.code.specs.declared.Refusal.{Refusal}
 use Rattle.code.specs.declared.Refusal.TheVariants.{Parameters, Torn}
 

@@ -56,8 +56,13 @@ abbrev pub part_start : List ℕ → List ℕ → ℕ → ℕ
 part_start s table w = part_start_at s (start_in s table w)
 
 -- all of it: what the record says, where its packed part starts in the capture, and how long that is
-abbrev pub located_at : List ℕ → Result ℕ Refusal → Located
-located_at s p = record { header = header_at s p; start = part_start_at s p; length = length (part_at s p) }
+abbrev pub located_by : Result Code Refusal → ℕ → List ℕ → Result Located Refusal
+located_by (Err why) start s = Err why
+located_by (Ok c) start s = Ok (record { code = c; start = part_after (Ok c) start; length = length (part_by (Ok c) s) })
 
-abbrev pub located_in : List ℕ → List ℕ → ℕ → Located
+abbrev pub located_at : List ℕ → Result ℕ Refusal → Result Located Refusal
+located_at s (Err why) = Err why
+located_at s (Ok start) = located_by (header_of (drop start s)) start (drop start s)
+
+abbrev pub located_in : List ℕ → List ℕ → ℕ → Result Located Refusal
 located_in s table w = located_at s (start_in s table w)

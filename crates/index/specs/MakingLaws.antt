@@ -1,5 +1,5 @@
--- Laws of making: counting record by record, and the entries one by one from the front of the table.
-use Rattle.std.specs.Prelude.{◌≡◌, List, ℕ, ◌-◌, ◌≤◌, length, drop}
+-- Laws of making: the entries one by one from the front of the table.
+use Rattle.std.specs.Prelude.{◌≡◌, List, ℕ, ◌≤◌, length, drop}
 use Rattle.numbers.specs.Front.{front}
 use Rattle.index.specs.Steps.{these, starts_at, starts_of}
 use Rattle.index.specs.Making.{entries_of, entries_for, list_of}

@@ -1,6 +1,6 @@
 -- Laws of stepping: when each answer of a step is given; the starts from a place on, record by record.
-use Rattle.std.specs.Prelude.{◌≡◌, List, ℕ, ◌+◌, ◌-◌, ◌≤◌, ◌<◌, length, Ok}
-use Rattle.index.specs.Steps.{bytes_at, stepped, these, refused, starts_at}
+use Rattle.std.specs.Prelude.{◌≡◌, List, ℕ, ◌+◌, ◌≤◌, ◌<◌, length, Ok}
+use Rattle.index.specs.Steps.{bytes_at, stepped, these, starts_at}
 
 -- ---- and back: what a step that is not refused shows
 pub record Goes (s : List ℕ) (at next : ℕ) : Type 0 where

@@ -112,10 +112,10 @@ fn row(rows: &mut [i32], path: &[u8], word: &mut [u8], t: usize, i: usize)
     let b = i / h;
     if b % 2 == 1 {
         left_word(path, word, b * h, h, t);
-        rows::upper_row(rows, h, word);
+        rows::upper_row::<rows::Whole>(rows, h, word);
         return;
     }
-    rows::lower_row(rows, h);
+    rows::lower_row::<rows::Whole>(rows, h);
 }
 
 // The same from all readings.
@@ -130,10 +130,10 @@ fn top_row(readings: &[i16], rows: &mut [i32], path: &[u8], word: &mut [u8], t: 
     let b = i / h;
     if b % 2 == 1 {
         left_word(path, word, b * h, h, t);
-        rows::upper_top(readings, rows, h, word);
+        rows::upper_top::<rows::Whole>(readings, rows, h, word);
         return;
     }
-    rows::lower_top(readings, rows, h);
+    rows::lower_top::<rows::Whole>(readings, rows, h);
 }
 
 // The highest row that is made.
@@ -193,10 +193,10 @@ fn row_of_4(rows: &mut [i32], path: &[u8], word: &mut [u8], i: usize)
     let b = i / 4;
     if b % 2 == 1 {
         word_of_4(path, word, b * 4);
-        rows::upper_row(rows, 4, word);
+        rows::upper_row::<rows::Whole>(rows, 4, word);
         return;
     }
-    rows::lower_row(rows, 4);
+    rows::lower_row::<rows::Whole>(rows, 4);
 }
 
 // The row of two sums, from the row of four.
@@ -207,10 +207,10 @@ fn row_of_2(rows: &mut [i32], path: &[u8], i: usize)
     let b = i / 2;
     if b % 2 == 1 {
         let word = pair(path, b * 2);
-        rows::upper_row(rows, 2, &word);
+        rows::upper_row::<rows::Whole>(rows, 2, &word);
         return;
     }
-    rows::lower_row(rows, 2);
+    rows::lower_row::<rows::Whole>(rows, 2);
 }
 
 // The row of one sum, from the row of two; a word of one bit is that bit.
@@ -219,10 +219,10 @@ fn row_of_1(rows: &mut [i32], path: &[u8], i: usize)
     ensures { rows.new ≡ new_row 0 i path.now rows.old }
 {
     if i % 2 == 1 {
-        rows::upper_row(rows, 1, &path[i - 1..i]);
+        rows::upper_row::<rows::Whole>(rows, 1, &path[i - 1..i]);
         return;
     }
-    rows::lower_row(rows, 1);
+    rows::lower_row::<rows::Whole>(rows, 1);
 }
 
 // The rows of less than 2^k sums, at most three of them, for any index.
@@ -249,7 +249,7 @@ fn start_of_1(rows: &mut [i32], path: &[u8], i: usize)
     requires { (i % 2 ≡ 1) × LowReady 1 i path.now rows.old }
     ensures { rows.new ≡ remade 1 i path.now rows.old }
 {
-    rows::upper_row(rows, 1, &path[i - 1..i]);
+    rows::upper_row::<rows::Whole>(rows, 1, &path[i - 1..i]);
 }
 
 // Of two and none of four: two rows.
@@ -258,8 +258,8 @@ fn start_of_2(rows: &mut [i32], path: &[u8], i: usize)
     ensures { rows.new ≡ remade 2 i path.now rows.old }
 {
     let word = pair(path, i);
-    rows::upper_row(rows, 2, &word);
-    rows::lower_row(rows, 1);
+    rows::upper_row::<rows::Whole>(rows, 2, &word);
+    rows::lower_row::<rows::Whole>(rows, 1);
 }
 
 // Of four and none of eight: three rows.
@@ -269,9 +269,9 @@ fn start_of_4(rows: &mut [i32], path: &[u8], word: &mut [u8], i: usize)
     ensures { rows.new ≡ remade 3 i path.now rows.old }
 {
     word_of_4(path, word, i);
-    rows::upper_row(rows, 4, word);
-    rows::lower_row(rows, 2);
-    rows::lower_row(rows, 1);
+    rows::upper_row::<rows::Whole>(rows, 4, word);
+    rows::lower_row::<rows::Whole>(rows, 2);
+    rows::lower_row::<rows::Whole>(rows, 1);
 }
 
 // Of 2^t and none of twice as many, t at least 3: the row of 2^t sums, and all below it. These are
@@ -295,11 +295,11 @@ fn start_of_more(
     let mut u = t;
     while 3 < u {
         u -= 1;
-        rows::lower_row(rows, power(u));
+        rows::lower_row::<rows::Whole>(rows, power(u));
     }
-    rows::lower_row(rows, 4);
-    rows::lower_row(rows, 2);
-    rows::lower_row(rows, 1);
+    rows::lower_row::<rows::Whole>(rows, 4);
+    rows::lower_row::<rows::Whole>(rows, 2);
+    rows::lower_row::<rows::Whole>(rows, 1);
 }
 
 // The row of 2^high sums and all below it, where m is below 4: straight code makes them, save the

@@ -7,9 +7,9 @@ use Rattle.rod.specs.Outcome.{RodOutcome, outcome_of}
 use Rattle.guarded.specs.declared.Fault.{Fault}
 
 same_heard : (a b : Result Heard Fault) → outcome_of a ≡ outcome_of b → a ≡ b
-same_heard (SHOWN n p g) (SHOWN n' p' g') e = ap (λ (o : RodOutcome). SHOWN o.position o.carry.penalty o.gap) e
-same_heard (SHOWN n p g) (Err why) e = absurd (omega (arith, ap (λ (o : RodOutcome). o.carry.number) e, fault_above why))
-same_heard (Err why) (SHOWN n p g) e = absurd (omega (arith, ap (λ (o : RodOutcome). o.carry.number) e, fault_above why))
+same_heard (Ok _) (Ok _) e = ap (λ (o : RodOutcome). Ok (record { position = o.position; penalty = o.carry.penalty; gap = o.gap })) e
+same_heard (Ok _) (Err why) e = absurd (omega (arith, ap (λ (o : RodOutcome). o.carry.number) e, fault_above why))
+same_heard (Err why) (Ok _) e = absurd (omega (arith, ap (λ (o : RodOutcome). o.carry.number) e, fault_above why))
 same_heard (Err why) (Err why') e = ap Err (fault_only why why' (ap (λ (o : RodOutcome). o.carry) e))
 
 -- for any promised outcome

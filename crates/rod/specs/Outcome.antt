@@ -29,7 +29,7 @@ no_position why = record { carry = fault_carries why; gap = 0; position = 0 }
 
 -- the answer in the rules' numbers
 abbrev pub outcome_of : Result Heard Fault → RodOutcome
-outcome_of (SHOWN position penalty gap) = position_shown position penalty gap
+outcome_of (Ok heard) = position_shown heard.position heard.penalty heard.gap
 outcome_of (Err why) = no_position why
 
 -- the first-order word of RM(1,m) into buffers of its own

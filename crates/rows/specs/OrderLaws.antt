@@ -1,10 +1,12 @@
 -- The lesser and the greater by a test, and the combining step for the lower half by the order of the two alone.
-use Rattle.std.specs.Prelude.{◌≡◌, refl, true, false, ℕ, zero, suc, ◌<◌, min, max, ℤ, pos, negsuc, nat_abs, ◌-ℤ◌, neg_ℤ}
-use Rattle.std.proofs.Common.{ap, ◌∙◌, true≢false, arith, ltb-true, ltb-false}
+use Rattle.std.specs.Prelude.{◌≡◌, refl, true, false, ℕ, zero, suc, ◌^◌, ◌<◌, min, max, ℤ, pos, negsuc, nat_abs, ◌-ℤ◌, neg_ℤ, ltb}
+use Rattle.std.proofs.Common.{SFits, w32, ap, ap₂, ◌∙◌, true≢false, arith, ltb-true, ltb-false}
 use Rattle.std.proofs.lemmas.Bool.{false≢true}
 use Rattle.std.proofs.Math.IntN.{+ℤ_idl}
+use Rattle.std.specs.Int.{int_min, int_max}
 use Rattle.std.specs.Int.Signed.{lt_z}
-use Rattle.numbers.specs.PartsLaws.{parts, sum_parts, negated}
+use Rattle.numbers.specs.Choice.{cond_by}
+use Rattle.numbers.specs.PartsLaws.{parts, sum_parts, negated, fits_size}
 use Rattle.decoding.specs.Quick.{lower}
 use Rattle.rows.specs.Order.{lesser, greater}
 
@@ -71,3 +73,31 @@ lower_by_order (negsuc x) (pos y) =
 lower_by_order (negsuc x) (negsuc y) =
     let e : suc (min x y) ≡ min (suc x) (suc y) = omega arith in
     ap (greater (negsuc (max x y))) (+ℤ_idl (pos (suc (min x y)))) ∙ ap pos e
+
+-- ---- as the library's words for them have it
+min_lesser : (x y : ℤ) → int_min x y ≡ lesser x y
+min_lesser (pos x) (pos y) =
+    cond_by (λ (z : ℤ). z ≡ pos (min x y)) (ltb y x) (pos y) (pos x) (λ e. ap pos (omega (arith, ltb-true y x e))) (λ e. ap pos (omega (arith, ltb-false y x e)))
+min_lesser (pos x) (negsuc y) = refl
+min_lesser (negsuc x) (pos y) = refl
+min_lesser (negsuc x) (negsuc y) =
+    cond_by (λ (z : ℤ). z ≡ negsuc (max x y)) (ltb x y) (negsuc y) (negsuc x)
+    (λ e. ap negsuc (omega (arith, ltb-true x y e))) (λ e. ap negsuc (omega (arith, ltb-false x y e)))
+
+max_greater : (x y : ℤ) → int_max x y ≡ greater x y
+max_greater (pos x) (pos y) =
+    cond_by (λ (z : ℤ). z ≡ pos (max x y)) (ltb y x) (pos x) (pos y) (λ e. ap pos (omega (arith, ltb-true y x e))) (λ e. ap pos (omega (arith, ltb-false y x e)))
+max_greater (pos x) (negsuc y) = refl
+max_greater (negsuc x) (pos y) = refl
+max_greater (negsuc x) (negsuc y) =
+    cond_by (λ (z : ℤ). z ≡ negsuc (min x y)) (ltb x y) (negsuc x) (negsuc y)
+    (λ e. ap negsuc (omega (arith, ltb-true x y e))) (λ e. ap negsuc (omega (arith, ltb-false x y e)))
+
+pub lower_by_max : (x y : ℤ) → int_max (int_min x y) (pos 0 -ℤ int_max x y) ≡ lower x y
+lower_by_max x y =
+    max_greater (int_min x y) (pos 0 -ℤ int_max x y)
+    ∙ ap₂ greater (min_lesser x y) (ap (λ (z : ℤ). pos 0 -ℤ z) (max_greater x y)) ∙ lower_by_order x y
+
+pub turned-fits : (x y : ℤ) → nat_abs x < 2 ^ 31 → nat_abs y < 2 ^ 31 → SFits w32 (pos 0 -ℤ int_max x y)
+turned-fits x y h k =
+    rw (max_greater x y) (fits_size _ (size-turned (greater x y) (2 ^ 31) (size-greater x y (2 ^ 31) h k)))

@@ -80,7 +80,8 @@ module _ (r m : ℕ) (named : List ℕ) where
         encoders.outcome_only (inverting_shortened r m named word bits) p.0 p.1 a b x y
 
   pub quick_only : (l : List ℤ) (bits word : List ℕ) (a b : Result ℕ Refusal) (x y v w : List ℕ)
-      → reader.outcome_of a x y ≡ quick_shortened r m named l bits word → reader.outcome_of b v w ≡ quick_shortened r m named l bits word → (a ≡ b) × (x ≡ v) × (y ≡ w)
+      → reader.outcome_of a x y ≡ quick_shortened r m named l bits word → reader.outcome_of b v w ≡ quick_shortened r m named l bits word
+      → (a ≡ b) × (x ≡ v) × (y ≡ w)
   quick_only l bits word =
       let p = quick_plain l bits word in
       readers.outcome_only (quick_shortened r m named l bits word) p.0 p.1

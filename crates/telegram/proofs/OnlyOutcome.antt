@@ -1,5 +1,5 @@
 -- No second answer meets the reader's promise. The writer's is `write_only` of the crate guarded.
-use Rattle.std.specs.Prelude.{◌≡◌, Result, Err}
+use Rattle.std.specs.Prelude.{◌≡◌, Result, Ok, Err}
 use Rattle.std.proofs.Common.{ap, sym, ◌∙◌, arith}
 use Rattle.guarded.specs.FaultLaws.{fault_above, fault_only}
 use Rattle.telegram.specs.declared.Heard.{Heard}
@@ -7,10 +7,11 @@ use Rattle.telegram.specs.Outcome.{ReadOutcome, outcome_of}
 use Rattle.guarded.specs.declared.Fault.{Fault}
 
 same_heard : (a b : Result Heard Fault) → outcome_of a ≡ outcome_of b → a ≡ b
-same_heard (SHOWN t p g v) (SHOWN t' p' g' v') e =
-    ap (λ (o : ReadOutcome). SHOWN o.telegram o.carry.penalty o.gap o.carry.visits) e
-same_heard (SHOWN t p g v) (Err why) e = absurd (omega (arith, ap (λ (o : ReadOutcome). o.carry.number) e, fault_above why))
-same_heard (Err why) (SHOWN t p g v) e = absurd (omega (arith, ap (λ (o : ReadOutcome). o.carry.number) e, fault_above why))
+same_heard (Ok _) (Ok _) e =
+    ap
+    (λ (o : ReadOutcome). Ok (record { telegram = o.telegram; found = record { penalty = o.carry.penalty; gap = o.gap; visits = o.carry.visits } })) e
+same_heard (Ok _) (Err why) e = absurd (omega (arith, ap (λ (o : ReadOutcome). o.carry.number) e, fault_above why))
+same_heard (Err why) (Ok _) e = absurd (omega (arith, ap (λ (o : ReadOutcome). o.carry.number) e, fault_above why))
 same_heard (Err why) (Err why') e = ap Err (fault_only why why' (ap (λ (o : ReadOutcome). o.carry) e))
 
 -- for any promised outcome

@@ -43,7 +43,7 @@ faulted why = record { carry = fault_carries why; gap = 0; telegram = no_telegra
 
 -- the answer in the rules' numbers
 abbrev pub outcome_of : Result Heard Fault → ReadOutcome
-outcome_of (SHOWN t penalty gap visits) = showing t penalty gap visits
+outcome_of (Ok heard) = showing heard.telegram heard.found.penalty heard.found.gap heard.found.visits
 outcome_of (Err why) = faulted why
 
 abbrev pub shown_if : Result (Unit {0}) Fault → Telegram → ℕ → ℕ → ℕ → ReadOutcome

@@ -12,9 +12,9 @@ ghost use Rattle.telegram.specs.Outcome.{writing_telegram};
 ghost use Rattle.telegram.specs.Outcome.{outcome_of, judged, reading_telegram, reading_bits};
 
 use code::Refusal;
+pub use guarded::Fault;
 use guarded::number_of;
 use search::Found;
-pub use guarded::Fault;
 
 // What the tilt head says. Direction 1 is to port; the tilt is in hundredths of a degree.
 #[derive(Clone, Copy)]
@@ -66,12 +66,12 @@ pub fn write(cylinder: u32, direction: u32, tilt: u32, word: &mut [u8]) -> Resul
 pub fn read_within(allowed: u32, readings: &[i16]) -> Result<Heard, Fault>
     ensures { outcome_of result ≡ reading_telegram allowed readings.now }
 {
-    let mut bits = [0u8; 16];
+    let mut found_bits = [0u8; 16];
     let mut word = [0u8; 32];
-    let answer = search::search_within(2, 5, allowed, readings, &mut bits, &mut word);
+    let answer = search::search_within(2, 5, allowed, readings, &mut found_bits, &mut word);
     // nothing of its runner-up is shown
     let found = answer.result?;
-    judge(&bits, found)
+    judge(&found_bits, found)
 }
 
 // The same, with the default allowance.
@@ -169,7 +169,8 @@ fn put_word(telegram: Telegram, word: &mut [u8])
     put_number(telegram.cylinder, &mut bits[0..3]);
     put_number(telegram.direction, &mut bits[3..4]);
     put_number(telegram.tilt, &mut bits[4..15]);
-    encode::encode(2, 5, &bits, word);
+    // 16 bits and 32 places are those of RM(2,5): no test refuses
+    let _ = encode::encode(2, 5, &bits, word);
 }
 
 // The telegram that 16 bits say, whatever their marker is.

@@ -1,5 +1,4 @@
 -- `index::find` meets its contract: the packed part of the record that starts there, or none.
-use Rattle.std.specs.Prelude.{Ok, Err}
 use mathlib.Core.Path.{ap, sym, ◌∙◌}
 use mathlib.Core.List.{List}
 use Prim.Native.Nat.{ℕ, ◌<◌}
@@ -10,10 +9,10 @@ use Rattle.record.specs.Reader.{header_of, part_by}
 use Rattle.index.specs.Finding.{part_at}
 use Rattle.index.proofs.FindingLaws.{start_inside}
 use Rattle.index.proofs.find.Goals as goal
-use Rattle.index.proofs.find.Goals.{In-At}
+use Rattle.index.proofs.find.Goals.{In-Ok}
 
 -- the record starts inside the capture
-inside : (c : In-At) → c.in-Ok.start < length c.args.capture.now
+inside : (c : In-Ok) → c.in-Ok.start < length c.args.capture.now
 inside c =
     let g = c.args in
     start_inside g.capture.now g.table.now g.w _ (sym c.start_of.ensures ∙ c.in-Ok.is)

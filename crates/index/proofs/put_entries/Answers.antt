@@ -1,49 +1,42 @@
 -- `index::put_entries` meets its contract: the loop's invariant is `Entering`.
-use Prim.Native.Nat.{◌+◌}
-use native.Mathlib.Omega.{arith}
+use Rattle.std.proofs.Common.{sym, ◌∙◌, arith}
 use Rattle.index.specs.StepsLaws.{Goes}
-use Rattle.index.proofs.MakingLaws.{enter_first, entry-room, enter_goes, enter_next, enter_done}
+use Rattle.index.proofs.StepsLaws.{step_goes}
+use Rattle.index.proofs.MakingLaws.{enter_first, entry-room, enter_stopped, enter_next, enter_done}
 use Rattle.index.proofs.put_entries.Goals as goal
-use Rattle.index.proofs.put_entries.Goals.{After-record_length-at}
+use Rattle.index.proofs.put_entries.Goals.{In-Ok}
 
-pub loop-at-init : goal.loop-at-init
-loop-at-init c = let g = c in enter_first g.args.capture.now g.args.table.now g.requires
+pub loop-next-init : goal.loop-next-init
+loop-next-init c = enter_first c.args.capture.now c.args.table.now c.requires
+
+-- the record that starts there
+goes : (c : In-Ok) → Goes c.args.capture.now c.loop-next.at c.in-Ok.next
+goes c = step_goes _ _ _ (sym c.step.ensures ∙ c.in-Ok.is)
 
 pub put_entry-requires : goal.put_entry-requires
 put_entry-requires c =
-    let g = c.args in
-    let o = c.loop-at in
-    entry-room g.capture.now g.table.now o.table o.at o.w o.invariant (omega arith)
+    let o = c.loop-next in
+    entry-room c.args.capture.now c.args.table.now o.table o.at o.w o.invariant (goes ((goal.at.put_entry-requires c).In-Ok)).inside
 
--- the record that starts there
-goes : (c : After-record_length-at) → let o = c.loop-at in
-    Goes c.args.capture.now o.at (o.at + c.record_length-at.result)
-goes c =
-    let g = c.args in
-    let o = c.loop-at in
-    enter_goes g.capture.now g.table.now o.table o.at o.w o.invariant (omega arith) _ c.record_length-at.ensures
-
-pub overflow_add-at : goal.overflow_add-at
-overflow_add-at c = omega (arith, (goes c).there)
+pub loop-next-smaller : goal.loop-next-smaller
+loop-next-smaller c =
+    let go = goes ((goal.at.loop-next-smaller c).In-Ok) in
+    omega (arith, go.further, go.there)
 
 pub overflow_add-w : goal.overflow_add-w
-overflow_add-w c = omega (arith, c.loop-at.invariant.few)
+overflow_add-w c =
+    let go = goes ((goal.at.overflow_add-w c).In-Ok) in
+    omega (arith, c.loop-next.invariant.few, go.inside)
 
-pub loop-at-smaller : goal.loop-at-smaller
-loop-at-smaller c = omega (arith, (goes c).further, (goes c).there)
-
-pub loop-at-preserved : goal.loop-at-preserved
-loop-at-preserved c =
-    let g = c.args in
-    let o = c.loop-at in
+pub loop-next-preserved : goal.loop-next-preserved
+loop-next-preserved c =
+    let o = c.loop-next in
     let put = c.put_entry in
-    enter_next g.capture.now g.table.now o.table o.at o.w o.invariant (omega arith) _ _ c.record_length-at.ensures put.ensures put.auto.table
-
-pub shape_of-table : goal.shape_of-table
-shape_of-table c = c.loop-at.invariant.same
+    enter_next c.args.capture.now c.args.table.now o.table o.at o.w o.invariant c.in-Ok.next _
+    (sym c.step.ensures ∙ c.in-Ok.is) put.ensures put.auto.table
 
 pub returns : goal.returns
 returns c =
-    let g = c.args in
-    let o = c.loop-at in
-    enter_done g.capture.now g.table.now o.table o.at o.w o.invariant (omega arith)
+    let o = c.loop-next in
+    let past = enter_stopped c.args.capture.now c.args.table.now o.table o.at o.w o.invariant (λ next e. c.in_default.not-Ok next (c.step.ensures ∙ e)) in
+    enter_done c.args.capture.now c.args.table.now o.table o.at o.w o.invariant past

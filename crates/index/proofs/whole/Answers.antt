@@ -1,16 +1,15 @@
 -- `index::whole` meets its contract: the records passed and those that the run still has are all of its records.
-use Rattle.std.specs.Prelude.{Ok, Err}
-use mathlib.Core.Path.{◌≡◌, refl, ap, sym, ◌∙◌}
+use Rattle.std.specs.Prelude.{Ok}
+use mathlib.Core.Path.{◌≡◌, refl, sym, ◌∙◌}
 use mathlib.Core.List.{List}
 use Prim.Native.Nat.{ℕ}
 use native.Mathlib.Omega.{arith}
 use Rattle.index.specs.Steps.{stepped}
-use Rattle.index.specs.Making.{index_of}
 use Rattle.index.specs.StepsLaws.{Goes}
 use Rattle.index.proofs.StepsLaws.{step_goes}
 use Rattle.index.proofs.FrontingLaws.{front_on, front-refused, front-end}
 use Rattle.index.proofs.whole.Goals as goal
-use Rattle.index.proofs.whole.Goals.{In-At}
+use Rattle.index.proofs.whole.Goals.{In-Ok}
 
 pub loop-at-init : goal.loop-at-init
 loop-at-init c = (omega arith, omega arith, refl)
@@ -19,8 +18,7 @@ pub returns-in-Err : goal.returns-in-Err
 returns-in-Err c =
     let s = c.args.capture.now in
     let o = c.loop-at in
-    ap (λ (number : ℕ). record { index = index_of o.records o.at; ended = number }) c.number.ensures
-    ∙ sym (front-refused s o.records o.at _ (omega arith) (sym c.step.ensures ∙ c.in-Err.is))
+    sym (front-refused s o.records o.at _ (omega arith) (sym c.step.ensures ∙ c.in-Err.is))
     ∙ o.invariant.2
 
 -- the step goes on

@@ -32,6 +32,7 @@ upper_top-requires c =
       omega (arith, h.ensures, g.requires.4),
       omega (arith, h.ensures, g.requires.0, g.requires.2),
       omega (arith, h.ensures, g.requires.0, g.requires.3, c.left_word.auto),
+      tt,
     )
 
 pub returns-then-b-eq1 : goal.returns-then-b-eq1
@@ -47,7 +48,7 @@ pub lower_top-requires : goal.lower_top-requires
 lower_top-requires c =
     let g = c in
     let h = c.power-h in
-    (omega (arith, h.ensures, g.requires.4), omega (arith, h.ensures, g.requires.0, g.requires.2))
+    (omega (arith, h.ensures, g.requires.4), omega (arith, h.ensures, g.requires.0, g.requires.2), tt)
 
 pub returns : goal.returns
 returns c =

@@ -33,7 +33,7 @@ lower_top-requires c =
     let kinds = c.args.kinds.now in
     let word = c.args.word.now in
     let e = row_halves m kinds word l c.requires.1 c.if-m-eq0.false in
-    (e, omega (arith, e, c.requires.1.long_row, pow_mono c.requires.0))
+    (e, omega (arith, e, c.requires.1.long_row, pow_mono c.requires.0), tt)
 
 pub first_half-requires : goal.first_half-requires
 first_half-requires c =
@@ -60,6 +60,7 @@ upper_top-requires c =
       e,
       omega (arith, e, room, c.requires.1.long_row, c.requires.1.long_word),
       upper_asked m kinds word l c.requires.1 c.if-m-eq0.false c.first_half.new.word c.first_half.auto.word first,
+      tt,
     )
 
 pub second_half-requires : goal.second_half-requires

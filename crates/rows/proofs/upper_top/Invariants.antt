@@ -1,14 +1,10 @@
--- `rows::upper_top` meets its contract: after j passes the new row has its first j sums.
-use mathlib.Core.Path.{◌≡◌}
-use Prim.Native.Nat.{◌-◌, ◌≤◌}
-use lib.ListN.{length, take}
-use lib.Seq.{paste}
+-- `rows::upper_top`: after j passes the new row has its first j sums.
+use Rattle.std.proofs.Common.{◌≡◌, take}
+use Rattle.std.proofs.Math.Seq.{paste}
 use Rattle.decoding.specs.Quick.{upper_row}
 use Rattle.rows.proofs.upper_top.Given as goal
 
 abbrev pub invariant-loop-j : goal.invariant-loop-j
-invariant-loop-j l = (l.j ≤ l.h) × (l.rows ≡ paste l.initial.rows l.h (upper_row l.h l.readings (take l.h l.word)) l.j)
-    × (length l.rows ≡ length l.initial.rows)
-
-abbrev pub decreases-loop-j : goal.decreases-loop-j
-decreases-loop-j l = l.h - l.j
+invariant-loop-j g l =
+    let d = g.A.Arithmetic.wholes l.initial.rows in
+    g.A.Arithmetic.wholes l.rows ≡ paste d l.h (upper_row l.h (g.A.Arithmetic.reads l.readings) (take l.h l.word)) l.j

@@ -1,4 +1,4 @@
--- `float_rows::lower` meets its contract.
+-- Floats' `lower` meets its contract.
 use mathlib.Core.Path.{◌≡◌, ap, ap₂, sym, ◌∙◌}
 use Prim.Native.Nat.{◌<◌}
 use lib.IntN.{pos, nat_abs, neg_ℤ, ◌-ℤ◌, +ℤ_idl}
@@ -8,8 +8,8 @@ use Rattle.rows.specs.Order.{greater}
 use Rattle.rows.specs.OrderLaws.{size-lesser, size-greater, size-turned, lower_by_order}
 use Rattle.float_numbers.specs.Whole.{whole_of}
 use Rattle.float_numbers.proofs.WholeLaws.{whole_neg}
-use Rattle.float_rows.proofs.lower.Goals as goal
-use Rattle.float_rows.proofs.lower.Goals.{After-greater-turned}
+use Rattle.float_rows.proofs.FloatArithmetic.lower.Goals as goal
+use Rattle.float_rows.proofs.FloatArithmetic.lower.Goals.{After-greater-turned}
 
 -- minus the greater
 turned-is : (c : After-greater-turned)

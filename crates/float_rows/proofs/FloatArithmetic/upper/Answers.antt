@@ -1,10 +1,10 @@
--- `float_rows::upper` meets its contract.
+-- Floats' `upper` meets its contract.
 use mathlib.Core.Path.{◌∙◌}
 use native.Mathlib.Omega.{arith}
 use Rattle.rows.specs.RowLaws.{upper-one}
 use Rattle.float_numbers.specs.Whole.{whole_of}
 use Rattle.float_numbers.proofs.SumLaws.{whole_add, whole_sub}
-use Rattle.float_rows.proofs.upper.Goals as goal
+use Rattle.float_rows.proofs.FloatArithmetic.upper.Goals as goal
 
 pub returns-then-a-eq0 : goal.returns-then-a-eq0
 returns-then-a-eq0 c =

@@ -1,9 +1,0 @@
--- `index::not_appended` meets its contract.
-use Rattle.std.specs.Prelude.{Ok, Err}
-use Rattle.index.proofs.not_appended.Goals as goal
-
-pub returns-in-Ok : goal.returns-in-Ok
-returns-in-Ok c = rw c.in-Ok.is
-
-pub returns-in-Err : goal.returns-in-Err
-returns-in-Err c = rw c.in-Err.is
