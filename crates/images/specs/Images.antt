@@ -1,11 +1,31 @@
 -- What the arrays of images, places and columns hold.
-use Rattle.std.specs.Prelude.{◌≡◌, Bool, true, not, ◌&&◌, List, [], ℕ, ◌+◌, ◌*◌, ◌^◌, ◌%◌, ◌/◌, ◌≤◌, ◌<◌, length, get_or, ltb}
+use Rattle.std.specs.Prelude.{◌≡◌, Bool, true, false, not, ◌&&◌, List, [], ℕ, ◌+◌, ◌*◌, ◌^◌, ◌%◌, ◌/◌, ◌≤◌, ◌<◌, length, get_or, ltb, eqb}
 use Rattle.std.specs.Int.Bits.{bit_xor}
 use Rattle.numbers.specs.Sums.{tabulate}
 use Rattle.words.specs.Bits.{digit}
+use Rattle.code.specs.declared.Refusal.{Refusal}
+use Rattle.code.specs.declared.Refusal.TheVariants.{Map}
 use Rattle.code.specs.Sound.{largest_m}
 use Rattle.code.specs.Entries.{first_bad_bit}
 use Rattle.maps.specs.Maps.{number, image, where_is, can_undo}
+
+-- ---- the lengths of a map
+-- a table of this many bytes is m by m, and a row of this many m long
+abbrev pub is_long : ℕ → ℕ → ℕ → Bool
+is_long m table row = eqb table (m * m) && eqb row m
+
+-- the lengths are those of a map of at most 256 positions
+pub record Mapped (m : ℕ) (A b : List ℕ) : Type 0 where
+  pub small : m ≤ largest_m
+  pub table_long : length A ≡ m * m
+  pub row_long : length b ≡ m
+
+-- the lengths are those of a map, and the map is of these
+pub record MapMade (m : ℕ) (A b : List ℕ) (m' : ℕ) (A' b' : List ℕ) : Type 0 where
+  pub right : is_long m (length A) (length b) ≡ true
+  pub same_m : m' ≡ m
+  pub same_table : A' ≡ A
+  pub same_row : b' ≡ b
 
 -- ---- the test 11
 abbrev pub are_bits : List ℕ → Bool
@@ -29,21 +49,16 @@ pub record Doubled (h i x : ℕ) (l k : List ℕ) : Type 0 where
 pub record Placed (n : ℕ) (images places : List ℕ) : Type 0 where
   pub is_place : Shows (λ v. where_is (λ j. get_or images j 0) v n) 256 places
 
--- the lengths are those of a map of at most 256 positions
-pub record Mapped (m : ℕ) (A b : List ℕ) : Type 0 where
-  pub small : m ≤ largest_m
-  pub table_long : length A ≡ m * m
-  pub row_long : length b ≡ m
+-- it is a map: the images without its row, and their places
+pub record Taken (m : ℕ) (A b : List ℕ) (images places : List ℕ) : Type 0 where
+  pub good : is_map m A b ≡ true
+  pub images_are : Shows (image m A []) (2 ^ m) images
+  pub places_are : Shows (λ v. where_is (image m A []) v (2 ^ m)) 256 places
 
--- whether it is a map, and for one the images without its row and their places
-pub record Taken (m : ℕ) (A b : List ℕ) (good : Bool) (images places : List ℕ) : Type 0 where
-  pub decides : good ≡ is_map m A b
-  pub images_are : good ≡ true → Shows (image m A []) (2 ^ m) images
-  pub places_are : good ≡ true → Shows (λ v. where_is (image m A []) v (2 ^ m)) 256 places
-
-pub record MapTested (m : ℕ) (A b : List ℕ) (good : Bool) (images : List ℕ) : Type 0 where
-  pub decides : good ≡ is_map m A b
-  pub images_are : good ≡ true → Shows (image m A []) (2 ^ m) images
+-- it is none, and the refusal says so
+pub record NotTaken (m : ℕ) (A b : List ℕ) (why : Refusal) : Type 0 where
+  pub bad : is_map m A b ≡ false
+  pub says_so : why ≡ Map
 
 -- each image, with x added, is the place of an entry, and there is room for that many
 pub record Moves {T : Type 0} (images : List ℕ) (x : ℕ) (from to : List T) : Type 0 where

@@ -13,6 +13,7 @@ use Rattle.numbers.specs.Sums.{total, tabulate}
 use Rattle.numbers.specs.SumsLaws.{total_same, total-zero, tabulate_same, get_d_tabulate}
 use Rattle.words.specs.Bits.{Bits, digit}
 use Rattle.code.specs.Sound.{largest_m}
+use Rattle.code.specs.declared.Refusal.TheVariants.{Map}
 use Rattle.code.specs.Entries.{first_bad_bit}
 use Rattle.code.specs.EntriesLaws.{good_bits}
 use Rattle.maps.specs.Maps.{number, image_bit, image, reordered, product_table, product_row, Apart, where_is, all_apart, can_undo, undo_table, undo_row}
@@ -21,7 +22,7 @@ use Rattle.maps.specs.ImageLaws.{image_bit_lem, image-below, digit-image, image_
 use Rattle.maps.proofs.CountLaws.{where_met}
 use Rattle.maps.proofs.UndoLaws.{image_added, undoable_apart, undo_after}
 use Rattle.maps.proofs.TestLaws.{tested, can_undo_lem}
-use Rattle.images.specs.Images.{is_map, Shows, Placed, Taken, MapTested, Moves, moved, UndoPut, ProductPut}
+use Rattle.images.specs.Images.{is_map, Shows, Placed, Taken, NotTaken, Moves, moved, UndoPut, ProductPut}
 use Rattle.images.specs.ImagesLaws.{number_small, image-row}
 use Rattle.images.specs.ArrayLaws.{some_side}
 
@@ -81,22 +82,28 @@ false_true : {P : Type 0} (x : Bool) → x ≡ false → x ≡ true → P
 false_true x e f = let z : ◌≡◌ {A = ℕ} 0 1 = cc in absurd (omega arith)
 
 module _ (m : ℕ) (A b images places : List ℕ) where
-  pub not_taken : is_map m A b ≡ false → Taken m A b false images places
-  not_taken e = record { decides = sym e; images_are = false_true false refl; places_are = false_true false refl }
+  pub not_taken : is_map m A b ≡ false → NotTaken m A b Map
+  not_taken e = record { bad = e; says_so = refl }
 
-  pub taken : (good : Bool) (n : ℕ) → n ≡ 2 ^ m → length A ≤ first_bad_bit A → length b ≤ first_bad_bit b → Shows (image m A []) (2 ^ m) images
-      → Placed n images places → good ≡ all_apart (λ j. get_or images j 0) n → Taken m A b good images places
-  unfolding can_undo
-  taken good n e table row s p is =
-      let f : ℕ → ℕ = λ j. get_or images j 0 in
-      record {
-        decides = is ∙ ap (all_apart f) e ∙ apart_same f (image m A []) (2 ^ m) s ∙ sym (both_good m A b table row);
-        images_are = λ g. s;
-        places_are = λ g v h. p.is_place v h ∙ ap (where_is f v) e ∙ where_same f (image m A []) v (2 ^ m) s;
-      }
+  module _ (n : ℕ) (is_n : n ≡ 2 ^ m) (table : length A ≤ first_bad_bit A) (row : length b ≤ first_bad_bit b)
+      (s : Shows (image m A []) (2 ^ m) images) where
+    tests_apart : all_apart (λ j. get_or images j 0) n ≡ is_map m A b
+    unfolding can_undo
+    tests_apart =
+        let f : ℕ → ℕ = λ j. get_or images j 0 in
+        ap (all_apart f) is_n ∙ apart_same f (image m A []) (2 ^ m) s ∙ sym (both_good m A b table row)
 
-pub map_tested_lem : (m : ℕ) (A b : List ℕ) (good : Bool) (images places : List ℕ) → Taken m A b good images places → MapTested m A b good images
-map_tested_lem m A b good images places t = record { decides = t.decides; images_are = t.images_are }
+    pub taken : Placed n images places → true ≡ all_apart (λ j. get_or images j 0) n → Taken m A b images places
+    taken p is =
+        let f : ℕ → ℕ = λ j. get_or images j 0 in
+        record {
+          good = sym (is ∙ tests_apart);
+          images_are = s;
+          places_are = λ v h. p.is_place v h ∙ ap (where_is f v) is_n ∙ where_same f (image m A []) v (2 ^ m) s;
+        }
+
+    pub not_apart_taken : false ≡ all_apart (λ j. get_or images j 0) n → NotTaken m A b Map
+    not_apart_taken is = not_taken (sym (is ∙ tests_apart))
 
 -- ---- a row as a table of one column
 pub row_number : (m : ℕ) (b : List ℕ) → number m (λ p. get_or b (p * 1 + 0) 0) ≡ number m (λ p. get_or b p 0)
@@ -105,23 +112,24 @@ row_number m b =
     (λ p h. let e : p * 1 + 0 ≡ p = omega arith in ap (λ (i : ℕ). get_or b i 0) e)
 
 -- ---- reordered rows
-module _ {T : Type 0} (d : T) (m : ℕ) (A b : List ℕ) (bits : Bits b) (images : List ℕ) (shown : Shows (image m A []) (2 ^ m) images)
-    (x : ℕ) (is_row : x ≡ number m (λ p. get_or b p 0)) (from : List T) (long : length from ≡ 2 ^ m) where
+module _ (m : ℕ) (A b : List ℕ) (bits : Bits b) (images : List ℕ) (shown : Shows (image m A []) (2 ^ m) images)
+    (x : ℕ) (is_row : x ≡ number m (λ p. get_or b p 0)) where
   moved-image : (j : ℕ) → j < 2 ^ m → bit_xor (get_or images j 0) x ≡ image m A b j
   moved-image j h = ap₂ bit_xor (shown j h) is_row ∙ image-row m A b bits j
 
-  pub moves_map : (to : List T) → length to ≡ 2 ^ m → m ≤ largest_m → length images ≡ 256 → Moves images x from to
-  moves_map to e h k = record {
-    room = e ∙ sym long;
-    each = omega (arith, pow_mono h);
-    within = λ j l. omega (arith, moved-image j (omega arith), image-below m A b j);
-  }
+  module _ {T : Type 0} (from : List T) (long : length from ≡ 2 ^ m) where
+    pub moves_map : (to : List T) → length to ≡ 2 ^ m → m ≤ largest_m → length images ≡ 256 → Moves images x from to
+    moves_map to e h k = record {
+      room = e ∙ sym long;
+      each = omega (arith, pow_mono h);
+      within = λ j l. omega (arith, moved-image j (omega arith), image-below m A b j);
+    }
 
-  pub moved-map : moved d x images from ≡ reordered d m A b from
-  unfolding reordered
-  moved-map =
-      let f : ℕ → T = λ j. get_or from (bit_xor (get_or images j 0) x) d in
-      ap (tabulate f) long ∙ tabulate_same f (λ j. get_or from (image m A b j) d) (2 ^ m) (λ j h. ap (λ (i : ℕ). get_or from i d) (moved-image j h))
+    pub moved-map : (d : T) → moved d x images from ≡ reordered d m A b from
+    unfolding reordered
+    moved-map d =
+        let f : ℕ → T = λ j. get_or from (bit_xor (get_or images j 0) x) d in
+        ap (tabulate f) long ∙ tabulate_same f (λ j. get_or from (image m A b j) d) (2 ^ m) (λ j h. ap (λ (i : ℕ). get_or from i d) (moved-image j h))
 
 -- ---- the undo map
 -- a table times no row is 0

@@ -3,12 +3,72 @@
 #![tactic(auto)]
 
 ghost use Rattle.std.specs.Prelude.{◌≡◌, [], ◌+◌, ◌*◌, ◌^◌, ◌%◌, ◌/◌, ◌≤◌, ◌<◌, length, get_or};
-ghost use Rattle.std.specs.Prelude.{pos};
+ghost use Rattle.std.specs.Prelude.{false, replicate, MatchOption, MatchResult};
 ghost use Rattle.words.specs.Bits.{Bits};
+ghost use Rattle.code.specs.declared.Refusal.TheVariants as Refusal;
 ghost use Rattle.code.specs.Sound.{largest_m};
+ghost use Rattle.code.specs.Entries.{first_bad_bit};
 ghost use Rattle.maps.specs.Maps.{number, image, all_apart};
-ghost use Rattle.images.specs.Images.{Shows, Doubled, Placed, Mapped, Taken, MapTested};
+ghost use Rattle.images.specs.Images.{is_long, MapMade, Shows, Doubled, Placed, Mapped};
+ghost use Rattle.images.specs.Images.{Taken, NotTaken};
 ghost use Rattle.images.specs.Images.{Moves, moved, spread_of, UndoPut, ProductPut};
+
+use code::Refusal;
+
+// A map of positions: an m by m table of bytes, row by row, and a row of m bytes.
+#[derive(Clone, Copy)]
+pub struct Map<'a> {
+    pub m: usize,
+    pub table: &'a [u8],
+    pub row: &'a [u8],
+    ghost mapped: { Mapped m table.now row.now },
+}
+
+// The image of each position, without the row, and the position that has each image.
+#[derive(Drop)]
+pub struct Images {
+    pub image: [u8; 256],
+    pub place: [u8; 256],
+}
+
+impl<'a> Map<'a> {
+    // The map, if the lengths are those of one.
+    pub fn new(m: u32, table: &'a [u8], row: &'a [u8]) -> Option<Map<'a>>
+        requires { m ≤ largest_m }
+        ensures { MatchOption result (is_long m (length table.now) (length row.now) ≡ false)
+            (λ map. MapMade m table.now row.now map.m map.table.now map.row.now) }
+    {
+        if is_long(m, table.len(), row.len()) {
+            Some(Map {
+                m: m as usize,
+                table,
+                row,
+            })
+        } else {
+            None
+        }
+    }
+}
+
+impl Images {
+    // Of no map yet.
+    pub fn zeroed() -> Images
+        ensures { (result.image ≡ replicate 256 0) × (result.place ≡ replicate 256 0) }
+    {
+        Images {
+            image: [0; 256],
+            place: [0; 256],
+        }
+    }
+}
+
+// Whether a table of this many bytes is m by m, and a row of this many m long.
+pub fn is_long(m: u32, table: usize, row: usize) -> bool
+    ensures { result ≡ is_long m table row }
+{
+    let m = m as usize;
+    (table == m * m) & (row == m)
+}
 
 // The number whose bit p is the entry at row p and column q of a table of m rows.
 pub fn column(table: &[u8], width: usize, q: usize, m: usize) -> u8
@@ -17,197 +77,149 @@ pub fn column(table: &[u8], width: usize, q: usize, m: usize) -> u8
     ensures { result ≡ number m (λ p. get_or table.now (p * width + q) 0) }
 {
     let mut x = 0;
-    let mut p = 0;
-    while p < m {
+    for p in 0..m {
         x += table[p * width + q] << p;
-        p += 1;
     }
     x
 }
 
 // The first h images repeated, with a column added: those of the positions h further on.
-fn add_column(images: &mut [u8], h: usize, column: u8)
-    requires { h + h ≤ length images.old }
+fn add_column(images: &mut [u8; 256], h: usize, column: u8)
+    requires { h + h ≤ 256 }
     ensures { Doubled h h column images.old images.new }
 {
-    let mut i = 0;
-    while i < h {
+    for i in 0..h {
         images[h + i] = images[i] ^ column;
-        i += 1;
     }
 }
 
 // The images of all positions under the table without the row.
-fn put_images(m: usize, table: &[u8], images: &mut [u8])
-    requires { (m ≤ largest_m) × (length table.now ≡ m * m) × Bits table.now
-        × (length images.old ≡ 256) }
+fn put_images(m: usize, table: &[u8], images: &mut [u8; 256])
+    requires { (m ≤ largest_m) × (length table.now ≡ m * m) × Bits table.now }
     ensures { Shows (image m table.now []) (2 ^ m) images.new }
 {
     images[0] = 0;
-    let mut q = 0;
-    while q < m {
-        add_column(images, 1usize << q, column(table, m, q, m));
-        q += 1;
+    for q in 0..m {
+        add_column(images, 1 << q, column(table, m, q, m));
     }
 }
 
 // The position that has each image; the highest where several have it.
-fn put_places(n: usize, images: &[u8], places: &mut [u8])
-    requires { (n ≤ length images.now) × (length places.old ≡ 256) × (n ≤ 256)
-        × Shows (λ v. 0) 256 places.old }
+fn put_places(n: usize, images: &[u8; 256], places: &mut [u8; 256])
+    requires { n ≤ 256 }
     ensures { Placed n images.now places.new }
 {
-    let mut j = 0;
-    while j < n {
-        let image = images[j] as usize;
-        places[image] = j as u8;
-        j += 1;
+    places.fill(0);
+    for j in 0..n {
+        places[usize::from(images[j])] = j as u8;
     }
 }
 
 // Whether no two positions have the same image.
-fn all_apart(n: usize, images: &[u8], places: &[u8]) -> bool
-    requires { (n ≤ length images.now) × (length places.now ≡ 256)
-        × Placed n images.now places.now }
+fn all_apart(n: usize, images: &[u8; 256], places: &[u8; 256]) -> bool
+    requires { (n ≤ 256) × Placed n images.now places.now }
     ensures { result ≡ all_apart (λ j. get_or images.now j 0) n }
 {
-    let mut j = 0;
-    while j < n {
-        let image = images[j] as usize;
-        if places[image] as usize != j {
+    for j in 0..n {
+        if usize::from(places[usize::from(images[j])]) != j {
             return false;
         }
-        j += 1;
     }
     true
 }
 
-// Whether this is a map that can be undone; then its images without the row, and their places.
-pub fn take_map(m: usize, table: &[u8], row: &[u8], images: &mut [u8], places: &mut [u8]) -> bool
-    requires { Mapped m table.now row.now × (length images.old ≡ 256)
-        × (length places.old ≡ 256) × Shows (λ v. 0) 256 places.old }
-    ensures { Taken m table.now row.now result
-        images.new places.new }
+// Whether a map may have these bytes.
+fn only_bits(bits: &[u8]) -> Result<(), Refusal>
+    ensures { MatchResult result (λ done. length bits.now ≤ first_bad_bit bits.now)
+        (λ why. (first_bad_bit bits.now < length bits.now) × (why ≡ Refusal.Map)) }
 {
-    if code::test_bits(table).is_err() {
-        return false;
-    }
-    if code::test_bits(row).is_err() {
-        return false;
-    }
-    let n = 1usize << m;
-    put_images(m, table, images);
-    put_places(n, images, places);
-    all_apart(n, images, places)
+    code::test_bits(bits).map_err(|_| Refusal::Map)
 }
 
-// The same if the places are not needed.
-pub fn is_map(m: usize, table: &[u8], row: &[u8], images: &mut [u8]) -> bool
-    requires { Mapped m table.now row.now × (length images.old ≡ 256) }
-    ensures { MapTested m table.now row.now result
-        images.new }
+// The images of a map that can be undone, without its row, and their places.
+pub fn take_map(map: &Map<'_>, images: &mut Images) -> Result<(), Refusal>
+    ensures { MatchResult result
+        (λ done. Taken map.now.m map.now.table.now map.now.row.now
+        images.new.image images.new.place)
+        (λ why. NotTaken map.now.m map.now.table.now map.now.row.now why) }
 {
-    let mut places = [0u8; 256];
-    take_map(m, table, row, images, &mut places)
+    only_bits(map.table)?;
+    only_bits(map.row)?;
+    let n = 1 << map.m;
+    put_images(map.m, map.table, &mut images.image);
+    put_places(n, &images.image, &mut images.place);
+    if all_apart(n, &images.image, &images.place) {
+        Ok(())
+    } else {
+        Err(Refusal::Map)
+    }
 }
 
 // Position j gets the entry at its image, with x added.
-pub fn move_readings(images: &[u8], x: u8, from: &[i16], to: &mut [i16])
+pub fn move_entries<T: Copy>(images: &[u8], x: u8, from: &[T], to: &mut [T])
     requires { Moves images.now x from.now to.old }
-    ensures { to.new ≡ moved (pos 0) x images.now from.now }
+    ensures { (d : T) → to.new ≡ moved d x images.now from.now }
 {
-    let mut j = 0;
-    while j < to.len() {
-        let image = (images[j] ^ x) as usize;
-        to[j] = from[image];
-        j += 1;
-    }
-}
-
-pub fn move_bits(images: &[u8], x: u8, from: &[u8], to: &mut [u8])
-    requires { Moves images.now x from.now to.old }
-    ensures { to.new ≡ moved 0 x images.now from.now }
-{
-    let mut j = 0;
-    while j < to.len() {
-        let image = (images[j] ^ x) as usize;
-        to[j] = from[image];
-        j += 1;
+    for j in 0..to.len() {
+        to[j] = from[usize::from(images[j] ^ x)];
     }
 }
 
 // Fills a table with its columns: bit p of column q goes to row p.
-fn spread(columns: &[u8], width: usize, table: &mut [u8])
-    requires { (width ≤ length columns.now) × (length table.old ≤ largest_m * width) }
+fn spread(columns: &[u8; 8], width: usize, table: &mut [u8])
+    requires { (width ≤ 8) × (length table.old ≤ largest_m * width) }
     ensures { table.new
         ≡ spread_of columns.now width (length table.old) }
 {
-    let mut i = 0;
-    while i < table.len() {
-        let column = columns[i % width];
-        table[i] = (column >> (i / width)) % 2;
-        i += 1;
+    for (i, bit) in table.iter_mut().enumerate() {
+        *bit = (columns[i % width] >> (i / width)) % 2;
     }
 }
 
 // The columns of the undo table: the positions whose images are the powers of 2.
-fn undo_columns(m: usize, places: &[u8], columns: &mut [u8])
-    requires { (m ≤ largest_m) × (length places.now ≡ 256) × (m ≤ length columns.old) }
+fn undo_columns(m: usize, places: &[u8; 256], columns: &mut [u8; 8])
+    requires { m ≤ largest_m }
     ensures { Shows (λ q. get_or places.now (2 ^ q) 0) m columns.new }
 {
-    let mut q = 0;
-    while q < m {
-        columns[q] = places[1usize << q];
-        q += 1;
+    for q in 0..m {
+        columns[q] = places[1 << q];
     }
 }
 
 // The undo map, by the places: its row is the position whose image is the row.
-pub fn put_undo(m: usize, places: &[u8], row: &[u8], out: &mut [u8], outrow: &mut [u8])
-    requires { Mapped m out.old outrow.old × (length row.now ≡ m) × Bits row.now
-        × (length places.now ≡ 256) }
+pub fn put_undo(m: usize, places: &[u8; 256], row: &[u8], out: &mut [u8], outrow: &mut [u8])
+    requires { Mapped m out.old outrow.old × (length row.now ≡ m) × Bits row.now }
     ensures { UndoPut m places.now row.now
         out.new outrow.new }
 {
-    let mut columns = [0u8; 8];
+    let mut columns = [0; 8];
     undo_columns(m, places, &mut columns);
     spread(&columns, m, out);
-    columns[0] = places[column(row, 1, 0, m) as usize];
+    columns[0] = places[usize::from(column(row, 1, 0, m))];
     spread(&columns, 1, outrow);
 }
 
 // The columns of a product: the images of the second table's.
-fn product_columns(m: usize, images: &[u8], table: &[u8], columns: &mut [u8])
-    requires { (m ≤ largest_m) × (length table.now ≡ m * m) × Bits table.now
-        × (length images.now ≡ 256) × (m ≤ length columns.old) }
+fn product_columns(images: &[u8; 256], m: usize, table: &[u8], columns: &mut [u8; 8])
+    requires { (m ≤ largest_m) × (length table.now ≡ m * m) × Bits table.now }
     ensures { Shows (λ q. get_or images.now
         (number m (λ p. get_or table.now (p * m + q) 0)) 0) m columns.new }
 {
-    let mut q = 0;
-    while q < m {
-        columns[q] = images[column(table, m, q, m) as usize];
-        q += 1;
+    for q in 0..m {
+        columns[q] = images[usize::from(column(table, m, q, m))];
     }
 }
 
 // The product of two maps, by the images of the first without its row, x, and the second.
-pub fn put_product(
-    m: usize,
-    images: &[u8],
-    x: u8,
-    table: &[u8],
-    row: &[u8],
-    out: &mut [u8],
-    outrow: &mut [u8],
-)
-    requires { Mapped m out.old outrow.old × Mapped m table.now row.now
-        × Bits table.now × Bits row.now × (length images.now ≡ 256) }
-    ensures { ProductPut m images.now x table.now row.now
+pub fn put_product(images: &[u8; 256], x: u8, second: &Map<'_>, out: &mut [u8], outrow: &mut [u8])
+    requires { Mapped second.now.m out.old outrow.old
+        × Bits second.now.table.now × Bits second.now.row.now }
+    ensures { ProductPut second.now.m images.now x second.now.table.now second.now.row.now
         out.new outrow.new }
 {
-    let mut columns = [0u8; 8];
-    product_columns(m, images, table, &mut columns);
-    spread(&columns, m, out);
-    columns[0] = images[column(row, 1, 0, m) as usize] ^ x;
+    let mut columns = [0; 8];
+    product_columns(images, second.m, second.table, &mut columns);
+    spread(&columns, second.m, out);
+    columns[0] = images[usize::from(column(second.row, 1, 0, second.m))] ^ x;
     spread(&columns, 1, outrow);
 }

@@ -212,8 +212,7 @@ module _ (m : ℕ) (A b : List ℕ) where
       let sizes = sized-zero (C, c) (undoing_long m A b C c) m (is_long m (length A) (length b)) (is_long m (length C) (length c)) e in
       let is-map = (map-zero (C, c) rest (is_map m A b) sizes.1).0 in
       let given : undoing m A b C c ≡ rest =
-      sym
-      (map_allowed (C, c) rest true (is_map m A b) (sym is-map) refl ∙ sized_right m _ _ (C, c) (undoing_long m A b C c) sizes.0) in
+      sym (map_allowed (C, c) rest (is_map m A b) is-map ∙ sized_right (C, c) (undoing_long m A b C c) m _ _ sizes.0) in
       let good = (good_exactly sizes.0.small ((long_exactly m A b).0 sizes.0.inputs_right)).0 is-map in
       let apart : Apart (2 ^ m) _ = (undoable_apart m A b).0 good.1 in
       rw given (undo_after m A b apart, undo_before m A b apart)

@@ -62,22 +62,20 @@ pub record ReorderDemands (m : ℕ) (A b : List ℕ) : Type 0 where
       → let o = undoing m A b C c in Undoes m A b o.lent.0 o.lent.1 × Undoes m o.lent.0 o.lent.1 A b
 
 -- ---- two calls
--- Reordering by (A, b) and then by (C, c) reports and leaves what reordering by the product from `product_map` does: with buffers D and d of a map's
--- lengths, and any buffer of 2^m readings for the one call.
-pub record OneThenAnother (m : ℕ) (A b C c : List ℕ) (l out out' out'' : List ℤ) (D d : List ℕ) : Type 0 where
-  pub product_done : (multiplying m A b C c D d).carry.number ≡ 0
-  pub same : let product = (multiplying m A b C c D d).lent in
-      reordering m product.0 product.1 l out'' ≡ reordering m C c (reordering m A b l out).lent out'
-
 -- what `reorder` or `reorder_word` reports and leaves, from m, a table, a row, what is given, and the buffer for it
 abbrev pub Call : Type 0 → Type 0
 Call T = ℕ → List ℕ → List ℕ → List T → List T → Outcome (List T)
 
--- the same of either call
+-- Reordering by (A, b) and then by (C, c) reports and leaves what reordering by the product from `product_map` does: with buffers D and d of a map's
+-- lengths, and any buffer of 2^m entries for the one call.
 pub record ByProduct {T : Type 0} (call : Call T) (m : ℕ) (A b C c : List ℕ) (l out out' out'' : List T) (D d : List ℕ) : Type 0 where
   pub product_done : (multiplying m A b C c D d).carry.number ≡ 0
   pub same : let product = (multiplying m A b C c D d).lent in
       call m product.0 product.1 l out'' ≡ call m C c (call m A b l out).lent out'
+
+-- the same of `reorder`
+abbrev pub OneThenAnother : ℕ → List ℕ → List ℕ → List ℕ → List ℕ → List ℤ → List ℤ → List ℤ → List ℤ → List ℕ → List ℕ → Type 0
+OneThenAnother = ByProduct reordering
 
 -- Reordering by (A, b) and then by the map that `undo_map` hands back is done, and leaves what was given.
 pub record Restored {T : Type 0} (call : Call T) (m : ℕ) (A b : List ℕ) (l out out' : List T) (C c : List ℕ) : Type 0 where

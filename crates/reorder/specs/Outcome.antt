@@ -1,10 +1,11 @@
 -- What `reorder`, `reorder_word`, `undo_map` and `product_map` report and leave, for every input (docs/RULES.md, §12).
-use Rattle.std.specs.Prelude.{List, Bool, not, cond, ◌&&◌, ℕ, ◌*◌, ◌^◌, ℤ, pos, length, ltb, eqb, Result, Ok, Err}
+use Rattle.std.specs.Prelude.{List, Bool, not, cond, ◌&&◌, ℕ, ◌^◌, ℤ, pos, nat_abs, length, ltb, eqb, Result, Ok, Err}
 use Rattle.code.specs.declared.Refusal.{Refusal}
 use Rattle.code.specs.declared.Refusal.TheVariants.{Parameters, InputLength, OutputLength, Entry, Map}
 use Rattle.code.specs.Sound.{largest_m, largest_reading, Carried, completed}
-use Rattle.code.specs.Entries.{first_bad_bit, first_bad_reading}
+use Rattle.code.specs.Entries.{first_above}
 use Rattle.maps.specs.Maps.{reordered, product_table, product_row, undo_table, undo_row}
+pub use Rattle.images.specs.Images.{is_long}
 use Rattle.images.specs.Images.{is_map}
 
 -- B is what is lent to be written: one buffer, or two
@@ -26,10 +27,6 @@ abbrev pub refused : {B : Type 0} → B → Refusal → Outcome B
 refused lent why = outcome_of (Err why) lent
 
 -- ---- the tests
--- a table of this many bytes is m by m, and a row of this many m long
-abbrev pub is_long : ℕ → ℕ → ℕ → Bool
-is_long m table row = eqb table (m * m) && eqb row m
-
 -- 1, 2 and 3 in their order, by whether the inputs' and the outputs' lengths are right; `rest` if no test applies
 abbrev pub sized : {B : Type 0} → B → ℕ → Bool → Bool → Outcome B → Outcome B
 sized lent m inputs outputs rest =
@@ -46,14 +43,18 @@ abbrev pub entry_tested : {B : Type 0} → B → ℕ → ℕ → Outcome B → O
 entry_tested lent place n rest = cond (ltb place n) (refused lent (Entry place)) rest
 
 -- ---- the outcomes if all lengths are right
--- from m, a table, a row, readings, and the buffer for the reordered readings
-abbrev pub reordering_long : ℕ → List ℕ → List ℕ → List ℤ → List ℤ → Outcome (List ℤ)
-reordering_long m A b l out =
-    map_tested out (is_map m A b) (entry_tested out (first_bad_reading largest_reading l) (length l) (done (reordered (pos 0) m A b l)))
+-- from m, a table, a row, entries of which none may have a size above the limit, and the buffer for the reordered ones; d is any entry
+abbrev pub reordering_entries_long : {T : Type 0} → T → (T → ℕ) → ℕ → ℕ → List ℕ → List ℕ → List T → List T → Outcome (List T)
+reordering_entries_long d size limit m A b l out =
+    map_tested out (is_map m A b) (entry_tested out (first_above size limit l) (length l) (done (reordered d m A b l)))
 
--- with a word instead of readings
+-- with readings
+abbrev pub reordering_long : ℕ → List ℕ → List ℕ → List ℤ → List ℤ → Outcome (List ℤ)
+reordering_long = reordering_entries_long (pos 0) nat_abs largest_reading
+
+-- with a word
 abbrev pub reordering_word_long : ℕ → List ℕ → List ℕ → List ℕ → List ℕ → Outcome (List ℕ)
-reordering_word_long m A b x out = map_tested out (is_map m A b) (entry_tested out (first_bad_bit x) (length x) (done (reordered 0 m A b x)))
+reordering_word_long = reordering_entries_long 0 (λ b. b) 1
 
 -- from m, a table, a row, and the buffers for those of the undo map
 abbrev pub undoing_long : ℕ → List ℕ → List ℕ → List ℕ → List ℕ → Outcome (List ℕ × List ℕ)
@@ -64,13 +65,16 @@ abbrev pub multiplying_long : ℕ → List ℕ → List ℕ → List ℕ → Lis
 multiplying_long m A b C c D d = map_tested (D, d) (is_map m A b && is_map m C c) (done (product_table m A C, product_row m A b c))
 
 -- ---- the outcomes
+abbrev pub reordering_entries : {T : Type 0} → T → (T → ℕ) → ℕ → ℕ → List ℕ → List ℕ → List T → List T → Outcome (List T)
+reordering_entries d size limit m A b l out =
+    sized out m (is_long m (length A) (length b) && eqb (length l) (2 ^ m)) (eqb (length out) (2 ^ m))
+    (reordering_entries_long d size limit m A b l out)
+
 unfoldable pub reordering : ℕ → List ℕ → List ℕ → List ℤ → List ℤ → Outcome (List ℤ)
-reordering m A b l out =
-    sized out m (is_long m (length A) (length b) && eqb (length l) (2 ^ m)) (eqb (length out) (2 ^ m)) (reordering_long m A b l out)
+reordering = reordering_entries (pos 0) nat_abs largest_reading
 
 unfoldable pub reordering_word : ℕ → List ℕ → List ℕ → List ℕ → List ℕ → Outcome (List ℕ)
-reordering_word m A b x out =
-    sized out m (is_long m (length A) (length b) && eqb (length x) (2 ^ m)) (eqb (length out) (2 ^ m)) (reordering_word_long m A b x out)
+reordering_word = reordering_entries 0 (λ b. b) 1
 
 unfoldable pub undoing : ℕ → List ℕ → List ℕ → List ℕ → List ℕ → Outcome (List ℕ × List ℕ)
 undoing m A b C c = sized (C, c) m (is_long m (length A) (length b)) (is_long m (length C) (length c)) (undoing_long m A b C c)

@@ -1,10 +1,10 @@
 -- Over what the calls report and leave, of readings and of words: reordering by one call and then by another is reordering by their product, the undo
 -- map restores the order, and a word of RM(r,m) stays one.
-use Rattle.std.specs.Prelude.{◌≡◌, refl, true, ◌&&◌, List, ℕ, ◌*◌, ◌^◌, ◌≤◌, ℤ, pos, nat_abs, length, get_or, eqb}
-use Rattle.std.proofs.Common.{ap, sym, ◌∙◌, arith, eq-eqb, le-ltb}
+use Rattle.std.specs.Prelude.{◌≡◌, refl, List, ℕ, ◌^◌, ◌≤◌, ℤ, pos, nat_abs, length, get_or}
+use Rattle.std.proofs.Common.{ap, sym, ◌∙◌, arith}
 use Rattle.words.specs.Bits.{Bits}
 use Rattle.decoding.specs.Readings.{Within}
-use Rattle.code.specs.Sound.{largest_m, largest_reading}
+use Rattle.code.specs.Sound.{largest_reading}
 use Rattle.code.specs.Entries.{first_bad_bit, first_bad_reading}
 use Rattle.code.specs.EntriesLaws.{first-none}
 use Rattle.maps.specs.Maps.{Undoable, image, reordered, product_table, product_row, undo_table, undo_row}
@@ -13,11 +13,12 @@ use Rattle.maps.specs.DegreeLaws.{bits_values}
 use Rattle.maps.specs.ImageLaws.{length-reordered, word-reordered}
 use Rattle.maps.proofs.ReorderedBest.{within_reordered}
 use Rattle.maps.proofs.PositionOrdersMet.{position_orders}
-use Rattle.images.specs.Images.{is_map, Mapped}
+use Rattle.images.specs.Images.{Mapped}
 use Rattle.reorder.specs.Outcome.{Outcome, done, reordering, reordering_word, undoing, multiplying}
 use Rattle.reorder.specs.Demands.{Good, LongMap, OneThenAnother, Call, ByProduct, Restored, SameCode}
+use Rattle.reorder.specs.OutcomeLaws.{reordering_does, undoing_does, multiplying_does}
 use Rattle.reorder.specs.Demand1Met.{map_exactly}
-use Rattle.reorder.specs.DemandsMet.{CallDone, readings_done, ReorderDone, reorder_done, reorder_word_done}
+use Rattle.reorder.specs.DemandsMet.{CallDone, reorder_done, reorder_word_done}
 
 all_within : (l : List ℤ) → Within largest_reading l → length l ≤ first_bad_reading largest_reading l
 all_within l h = let place = first-none (pos 0) nat_abs largest_reading l (length l) (λ j k. h j) refl in omega (arith, place)
@@ -29,58 +30,24 @@ all_bits_lem l h = let place = first-none 0 (λ b. b) 1 l (length l) (λ j k. om
 reorder_does : (m : ℕ) (A b : List ℕ) (l out : List ℤ) → Mapped m A b → Good m A b → length l ≡ 2 ^ m → Within largest_reading l → length out ≡ 2 ^ m
     → reordering m A b l out ≡ done (reordered (pos 0) m A b l)
 unfolding reordering
-reorder_does m A b l out map good long within room =
-    rw (
-      le-ltb largest_m m map.small,
-      eq-eqb (length A) (m * m) map.table_long,
-      eq-eqb (length b) m map.row_long,
-      eq-eqb (length l) (2 ^ m) long,
-      eq-eqb (length out) (2 ^ m) room,
-      (map_exactly m A b map).1 good,
-      le-ltb (first_bad_reading largest_reading l) (length l) (all_within l within),
-    )
+reorder_does m A b l out map good long within =
+    reordering_does m A b map ((map_exactly m A b map).1 good) (pos 0) nat_abs largest_reading l out long (all_within l within)
 
 reorder_word_does : (m : ℕ) (A b x out : List ℕ) → Mapped m A b → Good m A b → length x ≡ 2 ^ m → Bits x → length out ≡ 2 ^ m
     → reordering_word m A b x out ≡ done (reordered 0 m A b x)
 unfolding reordering_word
-reorder_word_does m A b x out map good long bits room =
-    rw (
-      le-ltb largest_m m map.small,
-      eq-eqb (length A) (m * m) map.table_long,
-      eq-eqb (length b) m map.row_long,
-      eq-eqb (length x) (2 ^ m) long,
-      eq-eqb (length out) (2 ^ m) room,
-      (map_exactly m A b map).1 good,
-      le-ltb (first_bad_bit x) (length x) (all_bits_lem x bits),
-    )
+reorder_word_does m A b x out map good long bits =
+    reordering_does m A b map ((map_exactly m A b map).1 good) 0 (λ b. b) 1 x out long (all_bits_lem x bits)
 
 undo_does : (m : ℕ) (A b C c : List ℕ) → Mapped m A b → Good m A b → LongMap m C c → undoing m A b C c ≡ done (undo_table m A, undo_row m A b)
-unfolding undoing
 undo_does m A b C c map good room =
-    rw (
-      le-ltb largest_m m map.small,
-      eq-eqb (length A) (m * m) map.table_long,
-      eq-eqb (length b) m map.row_long,
-      eq-eqb (length C) (m * m) room.0,
-      eq-eqb (length c) m room.1,
-      (map_exactly m A b map).1 good,
-    )
+    undoing_does m A b map ((map_exactly m A b map).1 good) C c (record { small = map.small; table_long = room.0; row_long = room.1 })
 
 multiply_does : (m : ℕ) (A b C c D d : List ℕ) → Mapped m A b → Good m A b → Mapped m C c → Good m C c → LongMap m D d
     → multiplying m A b C c D d ≡ done (product_table m A C, product_row m A b c)
-unfolding multiplying
 multiply_does m A b C c D d map good map' good' room =
-    rw (
-      le-ltb largest_m m map.small,
-      eq-eqb (length A) (m * m) map.table_long,
-      eq-eqb (length b) m map.row_long,
-      eq-eqb (length C) (m * m) map'.table_long,
-      eq-eqb (length c) m map'.row_long,
-      eq-eqb (length D) (m * m) room.0,
-      eq-eqb (length d) m room.1,
-      (map_exactly m A b map).1 good,
-      (map_exactly m C c map').1 good',
-    )
+    multiplying_does m A b map ((map_exactly m A b map).1 good) C c map' D d
+    (record { small = map.small; table_long = room.0; row_long = room.1 }) ((map_exactly m C c map').1 good')
 
 -- ---- of either call, if it does its work where no test applies
 module _ {T : Type 0} (d : T) (Fine : List T → Type 0) (call : Call T)
@@ -132,29 +99,18 @@ module _ {T : Type 0} (d : T) (Fine : List T → Type 0) (call : Call T)
       }
 
 -- ---- of `reorder`: the calls are done, and the buffers for the product, for the undo map and for one call more have their lengths
-done_readings : (m : ℕ) (A b : List ℕ) (l out : List ℤ) → ReorderDone m A b l out
-    → CallDone (pos 0) (Within largest_reading) m A b l out (reordering m A b l out).lent
-done_readings m A b l out d =
-    record { map_long = d.map_long; good = d.good; long = d.long; room = d.room; fine = d.within; leaves = d.leaves }
-
 module _ (m : ℕ) (A b C c : List ℕ) (l out out' out'' : List ℤ) (D d : List ℕ) where
-  one_then_another : ReorderDone m A b l out → ReorderDone m C c (reordering m A b l out).lent out' → length out'' ≡ 2 ^ m → LongMap m D d
-      → OneThenAnother m A b C c l out out' out'' D d
-  one_then_another x y room'' room =
-      let made =
-      another (pos 0) (Within largest_reading) reordering reorder_does m A b C c l out out' out'' D d ((position_orders m A b).readings l)
-      (done_readings m A b l out x) (done_readings m C c (reordering m A b l out).lent out' y) room'' room in
-      record { product_done = made.product_done; same = made.same }
-
   -- the two calls are done, and the buffers for the product and for the one call have their lengths
   pub one_then_another_done : (reordering m A b l out).carry.number ≡ 0 → (reordering m C c (reordering m A b l out).lent out').carry.number ≡ 0
       → length out'' ≡ 2 ^ m → LongMap m D d → OneThenAnother m A b C c l out out' out'' D d
-  one_then_another_done e f = one_then_another (reorder_done m A b l out e) (reorder_done m C c (reordering m A b l out).lent out' f)
+  one_then_another_done e f =
+      another (pos 0) (Within largest_reading) reordering reorder_does m A b C c l out out' out'' D d ((position_orders m A b).readings l)
+      (reorder_done m A b l out e) (reorder_done m C c (reordering m A b l out).lent out' f)
 
 module _ (m : ℕ) (A b : List ℕ) (l out : List ℤ) (first_done : (reordering m A b l out).carry.number ≡ 0) where
   pub restored_done : (out' : List ℤ) (C c : List ℕ) → length out' ≡ 2 ^ m → LongMap m C c → Restored reordering m A b l out out' C c
   restored_done out' C c =
-      let x = readings_done m A b l out first_done in
+      let x = reorder_done m A b l out first_done in
       back (pos 0) (Within largest_reading) reordering reorder_does m A b l out out' C c ((position_orders m A b).readings l)
       (within_reordered largest_reading m A b l x.fine) x
 

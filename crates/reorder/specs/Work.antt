@@ -1,14 +1,16 @@
--- What the inner functions of the calls give: the tests on m and on lengths, and what is written.
-use Rattle.std.specs.Prelude.{Bool, not, cond, ℕ, ◌^◌, ltb, Result, Ok, Err}
-use Rattle.code.specs.declared.Refusal.TheVariants.{Parameters, InputLength, OutputLength}
-use Rattle.code.specs.Sound.{largest_m}
+-- What the tests 1 and 2 on a map give.
+use Rattle.std.specs.Prelude.{◌≡◌, false, cond, List, ℕ, ◌≤◌, ltb}
 use Rattle.code.specs.declared.Refusal.{Refusal}
+use Rattle.code.specs.declared.Refusal.TheVariants.{Parameters, InputLength}
+use Rattle.code.specs.Sound.{largest_m}
+use Rattle.images.specs.Images.{is_long, MapMade}
 
--- the number of positions, 0 if m is too large
-abbrev pub length_of : ℕ → ℕ
-length_of m = cond (ltb largest_m m) 0 (2 ^ m)
+-- 1 and 2 leave the map
+pub record Given (m : ℕ) (A b : List ℕ) (m' : ℕ) (A' b' : List ℕ) : Type 0 where
+  pub small : m ≤ largest_m
+  pub made : MapMade m A b m' A' b'
 
--- 1, 2 and 3 in their order
-abbrev pub sizes_of : ℕ → Bool → Bool → Result (Unit {0}) Refusal
-sizes_of m inputs outputs =
-    cond (ltb largest_m m) (Err Parameters) (cond (not inputs) (Err InputLength) (cond (not outputs) (Err OutputLength) (Ok tt)))
+-- or one of them does not; of a table and a row by their lengths
+pub record NotGiven (m table row : ℕ) (why : Refusal) : Type 0 where
+  pub says_why : why ≡ cond (ltb largest_m m) Parameters InputLength
+  pub wrong : m ≤ largest_m → is_long m table row ≡ false

@@ -1,15 +1,8 @@
 -- The loop's invariant: what is filled comes first, then what is unchanged.
-use mathlib.Core.Path.{◌≡◌}
-use Prim.Native.Nat.{◌-◌, ◌≤◌}
-use lib.ListN.{length}
+use Rattle.std.proofs.Common.{◌≡◌, length}
 use Rattle.numbers.specs.Front.{front}
 use Rattle.images.specs.Images.{spread_of}
 use Rattle.images.proofs.spread.Given as goal
 
 abbrev pub invariant-loop-i : goal.invariant-loop-i
-invariant-loop-i l =
-    (l.i ≤ length l.initial.table) × (l.table ≡ front l.initial.table (spread_of l.columns l.width (length l.initial.table)) l.i)
-    × (length l.table ≡ length l.initial.table)
-
-abbrev pub decreases-loop-i : goal.decreases-loop-i
-decreases-loop-i l = length l.initial.table - l.i
+invariant-loop-i l = l.table ≡ front l.initial.table (spread_of l.columns l.width (length l.initial.table)) l.i

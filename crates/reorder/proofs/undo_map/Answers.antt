@@ -1,39 +1,27 @@
--- The tests 1 to 3, by the lengths; then the call if they are right.
-use Rattle.std.specs.Prelude.{Ok, Err}
-use mathlib.Core.Path.{ap₂, sym, ◌∙◌}
-use mathlib.Core.Bool.{Bool}
-use Rattle.reorder.specs.Outcome.{sized, undoing, undoing_long}
-use Rattle.reorder.specs.OutcomeLaws.{sizes_wrong, sizes_right, sized_right, mapped}
+-- After the tests, the undo map by the places.
+use Rattle.std.proofs.Common.{sym}
+use Rattle.images.specs.WorkLaws.{bits_map, undone_map}
+use Rattle.reorder.specs.OutcomeLaws.{mapped, undoing_does}
 use Rattle.reorder.proofs.undo_map.Goals as goal
 
-pub undo_long-requires : goal.undo_long-requires
-undo_long-requires c =
-    let s = c.args in
-    let inputs = c.is_long-inputs in
-    let outputs = c.is_long-outputs in
-    let right = sizes_right s.m inputs.result outputs.result (sym c.test_sizes.ensures ∙ c.in-Ok.is) in (
-      mapped s.m s.table.now s.row.now right.small (sym inputs.ensures ∙ right.inputs_right),
-      mapped s.m s.out.now s.outrow.now right.small (sym outputs.ensures ∙ right.outputs_right),
-    )
+pub put_undo-requires : goal.put_undo-requires
+put_undo-requires c =
+    let map = c.in_ok-map.map in
+    let sound = bits_map map.m map.table.now map.row.now c.in_ok-take_map.ensures.good in
+    let room = rw (← c.in_ok-map.ensures.made.same_m) at c.in_ok-test_room.ensures in
+    (mapped map.m c.args.out.now c.args.outrow.now map.mapped.small room, map.mapped.row_long, sound.row_bits)
 
-pub returns-in-Err : goal.returns-in-Err
-unfolding undoing
-returns-in-Err c =
+pub returns : goal.returns
+returns c =
     let s = c.args in
-    let inputs = c.is_long-inputs in
-    let outputs = c.is_long-outputs in
-    let rest = undoing_long s.m s.table.now s.row.now s.out.now s.outrow.now in
-    sizes_wrong s.m inputs.result outputs.result (s.out.now, s.outrow.now) rest c.in-Err.why (sym c.test_sizes.ensures ∙ c.in-Err.is)
-    ∙ ap₂ (λ (i o : Bool). sized (s.out.now, s.outrow.now) s.m i o rest) inputs.ensures outputs.ensures
-
-pub returns-in-Ok : goal.returns-in-Ok
-unfolding undoing
-returns-in-Ok c =
-    let s = c.args in
-    let inputs = c.is_long-inputs in
-    let outputs = c.is_long-outputs in
-    let rest = undoing_long s.m s.table.now s.row.now s.out.now s.outrow.now in
-    let right = sizes_right s.m inputs.result outputs.result (sym c.test_sizes.ensures ∙ c.in-Ok.is) in
-    c.undo_long.ensures
-    ∙ sized_right s.m inputs.result outputs.result (s.out.now, s.outrow.now) rest right
-    ∙ ap₂ (λ (i o : Bool). sized (s.out.now, s.outrow.now) s.m i o rest) inputs.ensures outputs.ensures
+    let map = c.in_ok-map.map in
+    let same = c.in_ok-map.ensures.made in
+    let taken = c.in_ok-take_map.ensures in
+    let sound = bits_map map.m map.table.now map.row.now taken.good in
+    let both =
+    undone_map map.m map.table.now map.row.now map.mapped.small c.take_map.new.images.place taken.places_are sound.can sound.row_bits
+    c.put_undo.new.out c.put_undo.new.outrow c.put_undo.ensures in
+    let room = rw (← same.same_m) at c.in_ok-test_room.ensures in
+    rw (← same.same_m, ← same.same_table, ← same.same_row, both.0, both.1)
+    (sym (undoing_does map.m map.table.now map.row.now map.mapped taken.good s.out.now s.outrow.now
+    (mapped map.m s.out.now s.outrow.now map.mapped.small room)))
