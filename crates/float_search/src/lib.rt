@@ -96,21 +96,11 @@ fn search_kinds(
 {
     let mut best = [0u8; 256];
     let mut second = [0u8; 256];
-    let mut state = [0u32; 8];
-    let end = float_walk::walk(
-        readings,
-        kinds,
-        m,
-        allowed,
-        &mut best,
-        &mut second,
-        &mut state,
-    );
-    let out = state[walk::OUT_OF_VISITS];
-    if out != 0 {
+    let (end, count) = float_walk::walk(readings, kinds, m, allowed, &mut best, &mut second);
+    if count.out {
         return Err(Refusal::OutOfVisits(allowed));
     }
-    let visits = state[walk::VISITS];
+    let visits = count.visits;
     let penalty = whole(end.best);
     let gap = whole(end.second - end.best);
     if gap == 0 {

@@ -1,17 +1,18 @@
 // The crate walk in float arithmetic: two steps that call each other in turn, as there. What is
-// held is passed by value: how many full paths, and two float penalties. What is counted
-// is in state, at the places 3 to 7 of the whole-number walk, whose functions change it; the
-// places 0 to 2 are not used here.
+// held is passed by value: how many full paths, and two float penalties. What is counted is in
+// count, as there.
 #![tactic(auto)]
 
-ghost use Rattle.std.specs.Prelude.{◌≡◌, List, ℕ, ◌+◌, ◌^◌, ◌≤◌, ◌<◌, nat_abs, get_or, take};
-ghost use Rattle.std.specs.Prelude.{replicate};
+ghost use Rattle.std.specs.Prelude.{◌≡◌, ◌+◌, ◌^◌, ◌≤◌, ◌<◌, nat_abs, get_or, take};
 ghost use Rattle.decoding.specs.Readings.{loss, sum_limit};
 ghost use Rattle.decoding.specs.Quick.{hard};
-ghost use Rattle.walk.specs.Progress.{seen, Finished, ValueAsked, ValueGiven, Walkable, Walked};
+ghost use Rattle.walk.specs.declared.progress.Count.{Count};
+ghost use Rattle.walk.specs.Progress.{Finished, ValueAsked, ValueGiven, Walkable, Walked};
 ghost use Rattle.float_numbers.specs.Whole.{whole_of, wholes};
-ghost use Rattle.float_walk.specs.Held.{count, eight_of, Penalty, Counts, Extends};
+ghost use Rattle.float_walk.specs.Held.{count, progress_of, Penalty, Counts, Extends};
 ghost use Rattle.float_walk.specs.Held.{FloatAsked, FloatGiven};
+
+use walk::progress::Count;
 
 // The penalties of the full paths that are held; their rows of bits are in best and second.
 #[derive(Clone, Copy)]
@@ -64,10 +65,9 @@ fn finish(
     held: Penalties,
 ) -> Penalties
     requires { (n ≤ 256) × Penalty penalty × Counts held }
-    ensures { ((s : List ℕ) → n ≡ 2 ^ get_or s 6 0
-        → Finished (count penalty) (seen (eight_of held s))
-        path.now best.old second.old
-        (seen (eight_of result s)) best.new second.new) × Counts result }
+    ensures { ((c : Count) → n ≡ 2 ^ c.m
+        → Finished (count penalty) (progress_of held c) path.now best.old second.old
+        (progress_of result c) best.new second.new) × Counts result }
 {
     if held.held == 0 {
         walk::copy(path, best, n);
@@ -100,16 +100,15 @@ fn value_at(
     rows: &mut [f32; 256],
     path: &[u8; 256],
     word: &mut [u8; 256],
-    state: &mut [u32; 8],
+    count: &mut Count,
     i: usize,
 ) -> f32
-    requires { ValueAsked (wholes readings.now) (wholes rows.old) path.now state.old i }
+    requires { ValueAsked (wholes readings.now) (wholes rows.old) path.now count.old i }
     ensures { ValueGiven (wholes readings.now) path.now
-        state.old i (whole_of result) (wholes rows.new) state.new }
+        count.old i (whole_of result) (wholes rows.new) count.new }
 {
-    let m = state[walk::EXPONENT];
-    let was = walk::made_for(state, i);
-    float_memory::value(readings, rows, path, word, walk::wide(m), was, i)
+    let was = count.made_for(i);
+    float_memory::value(readings, rows, path, word, count.m as usize, was, i)
 }
 
 // The path of the first `from` bits, of this penalty, continues with 0 at each frozen index: up to
@@ -123,30 +122,30 @@ fn frozen_step(
     word: &mut [u8; 256],
     best: &mut [u8; 256],
     second: &mut [u8; 256],
-    state: &mut [u32; 8],
+    count: &mut Count,
     held: Penalties,
     from: usize,
     penalty: f32,
 ) -> Penalties
     requires { FloatAsked (wholes readings.now) kinds.now (wholes rows.old) path.old
-        best.old second.old state.old held from penalty }
+        best.old second.old count.old held from penalty }
     ensures { FloatGiven (wholes readings.now) kinds.now
-        path.old best.old second.old state.old
+        path.old best.old second.old count.old
         held from penalty (wholes rows.new) path.new best.new
-        second.new state.new result }
+        second.new count.new result }
 {
     let mut i = from;
     let mut sum = penalty;
-    while !walk::full(state, i) {
+    while !count.full(i) {
         if kinds[i] != 0 {
             return info_step(
-                readings, kinds, rows, path, word, best, second, state, held, i, sum,
+                readings, kinds, rows, path, word, best, second, count, held, i, sum,
             );
         }
-        if !walk::visit(state) {
+        if !count.visit() {
             return held;
         }
-        let value = value_at(readings, rows, path, word, state, i);
+        let value = value_at(readings, rows, path, word, count, i);
         let Extension::Kept(after) = extend(held, sum, value, 0) else {
             // it is counted nevertheless
             return held;
@@ -171,23 +170,23 @@ fn info_step(
     word: &mut [u8; 256],
     best: &mut [u8; 256],
     second: &mut [u8; 256],
-    state: &mut [u32; 8],
+    count: &mut Count,
     held: Penalties,
     i: usize,
     penalty: f32,
 ) -> Penalties
     requires { FloatAsked (wholes readings.now) kinds.now (wholes rows.old) path.old
-        best.old second.old state.old held i penalty
-        × (i < 2 ^ get_or state.old 6 0) × (get_or kinds.now i 0 ≡ 0 → ⊥) }
+        best.old second.old count.old held i penalty
+        × (i < 2 ^ count.old.m) × (get_or kinds.now i 0 ≡ 0 → ⊥) }
     ensures { FloatGiven (wholes readings.now) kinds.now
-        path.old best.old second.old state.old
+        path.old best.old second.old count.old
         held i penalty (wholes rows.new) path.new best.new
-        second.new state.new result }
+        second.new count.new result }
 {
-    if !walk::visit(state) {
+    if !count.visit() {
         return held;
     }
-    let value = value_at(readings, rows, path, word, state, i);
+    let value = value_at(readings, rows, path, word, count, i);
     let first = first_bit(value);
     let other = 1 - first;
     let Extension::Kept(same) = extend(held, penalty, value, first) else {
@@ -202,12 +201,12 @@ fn info_step(
         word,
         best,
         second,
-        state,
+        count,
         held,
         i + 1,
         same,
     );
-    if !walk::visit(state) {
+    if !count.visit() {
         return under;
     }
     let Extension::Kept(after) = extend(under, penalty, value, other) else {
@@ -222,7 +221,7 @@ fn info_step(
         word,
         best,
         second,
-        state,
+        count,
         under,
         i + 1,
         after,
@@ -238,28 +237,24 @@ pub fn walk(
     allowed: u32,
     best: &mut [u8; 256],
     second: &mut [u8; 256],
-    state: &mut [u32; 8],
-) -> Penalties
-    requires { (state.old ≡ replicate 8 0)
-        × Walkable m (take (2 ^ m) (wholes readings.now)) (take (2 ^ m) kinds.now)
+) -> (Penalties, Count)
+    requires { Walkable m (take (2 ^ m) (wholes readings.now)) (take (2 ^ m) kinds.now)
         best.old second.old }
     ensures { Walked allowed m (take (2 ^ m) (wholes readings.now))
-        (take (2 ^ m) kinds.now) (seen (eight_of result state.new))
-        best.new second.new × Counts result }
+        (take (2 ^ m) kinds.now) (progress_of result.0 result.1)
+        best.new second.new × Counts result.0 }
 {
     let mut rows = [0.0f32; 256];
     let mut path = [0u8; 256];
     let mut word = [0u8; 256];
-    // whatever stands here, all rows are made at index 0, as in the whole-number walk
-    state[walk::ROWS_INDEX] = (1u32 << m) - 1;
-    state[walk::EXPONENT] = m;
-    state[walk::ALLOWANCE] = allowed;
+    let mut count = Count::start(m, allowed);
     let none = Penalties {
         held: 0,
         best: 0.0,
         second: 0.0,
     };
-    frozen_step(
-        readings, kinds, &mut rows, &mut path, &mut word, best, second, state, none, 0, 0.0,
-    )
+    let held = frozen_step(
+        readings, kinds, &mut rows, &mut path, &mut word, best, second, &mut count, none, 0, 0.0,
+    );
+    (held, count)
 }

@@ -56,13 +56,12 @@ abbrev pub part_start : List ℕ → List ℕ → ℕ → ℕ
 part_start s table w = part_start_at s (start_in s table w)
 
 -- all of it: what the record says, where its packed part starts in the capture, and how long that is
-abbrev pub located_by : Result Code Refusal → ℕ → List ℕ → Result Located Refusal
-located_by (Err why) start s = Err why
-located_by (Ok c) start s = Ok (record { code = c; start = part_after (Ok c) start; length = length (part_by (Ok c) s) })
+abbrev pub located_by : Result Code Refusal → ℕ → ℕ → Result Located Refusal
+located_by (Err why) start length = Err why
+located_by (Ok c) start length = Ok (record { code = c; start = start; length = length })
 
 abbrev pub located_at : List ℕ → Result ℕ Refusal → Result Located Refusal
-located_at s (Err why) = Err why
-located_at s (Ok start) = located_by (header_of (drop start s)) start (drop start s)
+located_at s p = located_by (header_at s p) (part_start_at s p) (length (part_at s p))
 
 abbrev pub located_in : List ℕ → List ℕ → ℕ → Result Located Refusal
 located_in s table w = located_at s (start_in s table w)

@@ -1,5 +1,6 @@
 -- Laws of what the program must write: it goes record by record, and bytes after a record do not change its line.
-use Rattle.std.specs.Prelude.{◌≡◌, refl, List, [], ◌∷◌, ◌++◌, true, false, cond, ℕ, zero, suc, ◌+◌, ◌-◌, ◌^◌, ◌≤◌, ◌<◌, length, drop, Result, Ok, Err}
+use Rattle.std.specs.Prelude as std
+use Rattle.std.specs.Prelude.{◌≡◌, refl, List, [], ◌∷◌, ◌++◌, true, false, cond, ℕ, zero, suc, ◌+◌, ◌-◌, ◌^◌, ◌≤◌, ◌<◌, length, drop, Ok, Err}
 use Rattle.std.proofs.Common.{ap, ◌∙◌, arith, length-append, length-drop}
 use Rattle.std.proofs.lemmas.List.{drop-append-le}
 use Rattle.numbers.specs.Choice.{cond_two}
@@ -20,14 +21,14 @@ unfolding result_of
 goes_on_there s h = header_there s (λ e. let f : true ≡ false = rw e at h in let z : ◌≡◌ {A = ℕ} 0 1 = cc in omega arith)
     (λ e. let f : true ≡ false = rw e at h in let z : ◌≡◌ {A = ℕ} 0 1 = cc in omega arith)
 
-headed-before : (s rest : List ℕ) (h : Result Code Refusal) → header_of s ≡ h → headed h (s ++ rest) ≡ headed h s
+headed-before : (s rest : List ℕ) (h : std.Result Code Refusal) → header_of s ≡ h → headed h (s ++ rest) ≡ headed h s
 headed-before s rest (Err why) e = refl
 headed-before s rest (Ok c) e = rw (readings_before s rest c e)
 
 -- what becomes of a record that is there completely does not depend on the bytes after it
 pub result_before : (s rest : List ℕ) → 0 < length s → next_start s ≤ length s → result_of (s ++ rest) ≡ result_of s
 unfolding result_of
-result_before s rest h n = ap (λ (x : Result Code Refusal). headed x (s ++ rest)) (header_before s rest h n) ∙ headed-before s rest (header_of s) refl
+result_before s rest h n = ap (λ (x : std.Result Code Refusal). headed x (s ++ rest)) (header_before s rest h n) ∙ headed-before s rest (header_of s) refl
 
 -- as many records as there are bytes are enough
 enough : (k j a f : ℕ) (s : List ℕ) → length s ≤ k → length s ≤ j → output_from k a f s ≡ output_from j a f s

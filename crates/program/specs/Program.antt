@@ -1,5 +1,6 @@
 -- What the program writes for the bytes of its input (docs/RULES.md, §8).
-use Rattle.std.specs.Prelude.{List, [], ◌∷◌, ◌++◌, Bool, true, false, cond, ◌||◌, ℕ, zero, suc, ◌+◌, length, get_or, drop, eqb, Result, Ok, Err}
+use Rattle.std.specs.Prelude as std
+use Rattle.std.specs.Prelude.{List, [], ◌∷◌, ◌++◌, Bool, true, false, cond, ◌||◌, ℕ, zero, suc, ◌+◌, length, get_or, drop, eqb, Ok, Err}
 use Rattle.words.specs.Kinds.{kinds}
 use Rattle.decoding.specs.Answer.{Answer, found, tied, out_of_visits, answer}
 use Rattle.code.specs.Sound.{number_of}
@@ -23,7 +24,7 @@ searched (found bits word penalty gap visits) = answered bits penalty gap visits
 searched (tied penalty visits) = refused (Tied penalty visits)
 searched out_of_visits = refused (OutOfVisits allowance)
 
-abbrev pub headed : Result Code Refusal → List ℕ → Result
+abbrev pub headed : std.Result Code Refusal → List ℕ → Result
 headed (Err why) s = refused why
 headed (Ok c) s = searched (answer c.m (kinds c.r c.m) (readings_of c s) allowance)
 

@@ -1,5 +1,6 @@
 -- Laws of the work on one record: what the search's answer says about its result.
-use Rattle.std.specs.Prelude.{◌≡◌, refl, List, ℕ, ◌-◌, ◌^◌, ◌≤◌, ℤ, ltb, eqb, length, take, replicate, cond, Result, Ok, Err}
+use Rattle.std.specs.Prelude as std
+use Rattle.std.specs.Prelude.{◌≡◌, refl, List, ℕ, ◌-◌, ◌^◌, ◌≤◌, ℤ, ltb, eqb, length, take, replicate, cond, Ok, Err}
 use Rattle.std.proofs.Math.Path.{ap}
 use Rattle.std.proofs.Common.{sym, ◌∙◌, subst, arith, length-take-le}
 use Rattle.numbers.specs.Choice.{cond_by}
@@ -25,23 +26,23 @@ use Rattle.code.specs.declared.Refusal.{Refusal}
 use Rattle.search.specs.declared.Found.{Found}
 
 -- the result that an answer and the bits beside it say
-abbrev pub result_in : Result Found Refusal → List ℕ → Result
-result_in (FOUND penalty gap visits) bits = answered bits penalty gap visits
+abbrev pub result_in : std.Result Found Refusal → List ℕ → Result
+result_in (Ok f) bits = answered bits f.penalty f.gap f.visits
 result_in (Err why) bits = refused why
 
-reported_result : (a : Result Found Refusal) (bits word bits₀ word₀ : List ℕ) (x : Answer)
+reported_result : (a : std.Result Found Refusal) (bits word bits₀ word₀ : List ℕ) (x : Answer)
     → Outcome.outcome_of a bits word ≡ Outcome.by_answer allowance bits₀ word₀ x → result_in a bits ≡ program.searched x
 reported_result a bits word bits₀ word₀ (found b y p g v) e =
-    let o = search_only (Outcome.outcome_of (FOUND p g v) b y) a (FOUND p g v) bits word b y e refl in
-    ap (λ (a : Result Found Refusal). result_in a bits) o.0 ∙ ap (λ (c : List ℕ). answered c p g v) o.1
+    let o = search_only (Outcome.outcome_of (Ok (record { penalty = p; gap = g; visits = v })) b y) a (Ok (record { penalty = p; gap = g; visits = v })) bits word b y e refl in
+    ap (λ (a : std.Result Found Refusal). result_in a bits) o.0 ∙ ap (λ (c : List ℕ). answered c p g v) o.1
 reported_result a bits word bits₀ word₀ (tied p v) e =
     let why = Err (Tied p v) in
     let o = search_only (Outcome.outcome_of why bits₀ word₀) a why bits word bits₀ word₀ e refl in
-    ap (λ (a : Result Found Refusal). result_in a bits) o.0
+    ap (λ (a : std.Result Found Refusal). result_in a bits) o.0
 reported_result a bits word bits₀ word₀ out_of_visits e =
     let why = Err (OutOfVisits allowance) in
     let o = search_only (Outcome.outcome_of why bits₀ word₀) a why bits word bits₀ word₀ e refl in
-    ap (λ (a : Result Found Refusal). result_in a bits) o.0
+    ap (λ (a : std.Result Found Refusal). result_in a bits) o.0
 
 module _ (s : List ℕ) (c : Code) (bits word bits₀ word₀ : List ℕ) (h : header_of s ≡ Ok c)
     (long_bits : length bits₀ ≡ dimension c.r c.m) (long_word : length word₀ ≡ 2 ^ c.m) where
@@ -56,12 +57,12 @@ module _ (s : List ℕ) (c : Code) (bits word bits₀ word₀ : List ℕ) (h : h
       }
 
   -- the search of an accepted record says what becomes of it
-  pub searched_result : (a : Result Found Refusal) → Outcome.outcome_of a bits word ≡ searching_by (Ok c) allowance s bits₀ word₀ → result_in a bits ≡ result_of s
+  pub searched_result : (a : std.Result Found Refusal) → Outcome.outcome_of a bits word ≡ searching_by (Ok c) allowance s bits₀ word₀ → result_in a bits ≡ result_of s
   unfolding result_of
   searched_result a e =
       reported_result a bits word bits₀ word₀ (answer c.m (kinds c.r c.m) (readings_of c s) allowance)
       (e ∙ sound_answered bits₀ word₀ is_sound allowance)
-      ∙ ap (λ (k : Result Code Refusal). headed k s) (sym h)
+      ∙ ap (λ (k : std.Result Code Refusal). headed k s) (sym h)
 
 -- the bits of an answer are bits
 abbrev BitsIn : Result → Type 0
@@ -78,7 +79,7 @@ answer_bits m ks l allowed =
     cond_by P (ltb allowed n) out_of_visits (cond (eqb (gap m ks l) 0) (tied p n) best) (λ t. tt {0})
     (λ t. cond_by P (eqb (gap m ks l) 0) (tied p n) best (λ u. tt {0}) (λ u. bits_best m ks l))
 
-headed_bits : (h : Result Code Refusal) (s : List ℕ) → BitsIn (headed h s)
+headed_bits : (h : std.Result Code Refusal) (s : List ℕ) → BitsIn (headed h s)
 headed_bits (Err why) s = tt
 headed_bits (Ok c) s = answer_bits c.m (kinds c.r c.m) (readings_of c s) allowance
 

@@ -48,14 +48,7 @@ fn refuse(w: u64, s: &[u8], why: Refusal, out: &mut [u8], at: usize) -> Step
     }
 }
 
-fn report(
-    w: u64,
-    s: &[u8],
-    bits: &[u8],
-    found: Found,
-    out: &mut [u8],
-    at: usize,
-) -> Step
+fn report(w: u64, s: &[u8], bits: &[u8], found: Found, out: &mut [u8], at: usize) -> Step
     requires { (0 < length s.now) × Bits bits.now × (length bits.now ≤ 256)
         × (at + 512 ≤ length out.old) }
     ensures { Stepped w s.now

@@ -1,20 +1,15 @@
 -- The rod's reader and writer meet demand 1.
-use Rattle.std.specs.Prelude.{◌≡◌, refl, ◌⊎◌, ◌↔◌, List, [], ◌∷◌, ℕ, suc, ◌^◌, ◌≤◌, ◌<◌, ℤ, length, replicate}
-use Rattle.std.proofs.Common.{ap, sym, ◌∙◌, subst, inl, inr, ⊎_elim, arith}
+use Rattle.std.specs.Prelude.{◌≡◌, refl, List, [], ◌∷◌, ℕ, suc, ◌^◌, ◌≤◌, ◌<◌, ℤ, length, replicate}
+use Rattle.std.proofs.Common.{ap, ◌∙◌, inl, inr, ⊎_elim, arith}
 use Rattle.std.proofs.Math.Decide.{ℕ_discrete}
 use Rattle.numbers.specs.Choice.{lt_or_le}
-use Rattle.words.specs.Bits.{Bits}
 use Rattle.code.specs.Sound.{carrying, largest_m}
-use Rattle.search.specs.Outcome as Search
 use Rattle.first_order.specs.DemandsMet.{first_order_demand_1}
-use Rattle.guarded.specs.declared.Fault.TheVariants.{Link, Marker}
-use Rattle.guarded.specs.Outcome as guard
+use Rattle.guarded.specs.declared.Fault.TheVariants.{Link}
 use Rattle.guarded.specs.Written.{WriteOutcome}
-use Rattle.guarded.specs.Outcome.{GuardedOutcome}
 use Rattle.guarded.proofs.Demand1Met.{guard_meets}
-use Rattle.guarded.proofs.Instances.{guards_code}
-use Rattle.rod.specs.Outcome.{RodOutcome, no_position, rod_search, rod_message, position_said, reading_rod, writing_rod}
-use Rattle.rod.specs.TheoremsMet.{number-zeros, engine_is, engine_small, engine_bits}
+use Rattle.rod.specs.Outcome.{no_position, rod_search, position_said, reading_rod, writing_rod}
+use Rattle.rod.specs.TheoremsMet.{number-zeros, engine_small, engine_bits}
 use Rattle.rod.specs.WorkLaws.{writing-none, writing_above, writing_short, writing_large, writing-done}
 use Rattle.rod.specs.Demand1.{RodReadDemand1, NoCode, RodWriterMeets, RodWriteDemand1}
 

@@ -1,5 +1,5 @@
 -- No second answer meets the reader's promise. The writer's is `write_only` of the crate guarded.
-use Rattle.std.specs.Prelude.{◌≡◌, Result, Err}
+use Rattle.std.specs.Prelude.{◌≡◌, Result, Ok, Err}
 use Rattle.std.proofs.Common.{ap, sym, ◌∙◌, arith}
 use Rattle.guarded.specs.FaultLaws.{fault_above, fault_only}
 use Rattle.rod.specs.declared.Heard.{Heard}

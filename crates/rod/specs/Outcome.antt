@@ -1,5 +1,5 @@
 -- What the writer and the reader report and leave, for every input.
-use Rattle.std.specs.Prelude.{List, cond, ◌||◌, ℕ, suc, ◌^◌, ℤ, length, replicate, ltb, eqb, Result, Err}
+use Rattle.std.specs.Prelude.{List, cond, ◌||◌, ℕ, suc, ◌^◌, ℤ, length, replicate, ltb, eqb, Result, Ok, Err}
 use Rattle.code.specs.declared.Refusal.TheVariants.{Parameters, OutputLength}
 use Rattle.code.specs.Sound.{Carried, carrying, largest_m}
 use Rattle.search.specs.Outcome as Search

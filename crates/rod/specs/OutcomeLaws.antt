@@ -1,5 +1,5 @@
 -- The outcome at each place where the reader returns.
-use Rattle.std.specs.Prelude.{◌≡◌, refl, List, ◌++◌, ℕ, suc, ◌+◌, ◌-◌, ◌^◌, ◌≤◌, ◌<◌, ℤ, length, get_or, take, replicate}
+use Rattle.std.specs.Prelude.{◌≡◌, refl, List, ◌++◌, ℕ, suc, ◌+◌, ◌-◌, ◌^◌, ◌≤◌, ◌<◌, ℤ, length, get_or, take, replicate, Err}
 use Rattle.std.proofs.Math.Path.{ap, sym}
 use Rattle.std.proofs.Common.{ap₂, ◌∙◌, subst, arith, take_at, pow_mono, eq-eqb, ne_eqb}
 use Rattle.words.specs.Bits.{Bits}
@@ -8,7 +8,7 @@ use Rattle.decoding.specs.Walk.{tree}
 use Rattle.hadamard.proofs.EncodedLaws.{sum-first_order}
 use Rattle.code.specs.declared.Refusal.{Refusal}
 use Rattle.code.specs.declared.Refusal.TheVariants.{Parameters}
-use Rattle.code.specs.Sound.{carrying, carried, largest_m}
+use Rattle.code.specs.Sound.{made, carrying, carried, largest_m}
 use Rattle.code.specs.SoundLaws.{made_large}
 use Rattle.code.specs.SoundInput.{dimension_of}
 use Rattle.code.specs.AdmittedLaws.{refused_parameters}
@@ -23,7 +23,7 @@ use Rattle.guarded.specs.Outcome as guard
 use Rattle.guarded.proofs.GuardLaws.{guarded-found, guarded-refused}
 use Rattle.guarded.proofs.TheoremsMet.{found_all}
 use Rattle.guarded.proofs.Instances.{guards_code}
-use Rattle.rod.specs.Outcome.{RodOutcome, position_shown, no_position, rod_search, position_said, reading_rod}
+use Rattle.rod.specs.Outcome.{position_shown, no_position, rod_search, position_said, reading_rod}
 use Rattle.rod.specs.WorkLaws.{take-zeros}
 use Rattle.rod.specs.TheoremsMet.{number-zeros, engine_is}
 
@@ -63,6 +63,14 @@ module _ (m : ℕ) (l : List ℤ) where
       let w : List ℕ = replicate (2 ^ m) 0 in
       reading-refused Parameters b w
       (test_refused 1 m l b w Parameters (refused_parameters dimension_of 1 m l (length b) (length w) (made_large 1 m h)) ∙ first-order 1 m l b w refl)
+
+  -- and whatever is not the m of a code RM(1,m)
+  pub reading_unmade : {why : Refusal} → made 1 m ≡ Err why → no_position (Link why) ≡ reading_rod m l
+  reading_unmade {why} e =
+      let b : List ℕ = replicate (suc m) 0 in
+      let w : List ℕ = replicate (2 ^ m) 0 in
+      reading-refused why b w
+      (test_refused 1 m l b w why (refused_parameters dimension_of 1 m l (length b) (length w) e) ∙ first-order 1 m l b w refl)
 
   module _ (p g v : ℕ) (b w : List ℕ) (e : Search.found_with p g v b w ≡ rod_search m l) where
     -- m + 1 information bits

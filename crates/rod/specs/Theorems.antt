@@ -1,5 +1,5 @@
 -- What is proved about rod positions, sentence by sentence. That it holds is proved in TheoremsMet.
-use Rattle.std.specs.Prelude.{◌≡◌, ◌↔◌, List, ℕ, suc, ◌-◌, ◌*◌, ◌%◌, ◌^◌, ◌≤◌, ◌<◌, ℤ, length, replicate}
+use Rattle.std.specs.Prelude.{◌≡◌, ◌↔◌, List, ℕ, suc, ◌-◌, ◌*◌, ◌%◌, ◌^◌, ◌≤◌, ◌<◌, ℤ, replicate}
 use Rattle.words.specs.Bits.{ones}
 use Rattle.decoding.specs.CleanLaws.{clean}
 use Rattle.decoding.specs.GapLaws.{drift}

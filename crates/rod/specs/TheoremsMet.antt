@@ -1,21 +1,16 @@
 -- The theorems on rod positions hold: by those on guarded words, since the engine answers as the search does with the whole tree allowed.
-use Rattle.std.specs.Prelude.{◌≡◌, refl, ◌↔◌, List, [], ◌∷◌, ◌++◌, ℕ, zero, suc, ◌+◌, ◌-◌, ◌*◌, ◌%◌, ◌^◌, ◌≤◌, ◌<◌, ℤ, length, take, replicate}
+use Rattle.std.specs.Prelude.{◌≡◌, refl, List, [], ◌∷◌, ◌++◌, ℕ, zero, suc, ◌+◌, ◌-◌, ◌*◌, ◌%◌, ◌^◌, ◌≤◌, ◌<◌, ℤ, length, replicate}
 use Rattle.std.proofs.Math.Path.{ap}
-use Rattle.std.proofs.Common.{ap₂, sym, ◌∙◌, subst, arith, le_refl, suc-ne-zero, take_at}
-use Rattle.std.proofs.Math.Nat.{suc_inj}
+use Rattle.std.proofs.Common.{sym, ◌∙◌, subst, arith, le_refl}
 use Rattle.std.proofs.Math.Decide.{ℕ_discrete}
 use Rattle.std.proofs.lemmas.List.{length-replicate}
 use Rattle.words.specs.Bits.{Bits, digits, ones}
 use Rattle.words.specs.BitLaws.{length_digits, bits_digits}
-use Rattle.words.specs.Kinds.{kinds, encoded, Word}
+use Rattle.words.specs.Kinds.{kinds, encoded}
 use Rattle.words.proofs.KindLaws.{bits_kinds}
-use Rattle.words.specs.TransformLaws.{bits_more}
-use Rattle.decoding.specs.Best.{gap, best_word}
-use Rattle.decoding.specs.Walk.{needed, tree}
+use Rattle.decoding.specs.Walk.{tree}
 use Rattle.decoding.specs.TreeLaws.{needed_most}
-use Rattle.decoding.specs.AnswerLaws.{answer-found}
 use Rattle.decoding.specs.CleanLaws.{clean}
-use Rattle.decoding.proofs.CleanLaws as cleanly
 use Rattle.decoding.specs.GapLaws.{drift}
 use Rattle.hadamard.specs.Hadamard.{first_order, bits_of}
 use Rattle.hadamard.proofs.EncodedLaws.{encoded-bits_of, word_once}
@@ -23,17 +18,15 @@ use Rattle.code.specs.Sound.{carrying}
 use Rattle.search.specs.Outcome as Search
 use Rattle.search.specs.Outcome.{by_answer, searching}
 use Rattle.search.specs.Demands.{SoundSearch, whole_code}
-use Rattle.search.specs.DemandsMet.{sound_answered}
 use Rattle.first_order.specs.Outcome.{without_visits}
 use Rattle.first_order.specs.DemandsMet.{first_order-as_search}
 use Rattle.guarded.specs.declared.Fault.TheVariants.{Marker}
 use Rattle.guarded.specs.Guard.{guarded_bits, last_bit, of_digits}
 use Rattle.guarded.specs.DigitLaws.{number_digits, digits_number, number_most}
-use Rattle.guarded.specs.Outcome as guard
 use Rattle.guarded.specs.Outcome.{GuardedOutcome, guarded}
 use Rattle.guarded.specs.Theorems as general
 use Rattle.guarded.specs.Theorems.{turned, own_search, reading}
-use Rattle.guarded.proofs.GuardLaws.{guarded-found, guarded_other, guarded-shown, guarded_marked}
+use Rattle.guarded.proofs.GuardLaws.{guarded_other, guarded-shown, guarded_marked}
 use Rattle.guarded.proofs.TheoremsMet.{found_all, guard_theorems}
 use Rattle.guarded.proofs.Instances.{guards_code, apart_code}
 use Rattle.rod.specs.Rod.{rod_bits, rod_word}

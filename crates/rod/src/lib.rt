@@ -25,13 +25,8 @@ pub fn write(m: u32, position: u32, word: &mut [u8]) -> Result<(), Fault>
     ensures { written_outcome_of result word.new
         ≡ writing_rod m position word.old }
 {
-    if m == 0 {
-        return Err(Refusal::Parameters.into());
-    }
-    if Code::LARGEST_M < m {
-        return Err(Refusal::Parameters.into());
-    }
-    let n = 1usize << m;
+    let code = Code::new(1, m)?;
+    let n = code.length();
     if word.len() != n {
         return Err(Refusal::OutputLength.into());
     }
@@ -49,12 +44,10 @@ pub fn write(m: u32, position: u32, word: &mut [u8]) -> Result<(), Fault>
 pub fn read(m: u32, readings: &[i16]) -> Result<Heard, Fault>
     ensures { outcome_of result ≡ reading_rod m readings.now }
 {
-    if Code::LARGEST_M < m {
-        return Err(Refusal::Parameters.into());
-    }
+    let code = Code::new(1, m)?;
     let last = m as usize;
     let k = last + 1;
-    let n = 1usize << m;
+    let n = code.length();
     let mut bits = [0u8; 9];
     let mut word = [0u8; 256];
     let found = first_order::first_order(1, m, readings, &mut bits[0..k], &mut word[0..n])?;

@@ -20,79 +20,80 @@ use Rattle.memory.proofs.RowsForLaws.{rows_for_path}
 use Rattle.blocks.specs.Frozen.{frozen_run, run_adds}
 use Rattle.blocks.specs.InformationLaws.{and_both}
 use Rattle.blocks.specs.FrozenLaws.{run-sizes, run_frozen, run_added, adds_size}
-use Rattle.walk.specs.Progress.{Progress, seen, front, more, made_for, visiting, drops, Visited, Kept, Ready, Onward, StepGiven, Reached, ValueGiven}
+use Rattle.walk.specs.declared.progress.Count.{Count}
+use Rattle.walk.specs.declared.progress.Progress.{Progress}
+use Rattle.walk.specs.Progress.{front, more, made_for, visiting, with_count, drops, Visited, Kept, Ready, Onward, StepGiven, Reached, ValueGiven}
 use Rattle.walk.specs.Progress.{allows_more, counted_more}
-use Rattle.walk.specs.ProgressLaws.{shows_visits}
 use Rattle.walk.specs.StepLaws.{true_false, was_more, sum_small}
 use Rattle.walk.specs.RunLaws.{ran, ready-run, onward-run}
 use Rattle.walk.specs.FrozenBlocks.{starts_block, run_at, run_penalty, takes, taken_at, BlockRoom, ZerosAsked, ZerosGiven}
 
 -- ---- where one starts
-starts_at_lem : (σ : List ℕ) (i : ℕ) → starts_block σ i ≡ true → (i % 16 ≡ 0) × (5 ≤ get_or σ 6 0)
-starts_at_lem σ i e =
-    let both = and_both (eqb (i % 16) 0) (ltb 4 (get_or σ 6 0)) e in
-    (eqb-true (i % 16) 0 both.0, ltb-true 4 (get_or σ 6 0) both.1)
+starts_at_lem : (c : Count) (i : ℕ) → starts_block c i ≡ true → (i % 16 ≡ 0) × (5 ≤ c.m)
+starts_at_lem c i e =
+    let both = and_both (eqb (i % 16) 0) (ltb 4 c.m) e in
+    (eqb-true (i % 16) 0 both.0, ltb-true 4 c.m both.1)
 
 -- as its code goes
-pub starts-not : (σ : List ℕ) (i : ℕ) → (i % 16 ≡ 0 → ⊥) → false ≡ starts_block σ i
-starts-not σ i h = sym (ap (λ (b : Bool). b && ltb 4 (get_or σ 6 0)) (ne_eqb (i % 16) 0 h))
+pub starts-not : (c : Count) (i : ℕ) → (i % 16 ≡ 0 → ⊥) → false ≡ starts_block c i
+starts-not c i h = sym (ap (λ (b : Bool). b && ltb 4 c.m) (ne_eqb (i % 16) 0 h))
 
-pub starts_by : (σ : List ℕ) (i : ℕ) {r : Bool} → i % 16 ≡ 0 → r ≡ ltb 4 (get_or σ 6 0) → r ≡ starts_block σ i
-starts_by σ i h e = e ∙ sym (ap (λ (b : Bool). b && ltb 4 (get_or σ 6 0)) (eq-eqb (i % 16) 0 h))
+pub starts_by : (c : Count) (i : ℕ) {r : Bool} → i % 16 ≡ 0 → r ≡ ltb 4 c.m → r ≡ starts_block c i
+starts_by c i h e = e ∙ sym (ap (λ (b : Bool). b && ltb 4 c.m) (eq-eqb (i % 16) 0 h))
 
 -- ---- whether
-module _ (n q : ℕ) (σ : List ℕ) where
-  takes_none : n ≡ 0 → takes n q σ ≡ false
+module _ (n q : ℕ) (w : Progress) where
+  takes_none : n ≡ 0 → takes n q w ≡ false
   takes_none e = rw e refl
 
-  takes-dropped : (n ≡ 0 → ⊥) → drops (seen σ) q ≡ true → takes n q σ ≡ false
+  takes-dropped : (n ≡ 0 → ⊥) → drops w q ≡ true → takes n q w ≡ false
   takes-dropped h e = rw (ne_eqb n 0 h, e) refl
 
-  takes_allowed : (n ≡ 0 → ⊥) → drops (seen σ) q ≡ false → takes n q σ ≡ allows_more (n - 1) σ
+  takes_allowed : (n ≡ 0 → ⊥) → drops w q ≡ false → takes n q w ≡ allows_more (n - 1) w.count
   takes_allowed h e = rw (ne_eqb n 0 h, e) refl
 
-  module _ (e : takes n q σ ≡ true) where
+  module _ (e : takes n q w ≡ true) where
     took_some : n ≡ 0 → ⊥
     took_some k = true_false (sym e ∙ takes_none k)
 
-    took_undropped : drops (seen σ) q ≡ false
+    took_undropped : drops w q ≡ false
     took_undropped =
-        cond_by (λ (x : Unit {0}). drops (seen σ) q ≡ false) (drops (seen σ) q) tt tt (λ d. true_false (sym e ∙ takes-dropped took_some d)) (λ d. d)
+        cond_by (λ (x : Unit {0}). drops w q ≡ false) (drops w q) tt tt (λ d. true_false (sym e ∙ takes-dropped took_some d)) (λ d. d)
 
-    took_allowed : get_or σ 3 0 + (n - 1) ≤ get_or σ 7 0
-    took_allowed = leb-true (get_or σ 3 0 + (n - 1)) (get_or σ 7 0) (sym (takes_allowed took_some took_undropped) ∙ e)
+    took_allowed : w.count.visits + (n - 1) ≤ w.count.allowed
+    took_allowed = leb-true (w.count.visits + (n - 1)) w.count.allowed (sym (takes_allowed took_some took_undropped) ∙ e)
 
 -- ---- what the call gives, as its code goes: n is the run's length, and a what its zeros add
-module _ (k₀ : List ℕ) (s : List ℤ) (y σ : List ℕ) (i p : ℕ) where
-  left_alone : taken_at k₀ s σ i p ≡ false → ZerosGiven k₀ s y σ i p 0 y σ
+module _ (k₀ : List ℕ) (s : List ℤ) (y : List ℕ) (w : Progress) (i p : ℕ) where
+  left_alone : taken_at k₀ s w i p ≡ false → ZerosGiven k₀ s y w i p 0 y w
   left_alone e = record { answers = rw e refl; path = rw e refl; counts = rw e refl }
 
   module _ {n : ℕ} (run : n ≡ frozen_run (drop i k₀)) where
     same_run : run_at k₀ i ≡ n
     same_run = sym run
 
-    pub given-none : n ≡ 0 → ZerosGiven k₀ s y σ i p 0 y σ
-    given-none e = left_alone (takes_none (run_at k₀ i) (run_penalty s (run_at k₀ i) p) σ (same_run ∙ e))
+    pub given-none : n ≡ 0 → ZerosGiven k₀ s y w i p 0 y w
+    given-none e = left_alone (takes_none (run_at k₀ i) (run_penalty s (run_at k₀ i) p) w (same_run ∙ e))
 
     module _ (some : n ≡ 0 → ⊥) {a : ℕ} (adds : a ≡ run_adds n (row_of 16 s)) where
       same_penalty : run_penalty s (run_at k₀ i) p ≡ p + a
       same_penalty = ap (λ (k : ℕ). run_penalty s k p) same_run ∙ ap (λ (k : ℕ). p + k) (sym adds)
 
-      same_taken : taken_at k₀ s σ i p ≡ takes n (p + a) σ
-      same_taken = ap (λ (k : ℕ). takes k (run_penalty s (run_at k₀ i) p) σ) same_run ∙ ap (λ (q : ℕ). takes n q σ) same_penalty
+      same_taken : taken_at k₀ s w i p ≡ takes n (p + a) w
+      same_taken = ap (λ (k : ℕ). takes k (run_penalty s (run_at k₀ i) p) w) same_run ∙ ap (λ (q : ℕ). takes n q w) same_penalty
 
-      pub given-dropped : drops (seen σ) (p + a) ≡ true → ZerosGiven k₀ s y σ i p 0 y σ
-      given-dropped d = left_alone (same_taken ∙ takes-dropped n (p + a) σ some d)
+      pub given-dropped : drops w (p + a) ≡ true → ZerosGiven k₀ s y w i p 0 y w
+      given-dropped d = left_alone (same_taken ∙ takes-dropped n (p + a) w some d)
 
-      module _ (undropped : drops (seen σ) (p + a) ≡ false) where
-        taken_by : taken_at k₀ s σ i p ≡ allows_more (n - 1) σ
-        taken_by = same_taken ∙ takes_allowed n (p + a) σ some undropped
+      module _ (undropped : drops w (p + a) ≡ false) where
+        taken_by : taken_at k₀ s w i p ≡ allows_more (n - 1) w.count
+        taken_by = same_taken ∙ takes_allowed n (p + a) w some undropped
 
-        pub given_unvisited : allows_more (n - 1) σ ≡ false → ZerosGiven k₀ s y σ i p 0 y σ
+        pub given_unvisited : allows_more (n - 1) w.count ≡ false → ZerosGiven k₀ s y w i p 0 y w
         given_unvisited e = left_alone (taken_by ∙ e)
 
-        pub given_taken : allows_more (n - 1) σ ≡ true → {y' σ' : List ℕ} → y' ≡ paste y i (zeros 16) 16 → σ' ≡ counted_more (n - 1) σ
-            → ZerosGiven k₀ s y σ i p ((p + a) * 256 + n) y' σ'
+        pub given_taken : allows_more (n - 1) w.count ≡ true → {y' : List ℕ} {w' : Progress} → y' ≡ paste y i (zeros 16) 16
+            → w' ≡ with_count w (counted_more (n - 1) w.count) → ZerosGiven k₀ s y w i p ((p + a) * 256 + n) y' w'
         given_taken e put counts =
             record {
               answers = rw (taken_by, e, same_penalty, same_run) refl;
@@ -158,74 +159,77 @@ zeros_bits y i k h =
     bits_append (take i y ++ take k (zeros k)) (drop (i + k) y)
     (bits_append (take i y) (take k (zeros k)) (bits_take i y h) (bits_take k (zeros k) (bits_zeros k))) (bits_drop (i + k) y h)
 
--- ---- nothing was taken: the path and the eight numbers are as they were
-module _ {l₀ : List ℤ} {k₀ y₀ best₀ second₀ σ₀ : List ℕ} {from p₀ : ℕ} {s : List ℤ} {y best second σ : List ℕ} where
-  pub same_given : {y' σ' : List ℕ} → y' ≡ y → σ' ≡ σ → StepGiven l₀ k₀ y₀ best₀ second₀ σ₀ from p₀ s y best second σ
+-- ---- nothing was taken: the path, and what is held and counted, are as they were
+module _ {l₀ : List ℤ} {k₀ y₀ best₀ second₀ : List ℕ} {σ₀ : Progress} {from p₀ : ℕ} {s : List ℤ} {y best second : List ℕ} {σ : Progress} where
+  pub same_given : {y' : List ℕ} {σ' : Progress} → y' ≡ y → σ' ≡ σ → StepGiven l₀ k₀ y₀ best₀ second₀ σ₀ from p₀ s y best second σ
       → StepGiven l₀ k₀ y₀ best₀ second₀ σ₀ from p₀ s y' best second σ'
   same_given {σ' = σ'} e f g =
       subst (λ (x : List ℕ). StepGiven l₀ k₀ y₀ best₀ second₀ σ₀ from p₀ s x best second σ') (sym e)
       (subst (StepGiven l₀ k₀ y₀ best₀ second₀ σ₀ from p₀ s y best second) (sym f) g)
 
-  pub same_reached : {i p : ℕ} {σ' : List ℕ} → σ' ≡ σ → Reached l₀ k₀ y₀ best₀ second₀ σ₀ from p₀ s y best second σ i p
+  pub same_reached : {i p : ℕ} {σ' : Progress} → σ' ≡ σ → Reached l₀ k₀ y₀ best₀ second₀ σ₀ from p₀ s y best second σ i p
       → Reached l₀ k₀ y₀ best₀ second₀ σ₀ from p₀ s y best second σ' i p
-  same_reached {i} {p} e r = subst (λ (x : List ℕ). Reached l₀ k₀ y₀ best₀ second₀ σ₀ from p₀ s y best second x i p) (sym e) r
+  same_reached {i} {p} e r = subst (λ (x : Progress). Reached l₀ k₀ y₀ best₀ second₀ σ₀ from p₀ s y best second x i p) (sym e) r
 
 -- ---- the frozen step at the start of a block: a visit is counted, and the value made
-module _ {l₀ : List ℤ} {k₀ : List ℕ} {s : List ℤ} {y best second σ y₀ best₀ second₀ σ₀ : List ℕ} {i p from p₀ : ℕ}
-    (r : Reached l₀ k₀ y₀ best₀ second₀ σ₀ from p₀ s y best second σ i p) (inside : i < 2 ^ get_or σ 6 0) {σ₁ : List ℕ}
-    (v : Visited σ true σ₁) {x : ℤ} {s₂ : List ℤ} {σ₂ : List ℕ} (given : ValueGiven l₀ y σ₁ i x s₂ σ₂) (begins-here : starts_block σ₂ i ≡ true) where
-  abbrev ready : Ready (front σ l₀) (front σ k₀) s y best second i p (seen σ)
+module _ {l₀ : List ℤ} {k₀ : List ℕ} {s : List ℤ} {y best second y₀ best₀ second₀ : List ℕ} {σ σ₀ : Progress} {i p from p₀ : ℕ}
+    (r : Reached l₀ k₀ y₀ best₀ second₀ σ₀ from p₀ s y best second σ i p) (inside : i < 2 ^ σ.count.m) {c₁ : Count}
+    (v : Visited σ.count true c₁) {x : ℤ} {s₂ : List ℤ} {c₂ : Count} (given : ValueGiven l₀ y c₁ i x s₂ c₂) (begins-here : starts_block c₂ i ≡ true) where
+  abbrev ready : Ready (front σ.count l₀) (front σ.count k₀) s y best second i p σ
   ready = r.asked.ready
 
-  counts : seen σ₁ ≡ more (seen σ)
-  counts = was_more (seen σ) v.shows.is (sym v.answers)
+  counts : c₁ ≡ more σ.count
+  counts = was_more σ.count v.is (sym v.answers)
 
-  shows : seen σ₂ ≡ made_for i (more (seen σ))
-  shows = given.shows.is ∙ ap (made_for i) counts
+  now_counted : c₂ ≡ made_for i (more σ.count)
+  now_counted = given.counts ∙ ap (made_for i) counts
 
-  same_m : get_or σ₂ 6 0 ≡ get_or σ 6 0
-  same_m = ap (λ (k : Progress). k.m) shows
+  same_m : c₂.m ≡ σ.count.m
+  same_m = ap (λ (c : Count). c.m) now_counted
 
   at : i % 16 ≡ 0
-  at = (starts_at_lem σ₂ i begins-here).0
+  at = (starts_at_lem c₂ i begins-here).0
 
-  more_than_16 : 5 ≤ get_or σ 6 0
-  more_than_16 = omega (arith, same_m, (starts_at_lem σ₂ i begins-here).1)
+  more_than_16 : 5 ≤ σ.count.m
+  more_than_16 = omega (arith, same_m, (starts_at_lem c₂ i begins-here).1)
 
-  one_more : get_or σ₂ 3 0 ≡ get_or σ 3 0 + 1
-  one_more = ap (λ (k : Progress). k.visits) shows
+  one_more : c₂.visits ≡ σ.count.visits + 1
+  one_more = ap (λ (c : Count). c.visits) now_counted
 
-  same_allowed : get_or σ₂ 7 0 ≡ get_or σ 7 0
-  same_allowed = ap (λ (k : Progress). k.allowed) shows
+  same_allowed : c₂.allowed ≡ σ.count.allowed
+  same_allowed = ap (λ (c : Count). c.allowed) now_counted
 
-  rows : RowsFor (get_or σ 6 0) (front σ l₀) y i i s₂
-  rows = subst (λ (k : Progress). RowsFor k.m (take (2 ^ k.m) l₀) y i i s₂) counts given.rows
+  rows : RowsFor σ.count.m (front σ.count l₀) y i i s₂
+  rows = subst (λ (c : Count). RowsFor c.m (front c l₀) y i i s₂) counts given.rows
 
   in_path : i ≤ length y
   in_path = omega (arith, ready.room, ready.kept.long_path)
 
-  ends : i + 16 ≤ 2 ^ get_or σ 6 0
-  ends = block_ends (get_or σ 6 0) (front σ l₀) y i s₂ more_than_16 at inside ready.long in_path rows
+  ends : i + 16 ≤ 2 ^ σ.count.m
+  ends = block_ends σ.count.m (front σ.count l₀) y i s₂ more_than_16 at inside ready.long in_path rows
 
   room : BlockRoom k₀ s₂ y i
   room =
       record {
         room = omega (arith, ends, ready.room);
-        kinds = omega (arith, ends, ready.long_kinds, length-take (2 ^ get_or σ 6 0) k₀);
+        kinds = omega (arith, ends, ready.long_kinds, length-take (2 ^ σ.count.m) k₀);
         path = omega (arith, ends, ready.room, ready.kept.long_path);
-        rows = block_long (get_or σ 6 0) (front σ l₀) y i s₂ more_than_16 at inside ready.long in_path rows;
-        small = omega (arith, block_small (get_or σ 6 0) (front σ l₀) y i s₂ more_than_16 at inside ready.long in_path rows, ready.small);
+        rows = block_long σ.count.m (front σ.count l₀) y i s₂ more_than_16 at inside ready.long in_path rows;
+        small = omega (arith, block_small σ.count.m (front σ.count l₀) y i s₂ more_than_16 at inside ready.long in_path rows, ready.small);
       }
 
-  pub zeros_asked : ZerosAsked k₀ s₂ y σ₂ i p
+  pub zeros_asked : ZerosAsked k₀ s₂ y i p
   zeros_asked =
       record {
-        long = given.shows.long;
         low = omega (arith, sum_small ready 0 inside (omega arith));
         block = room;
       }
 
-  module _ {t : ℕ} {y' σ' : List ℕ} (z : ZerosGiven k₀ s₂ y σ₂ i p t y' σ') where
+  -- what is held and counted when the call is made
+  abbrev σ₂ : Progress
+  σ₂ = with_count σ c₂
+
+  module _ {t : ℕ} {y' : List ℕ} {σ' : Progress} (z : ZerosGiven k₀ s₂ y σ₂ i p t y' σ') where
     abbrev n : ℕ
     n = run_at k₀ i
 
@@ -254,21 +258,20 @@ module _ {l₀ : List ℤ} {k₀ : List ℕ} {s : List ℤ} {y best second σ y�
       answers : t ≡ q * 256 + n
       answers = z.answers ∙ rw took refl
 
-      counted : σ' ≡ counted_more (n - 1) σ₂
+      counted : σ' ≡ with_count σ (counted_more (n - 1) c₂)
       counted = z.counts ∙ rw took refl
 
-      now : seen σ' ≡ ran n i (seen σ)
+      now : σ' ≡ ran n i σ
       now =
-          let all : get_or σ₂ 3 0 + (n - 1) ≡ get_or σ 3 0 + n = omega (arith, one_more, took_some n q σ₂ took) in
-          ap seen counted ∙ (shows_visits σ₂ given.shows.long (get_or σ₂ 3 0 + (n - 1))).is
-          ∙ ap (λ (k : ℕ). visiting k (seen σ₂).out (seen σ₂)) all
-          ∙ ap (λ (w : Progress). visiting (get_or σ 3 0 + n) w.out w) shows
+          let all : σ.count.visits + 1 + (n - 1) ≡ σ.count.visits + n = omega (arith, took_some n q σ₂ took) in
+          counted ∙ ap (λ (c : Count). with_count σ (counted_more (n - 1) c)) now_counted
+          ∙ ap (λ (k : ℕ). with_count σ (made_for i (visiting k σ.count.out σ.count))) all
 
-      adds : q ≡ p + added_by (get_or σ 6 0) (front σ l₀) (take i y) (zeros n)
-      adds = block_adds (get_or σ 6 0) (front σ l₀) y i s₂ more_than_16 at inside ready.long in_path rows n p size
+      adds : q ≡ p + added_by σ.count.m (front σ.count l₀) (take i y) (zeros n)
+      adds = block_adds σ.count.m (front σ.count l₀) y i s₂ more_than_16 at inside ready.long in_path rows n p size
 
-      undropped : drops (seen σ) q ≡ false
-      undropped = sym (ap (λ (w : Progress). drops w q) shows) ∙ took_undropped n q σ₂ took
+      undropped : drops σ q ≡ false
+      undropped = took_undropped n q σ₂ took
 
       put : y' ≡ paste y i (zeros 16) 16
       put = z.path ∙ rw took refl
@@ -279,7 +282,7 @@ module _ {l₀ : List ℤ} {k₀ : List ℕ} {s : List ℤ} {y best second σ y�
       path : take (i + n) y' ≡ take i y ++ zeros n
       path = ap (take (i + n)) put ∙ zeros_path y i n 16 few in_room
 
-      kept : Kept (front σ l₀) (ran n i (seen σ)) s₂ y' best second (i + n - 1)
+      kept : Kept (front σ.count l₀) (ran n i σ) s₂ y' best second (i + n - 1)
       kept =
           let k = ready.kept in
           let begin : take i y ≡ take i y' =
@@ -294,30 +297,29 @@ module _ {l₀ : List ℤ} {k₀ : List ℕ} {s : List ℤ} {y best second σ y�
             rows = rows_for_on (i + n - 1) begin rows;
           }
 
-      ends_n : i + n ≤ 2 ^ get_or σ 6 0
+      ends_n : i + n ≤ 2 ^ σ.count.m
       ends_n = omega (arith, ends, few)
 
-      there : Onward (front σ l₀) (front σ k₀) from p₀ (seen σ₀) y₀ best₀ second₀ i p (seen σ) y best second
+      there : Onward (front σ.count l₀) (front σ.count k₀) from p₀ σ₀ y₀ best₀ second₀ i p σ y best second
       there =
-          subst (λ (m : ℕ). Onward (take (2 ^ m) l₀) (take (2 ^ m) k₀) from p₀ (seen σ₀) y₀ best₀ second₀ i p (seen σ) y best second)
+          subst (λ (m : ℕ). Onward (take (2 ^ m) l₀) (take (2 ^ m) k₀) from p₀ σ₀ y₀ best₀ second₀ i p σ y best second)
           (sym r.onward.same_m) r.onward
 
-      frozen : (j : ℕ) → j < n → get_or (front σ k₀) (i + j) 0 ≡ 0
+      frozen : (j : ℕ) → j < n → get_or (front σ.count k₀) (i + j) 0 ≡ 0
       frozen j h =
-          get_or-take (2 ^ get_or σ 6 0) k₀ (i + j) 0 (omega (arith, ends_n, h)) ∙ sym (get_or-drop i k₀ j 0)
+          get_or-take (2 ^ σ.count.m) k₀ (i + j) 0 (omega (arith, ends_n, h)) ∙ sym (get_or-drop i k₀ j 0)
           ∙ run_frozen (drop i k₀) j h
 
       reached : Reached l₀ k₀ y₀ best₀ second₀ σ₀ from p₀ s₂ y' best second σ' (i + n) q
       reached =
           record {
             asked = record {
-              long = ap length counted ∙ (shows_visits σ₂ given.shows.long (get_or σ₂ 3 0 + (n - 1))).long;
-              ready = subst (λ (w : Progress). Ready (take (2 ^ w.m) l₀) (take (2 ^ w.m) k₀) s₂ y' best second (i + n) q w) (sym now)
+              ready = subst (λ (w : Progress). Ready (front w.count l₀) (front w.count k₀) s₂ y' best second (i + n) q w) (sym now)
                   (ready-run ready n ends_n adds undropped i path kept);
             };
-            onward = subst (λ (w : Progress). Onward (front σ₀ l₀) (front σ₀ k₀) from p₀ (seen σ₀) y₀ best₀ second₀ (i + n) q w y' best second) (sym now)
-                (subst (λ (m : ℕ). Onward (take (2 ^ m) l₀) (take (2 ^ m) k₀) from p₀ (seen σ₀) y₀ best₀ second₀
-                (i + n) q (ran n i (seen σ)) y' best second) r.onward.same_m
+            onward = subst (λ (w : Progress). Onward (front σ₀.count l₀) (front σ₀.count k₀) from p₀ σ₀ y₀ best₀ second₀ (i + n) q w y' best second) (sym now)
+                (subst (λ (m : ℕ). Onward (take (2 ^ m) l₀) (take (2 ^ m) k₀) from p₀ σ₀ y₀ best₀ second₀
+                (i + n) q (ran n i σ) y' best second) r.onward.same_m
                 (onward-run ready n ends_n adds undropped i path frozen
                 (omega (arith, took_allowed n q σ₂ took, one_more, same_allowed, took_some n q σ₂ took)) there));
           }

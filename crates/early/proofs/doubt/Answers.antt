@@ -17,12 +17,6 @@ pub loop-j-init : goal.loop-j-init
 unfolding doubt
 loop-j-init c = refl
 
-pub doubt_at-sum-requires : goal.doubt_at-sum-requires
-doubt_at-sum-requires c =
-    let g = c in
-    let j = c.loop-j.j in
-    (rw (to_z-of_z {w = w16} {z = get_or g.args.readings.now j (pos 0)} (record { sfits = omega arith })) (g.requires.within j), g.requires.small)
-
 -- one more position
 more : (c : After-doubt_at-sum)
     → let g = c.args in
@@ -40,18 +34,10 @@ more c =
 
 pub overflow_add-sum : goal.overflow_add-sum
 overflow_add-sum c =
-    let g = c in
-    let l = g.args.readings.now in
-    let x = g.args.word.now in
+    let l = c.args.readings.now in
+    let x = c.args.word.now in
     let j = c.loop-j.j + 1 in
-    record { fits = omega (arith, more c, doubt-part g.args.largest l x j, g.requires.sum_small) }
+    record { fits = omega (arith, more c, doubt-part c.args.largest l x j, c.requires.sum_small) }
 
 pub loop-j-preserved : goal.loop-j-preserved
 loop-j-preserved c = more c
-
-pub returns : goal.returns
-returns c =
-    let g = c in
-    let l = g.args.readings.now in
-    c.loop-j.invariant
-    ∙ ap (λ (k : List ℤ). doubt g.args.largest k g.args.word.now) (take_all c.loop-j.j l (omega (arith, g.requires.long)))

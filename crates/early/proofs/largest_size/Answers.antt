@@ -18,8 +18,3 @@ loop-reading-preserved c =
     let read = to_z-of_z {w = w16} {z = get_or l j (pos 0)} (record { sfits = omega arith }) in
     c.max-most.ensures ∙ ap₂ max o.invariant (c.from.ensures ∙ c.unsigned_abs.ensures.value ∙ ap nat_abs read)
     ∙ sym (largest-more l j (omega arith))
-
-pub returns : goal.returns
-returns c =
-    let o = c.loop-reading in
-    o.invariant ∙ ap largest (take_all o.reading-index c.args.readings.now (omega arith))

@@ -12,14 +12,12 @@ doubt-requires c = summable c.requires c.largest_size-largest.ensures
 
 pub overflow_mul-result : goal.overflow_mul-result
 overflow_mul-result c =
-    let s = c in
-    rw (distance-made s.requires) (record { fits = bound_fits s.requires c.largest_size-largest.ensures })
+    rw (distance-made c.requires) (record { fits = bound_fits c.requires c.largest_size-largest.ensures })
 
 pub returns : goal.returns
 unfolding is_sure
 returns c =
-    let s = c in
     let M = c.largest_size-largest.ensures in
-    let d = 2 ^ (s.args.code.m - s.args.code.r) in
-    rw (distance-made s.requires)
-    (ap₂ ltb (c.doubt.ensures ∙ ap (λ (n : ℕ). doubt n s.args.readings.now s.args.word.now) M) (ap (λ (n : ℕ). n * d) M))
+    let d = 2 ^ (c.args.code.m - c.args.code.r) in
+    rw (distance-made c.requires)
+    (ap₂ ltb (c.doubt.ensures ∙ ap (λ (n : ℕ). doubt n c.args.readings.now c.args.word.now) M) (ap (λ (n : ℕ). n * d) M))

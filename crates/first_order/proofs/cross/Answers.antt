@@ -14,28 +14,11 @@ use Rattle.first_order.specs.CrossLaws.{crossing, crossing-none, crossing-all, r
 use Rattle.first_order.proofs.cross.Goals as goal
 use Rattle.first_order.proofs.cross.Goals.{After-b-1}
 
-pub loop-j-init : goal.loop-j-init
-loop-j-init c = λ long. crossing-none c.args.row.now c.args.h long
-
--- what a pass stores
-abbrev first_read : After-b-1 → ℤ
-first_read c = let o = c.loop-j in to_z w32 (of_z w32 (get_or o.row o.j (pos 0)))
-
-abbrev second-read : After-b-1 → ℤ
-second-read c = let o = c.loop-j in to_z w32 (of_z w32 (get_or o.row (c.args.h + o.j) (pos 0)))
-
-abbrev sum-stored : After-b-1 → ℤ
-sum-stored c = to_z w32 (of_z w32 (first_read c +ℤ second-read c))
-
-abbrev difference-stored : After-b-1 → ℤ
-difference-stored c = to_z w32 (of_z w32 (first_read c -ℤ second-read c))
-
 -- what a pass has read
 pair : (c : After-b-1)
     → let o = c.loop-j in
-    let s = c in
-    let d = s.args.row.now in
-    let h = s.args.h in
+    let d = c.args.row.now in
+    let h = c.args.h in
     (to_z w32 (of_z w32 (get_or o.row o.j (pos 0))) ≡ get_or d o.j (pos 0))
     × (to_z w32 (of_z w32 (get_or o.row (h + o.j) (pos 0))) ≡ get_or d (h + o.j) (pos 0))
 pair c =
@@ -68,9 +51,6 @@ overflow_sub-row c =
     let small : nat_abs (x -ℤ y) ≤ nat_abs x + nat_abs y = size-combined 1 x y in
     let turned : nat_abs (y -ℤ x) ≤ nat_abs y + nat_abs x = size-combined 1 y x in
     rw ((pair c).0, (pair c).1) (fits_size _ (omega (arith, small, turned, pair_small d h c.requires.0 j (omega arith), c.requires.1)))
-
-pub bounds-row-h : goal.bounds-row-h
-bounds-row-h c = let o = c.loop-j in lt-length-set o.row o.j (sum-stored c) (omega arith)
 
 pub loop-j-preserved : goal.loop-j-preserved
 loop-j-preserved c =

@@ -19,9 +19,6 @@ use Rattle.first_order.specs.OutcomeLaws.{sums_small, best_most, tied_reported, 
 use Rattle.first_order.proofs.decode.Goals as goal
 use Rattle.first_order.proofs.decode.Goals.{After-from-sign}
 
-pub slice_bounds-sums-end : goal.slice_bounds-sums-end
-slice_bounds-sums-end c = let s = c in omega (arith, length_most s.requires.sound, s.requires.entries.long)
-
 pub find-seen-requires : goal.find-seen-requires
 find-seen-requires c =
     let l = c.args.readings.now in
@@ -70,11 +67,6 @@ put_bits-requires c =
       omega (arith, f.ensures.largest.within, length-hadamard m c.args.readings.now c.requires.entries.long),
       omega (arith, sign_bit (goal.at.put_bits-requires c).After-from-sign, hard_bit z),
     )
-
-pub put_word-requires : goal.put_word-requires
-put_word-requires c =
-    let z = entry c.args.m c.args.readings.now c.find-seen.result.place in
-    (c.requires.long_word, c.requires.sound.m_small, omega (arith, sign_bit (goal.at.put_word-requires c).After-from-sign, hard_bit z))
 
 pub returns : goal.returns
 returns c =

@@ -12,11 +12,6 @@ use Rattle.first_order.specs.Work.{Looked}
 use Rattle.first_order.specs.OutcomeLaws.{two_or_more, power_most}
 use Rattle.first_order.proofs.find.Goals as goal
 
-pub transform-requires : goal.transform-requires
-transform-requires c =
-    let p = c.put_sums in
-    (ap length p.ensures ∙ c.requires.2, omega (arith, ap sizes p.ensures, c.requires.4))
-
 pub look-requires : goal.look-requires
 look-requires c =
     let m = c.args.m in
@@ -28,11 +23,3 @@ look-requires c =
       omega (arith, power_most m c.requires.1),
       subst (Within (2 ^ 24 - 1)) (sym is) (hadamard_within m (2 ^ 24 - 1) l (omega (arith, c.requires.4))),
     )
-
-pub returns : goal.returns
-returns c =
-    let m = c.args.m in
-    let l = c.args.readings.now in
-    let t = c.transform in
-    let is : t.new.row ≡ hadamard m l = t.ensures ∙ ap (hadamard m) c.put_sums.ensures in
-    subst (λ (h : List ℤ). Looked h c.look.result) is c.look.ensures

@@ -17,17 +17,6 @@ found-place : (c : After-top_key-key) → Placed c.args.row.now c.top_key-key.re
 found-place c =
     placed c.args.row.now c.top_key-key.result c.requires.0 c.requires.1 c.top_key-key.ensures
 
-pub offset_bounds-row-place : goal.offset_bounds-row-place
-offset_bounds-row-place c = omega (arith, (found-place c).within)
-
-pub slice_set_of-row : goal.slice_set_of-row
-slice_set_of-row c = omega (arith, (found-place ((goal.at.slice_set_of-row c).After-top_key-key)).within)
-
-pub top_size-second-requires : goal.top_size-second-requires
-top_size-second-requires c =
-    within_wiped (2 ^ 24 - 1) c.args.row.now (c.top_key-key.result % 256)
-    (found-place ((goal.at.top_size-second-requires c).After-top_key-key)).within c.requires.2
-
 pub returns : goal.returns
 returns c =
     let row = c.args.row.now in

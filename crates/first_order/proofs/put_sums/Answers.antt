@@ -14,9 +14,3 @@ loop-j-preserved c =
     let is : c.from.result ≡ z = c.from.ensures ∙ to_z-of_z {w = w16} {z = z} (record { sfits = omega arith }) in
     let read = to_z-of_z {w = w32} {z = c.from.result} (record { sfits = omega arith }) ∙ is in
     rw (add-one o.j, read, o.invariant) (front-suc d l o.j (pos 0) (omega (arith, c.requires)) (omega arith))
-
-pub returns : goal.returns
-returns c =
-    let o = c.loop-j in
-    let l = c.args.readings.now in
-    o.invariant ∙ front-done c.args.row.now l o.j (omega (arith, c.requires)) (drop_of_length-le l {i = o.j} (omega arith))

@@ -6,9 +6,6 @@ use Rattle.hadamard.specs.Hadamard.{first_order}
 use Rattle.first_order.specs.WordLaws.{word-start, bits_first_order, next_word, Doubles, doubles}
 use Rattle.first_order.proofs.put_word.Goals as goal
 
-pub bounds-word-0 : goal.bounds-word-0
-bounds-word-0 c = omega (arith, c.requires.0, pow_pos c.args.m)
-
 pub loop-p-init : goal.loop-p-init
 loop-p-init c =
     let some : 0 < length c.args.word.now = omega (arith, c.requires.0, pow_pos c.args.m) in
@@ -37,11 +34,3 @@ loop-p-preserved c =
     let e = rw h at c.double.ensures in
     rw add-one
     (ap (λ (k : ℕ). take k w) (sym d.next) ∙ next_word o.p c.args.place c.args.sign (2 ^ o.p) o.word w d.room o.invariant e)
-
-pub returns : goal.returns
-returns c =
-    let o = c.loop-p in
-    let e : o.p ≡ c.args.m = omega arith in
-    let long = o.auto.word ∙ length-set c.args.word.now 0 c.args.sign ∙ c.requires.0 in
-    sym (take_all (2 ^ o.p) o.word (omega (arith, long, ap (λ (q : ℕ). 2 ^ q) e)))
-    ∙ o.invariant ∙ ap (λ (q : ℕ). first_order q c.args.place c.args.sign) e

@@ -6,9 +6,6 @@ use Rattle.first_order.specs.Work.{size_at, key_at, Top}
 use Rattle.first_order.specs.TopLaws.{top_none, top_more}
 use Rattle.first_order.proofs.top_key.Goals as goal
 
-pub loop-j-init : goal.loop-j-init
-loop-j-init c = top_none (key_at c.args.row.now)
-
 pub loop-j-preserved : goal.loop-j-preserved
 loop-j-preserved c =
     let o = c.loop-j in
@@ -18,10 +15,3 @@ loop-j-preserved c =
     let e : c.max-most.result ≡ max o.most (f o.j) =
     c.max-most.ensures ∙ ap (λ (s : ℕ). max o.most (s * 256 + o.j)) (c.unsigned_abs.ensures.value ∙ ap nat_abs read) in
     rw e (top_more f o.j o.most o.invariant)
-
-pub returns : goal.returns
-returns c =
-    let o = c.loop-j in
-    let l = c.args.row.now in
-    let e : o.j ≡ length l = omega arith in
-    subst (λ (k : ℕ). Top (key_at l) k o.most) e o.invariant

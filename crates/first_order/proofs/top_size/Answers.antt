@@ -6,9 +6,6 @@ use Rattle.first_order.specs.Work.{size_at, Top}
 use Rattle.first_order.specs.TopLaws.{top_none, top_more}
 use Rattle.first_order.proofs.top_size.Goals as goal
 
-pub loop-entry-init : goal.loop-entry-init
-loop-entry-init c = top_none (size_at c.args.row.now)
-
 pub loop-entry-preserved : goal.loop-entry-preserved
 loop-entry-preserved c =
     let o = c.loop-entry in
@@ -18,10 +15,3 @@ loop-entry-preserved c =
     let read = to_z-of_z {w = w32} {z = get_or l j (pos 0)} (record { sfits = omega arith }) in
     let e : c.max-most.result ≡ max o.most (f j) = c.max-most.ensures ∙ ap (max o.most) (c.unsigned_abs.ensures.value ∙ ap nat_abs read) in
     rw e (top_more f j o.most o.invariant)
-
-pub returns : goal.returns
-returns c =
-    let o = c.loop-entry in
-    let l = c.args.row.now in
-    let e : o.entry-index ≡ length l = omega arith in
-    subst (λ (k : ℕ). Top (size_at l) k o.most) e o.invariant

@@ -32,8 +32,3 @@ overflow_add-sum c =
 
 pub loop-reading-preserved : goal.loop-reading-preserved
 loop-reading-preserved c = more c
-
-pub returns : goal.returns
-returns c =
-    let l = c.args.readings.now in
-    c.loop-reading.invariant ∙ ap sizes (take_all c.loop-reading.reading-index l (omega arith))

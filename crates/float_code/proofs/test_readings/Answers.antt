@@ -12,9 +12,6 @@ use Rattle.float_numbers.proofs.WholesLaws.{length-wholes}
 use Rattle.float_code.specs.PlaceLaws.{size_of, first_whole}
 use Rattle.float_code.proofs.test_readings.Goals as goal
 
-pub loop-i-init : goal.loop-i-init
-loop-i-init c = λ j h. absurd (omega arith)
-
 pub returns-then-not-is_reading : goal.returns-then-not-is_reading
 returns-then-not-is_reading c =
     let l = c.loop-i in
@@ -25,12 +22,6 @@ returns-then-not-is_reading c =
     ∙ first_whole largest_reading readings in
     rw first
     (entry_refused (first_bad_reading largest_reading (wholes readings)) (length (wholes readings)) (omega (arith, first, length-wholes readings)))
-
-pub loop-i-preserved : goal.loop-i-preserved
-loop-i-preserved c =
-    let l = c.loop-i in
-    good_more nan size_of largest_reading c.args.readings.now l.i l.invariant
-    (leb-true _ _ (sym c.is_reading.ensures ∙ not-false _ c.if-not-is_reading.false-raw))
 
 pub returns : goal.returns
 returns c =

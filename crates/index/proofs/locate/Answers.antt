@@ -4,10 +4,10 @@ use Rattle.code.specs.declared.Code.{Code}
 use Rattle.code.specs.declared.Refusal.{Refusal}
 use Rattle.std.proofs.Common.{ap, sym, ◌∙◌, arith}
 use Rattle.numbers.specs.Lent.{lent_from}
-use Rattle.record.specs.Reader.{header_of, outcome_of}
+use Rattle.record.specs.Reader.{header_of, part_by, outcome_of}
 use Rattle.record.specs.ReaderLaws.{framed_record, length_part}
 use Rattle.record.specs.OnlyHeader.{header_only}
-use Rattle.index.specs.Finding.{located_by, located_at}
+use Rattle.index.specs.Finding.{part_after, located_by, located_at}
 use Rattle.index.proofs.FindingLaws.{start_inside}
 use Rattle.index.proofs.locate.Goals as goal
 use Rattle.index.proofs.locate.Goals.{In_ok-at, In_ok-code}
@@ -44,5 +44,5 @@ returns c =
     let framed = framed_record rest _ (header own) in
     let long = c.part_length.ensures ∙ sym (length_part c.in_ok-code.code rest framed.whole) in
     ap (λ (k : ℕ). Ok (record { code = c.in_ok-code.code; start = at + 1; length = k })) long
-    ∙ ap (λ (h : Result Code Refusal). located_by h at rest) (sym (header own))
+    ∙ ap (λ (h : Result Code Refusal). located_by h (part_after h at) (length (part_by h rest))) (sym (header own))
     ∙ ap (located_at s) (sym c.in_ok-at.was ∙ c.start_of.ensures)

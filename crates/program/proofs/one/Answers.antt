@@ -1,5 +1,6 @@
 -- `program::one` meets its contract: by the header's refusal, or by the search.
-use Rattle.std.specs.Prelude.{Result, Ok, Err}
+use Rattle.std.specs.Prelude as std
+use Rattle.std.specs.Prelude.{Ok, Err}
 use mathlib.Core.Path.{◌≡◌, sym, ◌∙◌, subst}
 use Rattle.record.specs.Reader.{header_of}
 use Rattle.record.specs.OnlyHeader.{header_only}
@@ -21,4 +22,4 @@ returns-in-Err c =
     let g = h.args in
     let t = c.refuse in
     let is : header_of g.s.now ≡ _ = sym (header_only _ _ h.header_of.ensures) ∙ c.in-Err.is in
-    subst (λ (x : Result Code Refusal). Stepped g.w g.s.now (headed x g.s.now) g.out.now g.at t.result t.new.out) (sym is) t.ensures
+    subst (λ (x : std.Result Code Refusal). Stepped g.w g.s.now (headed x g.s.now) g.out.now g.at t.result t.new.out) (sym is) t.ensures

@@ -1,4 +1,5 @@
 -- `program::refuse` meets its contract.
+use Rattle.std.proofs.Common.{rules}
 use mathlib.Core.Path.{refl, ap, subst, ◌∙◌}
 use mathlib.Core.Bool.{◌||◌}
 use Prim.Native.Nat.{ℕ}
@@ -10,10 +11,10 @@ pub returns : goal.returns
 returns c =
     let g = c.args in
     let p = c.put_refused-end in
-    let is = c.number-number.ensures in
+    let is = c.shown-number.ensures.0 in
     record {
       line = subst (λ (n : ℕ). Put g.out.now g.at (refused_line g.w n) p.result p.new.out) is p.ensures.put;
       is_answered_lem = refl;
       is_last = c.is_last.ensures ∙ ap (λ (n : ℕ). eqb n 1 || eqb n 8) is;
-      next = c.record_length.ensures;
+      next = search rules;
     }

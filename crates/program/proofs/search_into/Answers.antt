@@ -1,5 +1,6 @@
 -- `program::search_into` meets its contract: the answer says what becomes of the record.
-use Rattle.std.specs.Prelude.{Result, Ok, Err}
+use Rattle.std.specs.Prelude as std
+use Rattle.std.specs.Prelude.{Ok, Err}
 use mathlib.Core.Path.{◌≡◌, ap, sym, ◌∙◌, subst}
 use native.Mathlib.Omega.{arith}
 use Rattle.record.specs.ReaderLaws.{framed_record}
@@ -8,7 +9,7 @@ use Rattle.program.specs.Program.{Result, answered, result_of}
 use Rattle.program.specs.Step.{Stepped}
 use Rattle.program.specs.StepLaws.{result_in, searched_result, found_bits}
 use Rattle.program.proofs.search_into.Goals as goal
-use Rattle.program.proofs.search_into.Goals.{After-search_framed-answer, In-Found}
+use Rattle.program.proofs.search_into.Goals.{After-search_framed-answer, In-Ok}
 use Rattle.code.specs.declared.Refusal.{Refusal}
 use Rattle.search.specs.declared.Found.{Found}
 
@@ -25,23 +26,23 @@ says r =
     v.0 v.1 v.2 r.search_framed-answer.result.result (ap (λ (o : RunnerUpOutcome). o.outcome) r.search_framed-answer.ensures)
 
 -- and if it is an answer
-found : (c : In-Found) → answered c.search_framed-answer.new.bits c.in-Ok.penalty c.in-Ok.gap c.in-Ok.visits ≡ result_of c.args.s.now
+found : (c : In-Ok) → answered c.search_framed-answer.new.bits c.in-Ok.found.penalty c.in-Ok.found.gap c.in-Ok.found.visits ≡ result_of c.args.s.now
 found c =
     let v = c.requires.s_value in
     let bits = c.search_framed-answer.new.bits in
-    ap (λ (a : Result Found Refusal). result_in a bits) (sym c.in-Ok.is)
+    ap (λ (a : std.Result Found Refusal). result_in a bits) (sym c.in-Ok.is)
     ∙ searched_result c.args.s.now c.args.code bits c.search_framed-answer.new.word c.args.bits.now c.args.word.now
     v.0 v.1 v.2 c.search_framed-answer.result.result (ap (λ (o : RunnerUpOutcome). o.outcome) c.search_framed-answer.ensures)
 
 pub report-requires : goal.report-requires
 report-requires c =
-    let k = (goal.at.report-requires c).In-Found in
+    let k = (goal.at.report-requires c).In-Ok in
     let q = c.requires.s_nonzero in
     (q.0, found_bits c.args.s.now _ _ _ _ (found k), omega (arith, q.1, c.search_framed-answer.auto.bits), q.2)
 
 pub returns-in-Ok : goal.returns-in-Ok
 returns-in-Ok c =
-    let k = (goal.at.returns-in-Ok c).In-Found in
+    let k = (goal.at.returns-in-Ok c).In-Ok in
     let g = c.args in
     let t = c.report in
     subst (λ (x : Result). Stepped g.w g.s.now x g.out.now g.at t.result t.new.out) (found k) t.ensures
@@ -51,5 +52,5 @@ returns-in-Err c =
     let r = (goal.at.returns-in-Err c).After-search_framed-answer in
     let g = c.args in
     let t = c.refuse in
-    let is = ap (λ (a : Result Found Refusal). result_in a r.search_framed-answer.new.bits) (sym c.in-Err.is) ∙ says r in
+    let is = ap (λ (a : std.Result Found Refusal). result_in a r.search_framed-answer.new.bits) (sym c.in-Err.is) ∙ says r in
     subst (λ (x : Result). Stepped g.w g.s.now x g.out.now g.at t.result t.new.out) is t.ensures

@@ -5,7 +5,7 @@ use Prim.Native.Nat.{ℕ, ◌/◌, ◌^◌, ◌≤◌}
 use native.Mathlib.Omega.{arith}
 use lib.IntN.{pos}
 use lib.ListN.{length, get_or, take}
-use lib.Pow.{pow_pos, pow_mono}
+use lib.Pow.{pow_mono}
 use Rattle.decoding.specs.Quick.{decide}
 use Rattle.std.specs.Int.{w16, w32}
 use Rattle.std.proofs.Common.{to_z-of_z}
@@ -15,36 +15,25 @@ use Rattle.quick.proofs.quick_word.Goals as goal
 short : (m : ℕ) (word : List ℕ) → m ≤ 8 → length word ≡ 2 ^ m → length word ≤ 256
 short m word h e = omega (arith, pow_mono h)
 
-pub bounds-kinds-0 : goal.bounds-kinds-0
-bounds-kinds-0 c = let g = c in omega (arith, g.requires.1.long_kinds, pow_pos g.args.m)
-
-pub bounds-readings-0 : goal.bounds-readings-0
-bounds-readings-0 c = let g = c in omega (arith, g.requires.1.long_row, pow_pos g.args.m)
-
-pub bounds-word-0 : goal.bounds-word-0
-bounds-word-0 c = let g = c in omega (arith, g.requires.1.long_word, pow_pos g.args.m)
-
 pub returns-then-m-eq0 : goal.returns-then-m-eq0
 returns-then-m-eq0 c =
-    let g = c in
-    let m = g.args.m in
-    let l = g.args.readings.now in
-    let kinds = g.args.kinds.now in
-    let word = g.args.word.now in
+    let m = c.args.m in
+    let l = c.args.readings.now in
+    let kinds = c.args.kinds.now in
+    let word = c.args.word.now in
     let is : c.from.result ≡ get_or l 0 (pos 0) = c.from.ensures ∙ to_z-of_z {w = w16} {z = get_or l 0 (pos 0)} (record { sfits = omega arith }) in
     let read = to_z-of_z {w = w32} {z = c.from.result} (record { sfits = omega arith }) ∙ is in
-    one_word m kinds word l c.decide.result c.if-m-eq0.true g.requires.1.long_word
+    one_word m kinds word l c.decide.result c.if-m-eq0.true c.requires.1.long_word
     (c.decide.ensures ∙ ap (decide (get_or kinds 0 0)) read)
 
 pub lower_top-requires : goal.lower_top-requires
 lower_top-requires c =
-    let g = c in
-    let m = g.args.m in
-    let l = g.args.readings.now in
-    let kinds = g.args.kinds.now in
-    let word = g.args.word.now in
-    let e = row_halves m kinds word l g.requires.1 c.if-m-eq0.false in
-    (e, omega (arith, e, g.requires.1.long_row, pow_mono g.requires.0), tt)
+    let m = c.args.m in
+    let l = c.args.readings.now in
+    let kinds = c.args.kinds.now in
+    let word = c.args.word.now in
+    let e = row_halves m kinds word l c.requires.1 c.if-m-eq0.false in
+    (e, omega (arith, e, c.requires.1.long_row, pow_mono c.requires.0), tt)
 
 pub first_half-requires : goal.first_half-requires
 first_half-requires c =

@@ -1,6 +1,6 @@
 -- `some_information`: the kinds from the index on, and what was found before them.
-use Rattle.std.specs.Prelude.{refl, ◌-◌, length}
-use Rattle.std.proofs.Common.{inl, arith}
+use Rattle.std.specs.Prelude.{◌-◌, length}
+use Rattle.std.proofs.Common.{arith}
 use Rattle.quick.specs.FrozenLaws.{found_at, seek_more, sought_all}
 use Rattle.quick.proofs.some_information.Goals as goal
 
@@ -8,9 +8,6 @@ pub returns-then-kinds-ne0 : goal.returns-then-kinds-ne0
 returns-then-kinds-ne0 c =
     let ks = c.args.kinds.now in
     found_at ks (length ks - 1) c.if-kinds-ne0.true
-
-pub loop-kind-init : goal.loop-kind-init
-loop-kind-init c = inl (refl, refl)
 
 pub loop-kind-preserved : goal.loop-kind-preserved
 loop-kind-preserved c =

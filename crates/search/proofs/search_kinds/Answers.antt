@@ -1,13 +1,11 @@
 -- What the walk ends with is the answer.
-use Rattle.std.specs.Prelude.{Err}
-use mathlib.Core.Path.{◌≡◌, refl, ap, ap₂, sym, ◌∙◌}
+use mathlib.Core.Path.{◌≡◌, ap, ap₂, sym, ◌∙◌}
 use mathlib.Core.List.{List}
 use Prim.Native.Nat.{ℕ, ◌-◌, ◌^◌}
-use native.Mathlib.Omega.{arith}
-use lib.ListN.{length, get_or, take}
-use borrow.Author.Tests.{lt-ltb, le-ltb}
+use lib.ListN.{length, take}
 use Rattle.words.specs.Kinds.{pick}
 use Rattle.code.specs.declared.Refusal.TheVariants.{OutOfVisits, Tied}
+use Rattle.std.specs.Prelude.{Err}
 use Rattle.search.specs.Outcome.{Outcome, found_with}
 use Rattle.search.specs.RunnerUp.{RunnerUpOutcome, roomy, runner_up}
 use Rattle.search.proofs.RunnerUpLaws.{none_put, runner_up_out, runner_up_tied, runner_up-found}
@@ -18,60 +16,48 @@ use Rattle.search.proofs.search_kinds.Goals as goal
 abbrev outcome_with : Outcome → List ℕ → RunnerUpOutcome
 outcome_with o x = record { outcome = o; runner_up = x }
 
-pub walk-requires : goal.walk-requires
-walk-requires c = (refl, walkable c.requires.1)
+pub walk-end-requires : goal.walk-end-requires
+walk-end-requires c = walkable c.requires.1
 
-pub returns-then-out-ne0 : goal.returns-then-out-ne0
-returns-then-out-ne0 c =
-    let walked = c in
-    let start = walked in
-    let s = start.args in
-    let numbers = walked.walk.new.state in
-    none_put start.requires.0 (Err (OutOfVisits s.allowed)) s.bits.now s.word.now
+pub returns-then-end : goal.returns-then-end
+returns-then-end c =
+    let s = c.args in
+    let end = c.walk-end.result in
+    none_put c.requires.0 (Err (OutOfVisits s.allowed)) s.bits.now s.word.now
     ∙ runner_up_out s.m _ _ s.allowed s.bits.now s.word.now
-    (out_answer start.requires.1 walked.walk.ensures (lt-ltb 0 (get_or numbers 4 0) (omega (arith, c.if-out-ne0.true))))
+    (out_answer c.requires.1 c.walk-end.ensures c.if-end.true)
 
 pub overflow_sub-gap : goal.overflow_sub-gap
 overflow_sub-gap c =
-    let walked = c in
-    let numbers = walked.walk.new.state in
-    ordered walked.requires.1 walked.walk.ensures (le-ltb 0 (get_or numbers 4 0) (omega (arith, c.if-out-ne0.false)))
+    let end = c.walk-end.result in
+    ordered c.requires.1 c.walk-end.ensures c.if-end.false
 
 pub returns-then-gap-eq0 : goal.returns-then-gap-eq0
 returns-then-gap-eq0 c =
-    let walked = c in
-    let start = walked in
-    let s = start.args in
-    let numbers = walked.walk.new.state in
-    none_put start.requires.0 (Err (Tied (get_or numbers 1 0) (get_or numbers 3 0))) s.bits.now s.word.now
+    let s = c.args in
+    let end = c.walk-end.result in
+    none_put c.requires.0 (Err (Tied end.best end.count.visits)) s.bits.now s.word.now
     ∙ runner_up_tied s.m _ _ s.allowed s.bits.now s.word.now
-    (tied_answer start.requires.1 walked.walk.ensures (le-ltb 0 (get_or numbers 4 0) (omega (arith, c.if-out-ne0.false))) c.if-gap-eq0.true)
+    (tied_answer c.requires.1 c.walk-end.ensures c.if-end.false c.if-gap-eq0.true)
 
 pub put_second-requires : goal.put_second-requires
 put_second-requires c =
-    let put = c in
-    let start = put in
-    (start.requires.0, pickable start.args.kinds.now start.requires.1 (search rules) (search rules))
+    (c.requires.0, pickable c.args.kinds.now c.requires.1 (search rules) (search rules))
 
 pub returns : goal.returns
 returns c =
-    let put = c in
-    let if2 = put in
-    let if1 = if2 in
-    let walked = if1 in
-    let start = walked in
-    let s = start.args in
-    let numbers = walked.walk.new.state in
-    let written = put.put_best.ensures in
-    let on = le-ltb 0 (get_or numbers 4 0) (omega (arith, if1.if-out-ne0.false)) in
+    let s = c.args in
+    let end = c.walk-end.result in
+    let written = c.put_best.ensures in
+    let on = c.if-end.false in
     let kinds = s.kinds.now in
-    let second = walked.walk.new.second in
+    let second = c.walk-end.new.second in
     let shown : List ℕ = c.put_second.new.runner_up in
-    let same : length put.put_best.new.word ≡ length s.word.now = put.put_best.auto.word in
+    let same : length c.put_best.new.word ≡ length s.word.now = c.put_best.auto.word in
     let is : shown ≡ runner_up s.m (take (2 ^ s.m) kinds) (take (2 ^ s.m) s.readings.now) =
     c.put_second.ensures
-    ∙ ap (λ (n : ℕ). roomy (pick (take n kinds) (take n second))) (same ∙ start.requires.1.long_word)
-    ∙ sym (runner_up-is start.requires.1 walked.walk.ensures on) in
-    ap₂ (λ (b x : List ℕ). outcome_with (found_with (get_or numbers 1 0) (get_or numbers 2 0 - get_or numbers 1 0) (get_or numbers 3 0) b x) shown)
+    ∙ ap (λ (n : ℕ). roomy (pick (take n kinds) (take n second))) (same ∙ c.requires.1.long_word)
+    ∙ sym (runner_up-is c.requires.1 c.walk-end.ensures on) in
+    ap₂ (λ (b x : List ℕ). outcome_with (found_with end.best (end.second - end.best) end.count.visits b x) shown)
     written.bits_are written.word-is
-    ∙ runner_up-found s.m _ _ s.allowed s.bits.now s.word.now (found-answer start.requires.1 walked.walk.ensures on if2.if-gap-eq0.false) is
+    ∙ runner_up-found s.m _ _ s.allowed s.bits.now s.word.now (found-answer c.requires.1 c.walk-end.ensures on c.if-gap-eq0.false) is

@@ -18,25 +18,19 @@ is-allowed c = sym c.in-Ok.is ∙ c.admit.ensures
 pub search_sound-requires : goal.search_sound-requires
 search_sound-requires c =
     let allowed = (goal.at.search_sound-requires c).In-Ok in
-    let start = allowed in
-    let s = start.args in
+    let s = allowed.args in
     allowed_sound s.r s.m s.readings.now (length s.bits.now) (length s.word.now) allowed.in-Ok.code (is-allowed allowed)
 
 pub returns-in-Err : goal.returns-in-Err
 returns-in-Err c =
-    let refused = c in
-    let tests = refused in
-    let start = tests in
-    let s = start.args in
+    let s = c.args in
     ap (λ (a : WithRunnerUp). runner_up_outcome_of a s.bits.now s.word.now) c.refused.ensures
-    ∙ sym (runner_up-refused s.r s.m s.allowed s.readings.now s.bits.now s.word.now c.in-Err.why (sym c.in-Err.is ∙ tests.admit.ensures))
+    ∙ sym (runner_up-refused s.r s.m s.allowed s.readings.now s.bits.now s.word.now c.in-Err.why (sym c.in-Err.is ∙ c.admit.ensures))
 
 pub returns-in-Ok : goal.returns-in-Ok
 returns-in-Ok c =
-    let done = c in
     let allowed = (goal.at.returns-in-Ok c).In-Ok in
-    let start = allowed in
-    let s = start.args in
+    let s = allowed.args in
     let code = allowed.in-Ok.code in
-    done.search_sound.ensures
+    c.search_sound.ensures
     ∙ sym (runner_up_answered s.r s.m s.allowed s.readings.now s.bits.now s.word.now code (is-allowed allowed))

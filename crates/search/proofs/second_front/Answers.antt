@@ -18,37 +18,10 @@ use Rattle.search.proofs.second_front.Goals.{Start}
 cut : (n : ℕ) (x : List ℕ) → take (n - 0) x ≡ take n x
 cut n x = rw sub-zero
 
-long : (start : Start) → length start.args.runner_up.now ≡ 256
-long start = ap length start.requires.2
-
-pub slice_bounds-pick-end : goal.slice_bounds-pick-end
-slice_bounds-pick-end c = let start = c in omega (arith, start.requires.1, start.requires.3.room)
-
-pub slice_bounds-pick-end-2 : goal.slice_bounds-pick-end-2
-slice_bounds-pick-end-2 c = let start = c in omega (arith, start.requires.0, start.requires.3.room)
-
-pub slice_bounds-pick-end-3 : goal.slice_bounds-pick-end-3
-slice_bounds-pick-end-3 c = let start = (goal.at.slice_bounds-pick-end-3 c).Start in omega (arith, long start, start.requires.3.few)
-
-pub pick-requires : goal.pick-requires
-pick-requires c =
-    let start = (goal.at.pick-requires c).Start in
-    let s = start.args in
-    let r = start.requires.3 in
-    let ks = cut s.n s.kinds.now in
-    let few : s.k ≤ length s.runner_up.now = omega (arith, long start, r.few) in (
-      ap length (cut s.n s.second.now) ∙ length-take-le s.n s.second.now (omega (arith, start.requires.0, r.room))
-          ∙ sym (ap length ks ∙ r.long_kinds),
-      ap length (cut s.k s.runner_up.now) ∙ length-take-le s.k s.runner_up.now few ∙ r.long_bits ∙ ap sum (sym ks),
-      subst Bits (sym ks) r.are_kinds,
-    )
-
 pub returns : goal.returns
 returns c =
-    let picked = c in
-    let start = picked in
-    let s = start.args in
-    let bits = picked.pick.new.bits in
-    ap (λ (x : List ℕ). bits ++ post_of 0 (s.k - 0) x) start.requires.2
-    ∙ second-shown s.n s.k (take s.n s.kinds.now) s.second.now bits start.requires.3 start.requires.0
-    (picked.pick.ensures ∙ ap₂ pick (cut s.n s.kinds.now) (cut s.n s.second.now))
+    let s = c.args in
+    let bits = c.pick.new.bits in
+    ap (λ (x : List ℕ). bits ++ post_of 0 (s.k - 0) x) c.requires.2
+    ∙ second-shown s.n s.k (take s.n s.kinds.now) s.second.now bits c.requires.3 c.requires.0
+    (c.pick.ensures ∙ ap₂ pick (cut s.n s.kinds.now) (cut s.n s.second.now))

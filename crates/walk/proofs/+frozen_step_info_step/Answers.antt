@@ -1,12 +1,13 @@
 -- The walk's two steps, which call each other in turn, meet their contracts.
-use Rattle.std.proofs.Common.{◌≡◌, ℕ, ◌+◌, ◌-◌, ◌^◌, ◌<◌, List, Bool, true, false, not, get_or, set, take, ap, ap₂, sym, ◌∙◌, subst, arith, ℤ, to_z, of_z}
+use Rattle.std.proofs.Common.{◌≡◌, refl, ℕ, ◌+◌, ◌-◌, ◌^◌, ◌<◌, List, Bool, true, false, not, set, take, ap, ap₂, sym, ◌∙◌, subst, arith, ℤ, to_z, of_z}
 use Rattle.std.proofs.Common.{to_z-of_z, w32}
 use Rattle.std.proofs.lemmas.Bool.{eqb-true}
 use Rattle.decoding.specs.Readings.{loss}
 use Rattle.decoding.specs.Quick.{hard}
 use Rattle.decoding.specs.Walk.{value}
 use Rattle.decoding.specs.PathLaws.{hard_bit}
-use Rattle.walk.specs.Progress.{seen, front, drops, allows_more, counted_by, Shows}
+use Rattle.walk.specs.declared.progress.Progress.{Progress}
+use Rattle.walk.specs.Progress.{front, drops, allows_more, counted_by, with_count, StepAsked, StepGiven}
 use Rattle.walk.specs.StepLaws.{value_small, sum_small}
 use Rattle.walk.specs.GoingLaws.{may_visit, may_not, not_full, full_step, within, frozen_stop, info_stop}
 use Rattle.walk.specs.GoingLaws.{value-is, value_going, reached_given, frozen_dropped, reached_more}
@@ -77,7 +78,7 @@ frozen_step-loss-sum-requires t c =
     let visited = may_visit (ap not c.if-not-visit.false) c.visit.ensures in
     let given = c.value_at-value.ensures in
     let kind = c.if-kinds-i-ne0.false in
-    let at : ℤ = value (get_or c.loop-rows.state 6 0) (front c.loop-rows.state c.args.readings.now) (take c.loop-rows.i c.loop-rows.path) in
+    let at : ℤ = value c.loop-rows.state.count.m (front c.loop-rows.state.count c.args.readings.now) (take c.loop-rows.i c.loop-rows.path) in
     let is : to_z w32 (of_z w32 c.value_at-value.result) ≡ at = to_z-of_z {w = w32} (record { sfits = c.value_at-value.type_inv })
     ∙ value-is r.asked inside visited given in
     rw is (value_small r.asked.ready)
@@ -89,7 +90,7 @@ frozen_step-overflow_add-sum t c =
     let visited = may_visit (ap not c.if-not-visit.false) c.visit.ensures in
     let given = c.value_at-value.ensures in
     let kind = c.if-kinds-i-ne0.false in
-    let at : ℤ = value (get_or c.loop-rows.state 6 0) (front c.loop-rows.state c.args.readings.now) (take c.loop-rows.i c.loop-rows.path) in
+    let at : ℤ = value c.loop-rows.state.count.m (front c.loop-rows.state.count c.args.readings.now) (take c.loop-rows.i c.loop-rows.path) in
     let is : to_z w32 (of_z w32 c.value_at-value.result) ≡ at = to_z-of_z {w = w32} (record { sfits = c.value_at-value.type_inv })
     ∙ value-is r.asked inside visited given in
     let adds : c.loop-rows.sum + c.loss-sum.result ≡ c.loop-rows.sum + loss at 0 =
@@ -103,21 +104,21 @@ frozen_step-returns-then-dropped t c =
     let visited = may_visit (ap not c.if-not-visit.false) c.visit.ensures in
     let given = c.value_at-value.ensures in
     let kind = c.if-kinds-i-ne0.false in
-    let at : ℤ = value (get_or c.loop-rows.state 6 0) (front c.loop-rows.state c.args.readings.now) (take c.loop-rows.i c.loop-rows.path) in
+    let at : ℤ = value c.loop-rows.state.count.m (front c.loop-rows.state.count c.args.readings.now) (take c.loop-rows.i c.loop-rows.path) in
     let is : to_z w32 (of_z w32 c.value_at-value.result) ≡ at = to_z-of_z {w = w32} (record { sfits = c.value_at-value.type_inv })
     ∙ value-is r.asked inside visited given in
     let adds : c.loop-rows.sum + c.loss-sum.result ≡ c.loop-rows.sum + loss at 0 =
     ap (λ (n : ℕ). c.loop-rows.sum + n) (c.loss-sum.ensures ∙ ap (λ (v : ℤ). loss v 0) is) in
     let going = value_going r.asked inside visited given in
-    let untaken : (c.if-starts_block.path ≡ c.loop-rows.path) × (c.if-starts_block.state ≡ c.value_at-value.new.state) =
+    let untaken : (c.if-starts_block.path ≡ c.loop-rows.path) × (c.if-starts_block.state ≡ with_count c.loop-rows.state c.value_at-value.new.count) =
     elim c.if-starts_block.branch [
       | frozen_step-then-starts_block+else-block-ne0 w ↦ let z = zeros-left r inside visited given
           (sym c.starts_block.ensures ∙ w.if-starts_block.true) (w.taken-block.ensures.0 kind) w.if-block-ne0.false in
           (w.path-is ∙ z.0, w.state-is ∙ z.1)
       | frozen_step-else-starts_block w ↦ (w.path-is, w.state-is)
     ] in
-    let drop_test = λ (b : Bool) (d : drops (seen c.if-starts_block.state) (c.loop-rows.sum + c.loss-sum.result) ≡ b).
-    ap (λ (σ : List ℕ). drops (seen σ) (c.loop-rows.sum + c.loss-sum.result)) (sym untaken.1) ∙ d in
+    let drop_test = λ (b : Bool) (d : drops c.if-starts_block.state (c.loop-rows.sum + c.loss-sum.result) ≡ b).
+    ap (λ (w : Progress). drops w (c.loop-rows.sum + c.loss-sum.result)) (sym untaken.1) ∙ d in
     same_given untaken.0 untaken.1 (frozen_dropped r inside kind going adds (drop_test true (sym c.dropped.ensures ∙ c.if-dropped.true)))
 
 pub frozen_step-loop-rows-preserved : goal.frozen_step-loop-rows-preserved
@@ -127,21 +128,21 @@ frozen_step-loop-rows-preserved t c =
     let visited = may_visit (ap not c.if-not-visit.false) c.visit.ensures in
     let given = c.value_at-value.ensures in
     let kind = c.if-kinds-i-ne0.false in
-    let at : ℤ = value (get_or c.loop-rows.state 6 0) (front c.loop-rows.state c.args.readings.now) (take c.loop-rows.i c.loop-rows.path) in
+    let at : ℤ = value c.loop-rows.state.count.m (front c.loop-rows.state.count c.args.readings.now) (take c.loop-rows.i c.loop-rows.path) in
     let is : to_z w32 (of_z w32 c.value_at-value.result) ≡ at = to_z-of_z {w = w32} (record { sfits = c.value_at-value.type_inv })
     ∙ value-is r.asked inside visited given in
     let adds : c.loop-rows.sum + c.loss-sum.result ≡ c.loop-rows.sum + loss at 0 =
     ap (λ (n : ℕ). c.loop-rows.sum + n) (c.loss-sum.ensures ∙ ap (λ (v : ℤ). loss v 0) is) in
     let going = value_going r.asked inside visited given in
-    let untaken : (c.if-starts_block.path ≡ c.loop-rows.path) × (c.if-starts_block.state ≡ c.value_at-value.new.state) =
+    let untaken : (c.if-starts_block.path ≡ c.loop-rows.path) × (c.if-starts_block.state ≡ with_count c.loop-rows.state c.value_at-value.new.count) =
     elim c.if-starts_block.branch [
       | frozen_step-then-starts_block+else-block-ne0 w ↦ let z = zeros-left r inside visited given
           (sym c.starts_block.ensures ∙ w.if-starts_block.true) (w.taken-block.ensures.0 kind) w.if-block-ne0.false in
           (w.path-is ∙ z.0, w.state-is ∙ z.1)
       | frozen_step-else-starts_block w ↦ (w.path-is, w.state-is)
     ] in
-    let drop_test = λ (b : Bool) (d : drops (seen c.if-starts_block.state) (c.loop-rows.sum + c.loss-sum.result) ≡ b).
-    ap (λ (σ : List ℕ). drops (seen σ) (c.loop-rows.sum + c.loss-sum.result)) (sym untaken.1) ∙ d in
+    let drop_test = λ (b : Bool) (d : drops c.if-starts_block.state (c.loop-rows.sum + c.loss-sum.result) ≡ b).
+    ap (λ (w : Progress). drops w (c.loop-rows.sum + c.loss-sum.result)) (sym untaken.1) ∙ d in
     same_reached untaken.1
     (reached_more r inside kind going adds (drop_test false (sym c.dropped.ensures ∙ c.if-dropped.false))
     (c.put.ensures ∙ ap (λ (x : List ℕ). set x c.loop-rows.i 0) untaken.0))
@@ -149,7 +150,7 @@ frozen_step-loop-rows-preserved t c =
 pub frozen_step-returns : goal.frozen_step-returns
 frozen_step-returns t c =
     let r = c.loop-rows.invariant in
-    let full = eqb-true c.loop-rows.i (2 ^ get_or c.loop-rows.state 6 0) (sym c.full.ensures ∙ c.loop-rows-test.false) in
+    let full = eqb-true c.loop-rows.i (2 ^ c.loop-rows.state.count.m) (sym c.full.ensures ∙ c.loop-rows-test.false) in
     reached_given r (full_step r.asked full c.finish.ensures)
 
 -- ---- the information step
@@ -163,7 +164,7 @@ info_step-loss-requires t c =
     let a = c.requires in
     let visited = may_visit (ap not c.if-not-visit.false) c.visit.ensures in
     let given = c.value_at-value.ensures in
-    let at : ℤ = value (get_or c.args.state.now 6 0) (front c.args.state.now c.args.readings.now) (take c.args.i c.args.path.now) in
+    let at : ℤ = value c.args.state.now.count.m (front c.args.state.now.count c.args.readings.now) (take c.args.i c.args.path.now) in
     let is : to_z w32 (of_z w32 c.value_at-value.result) ≡ at = to_z-of_z {w = w32} (record { sfits = c.value_at-value.type_inv })
     ∙ value-is a.0 a.1 visited given in
     rw is (value_small a.0.ready)
@@ -173,7 +174,7 @@ info_step-overflow_add-after t c =
     let a = c.requires in
     let visited = may_visit (ap not c.if-not-visit.false) c.visit.ensures in
     let given = c.value_at-value.ensures in
-    let at : ℤ = value (get_or c.args.state.now 6 0) (front c.args.state.now c.args.readings.now) (take c.args.i c.args.path.now) in
+    let at : ℤ = value c.args.state.now.count.m (front c.args.state.now.count c.args.readings.now) (take c.args.i c.args.path.now) in
     let is : to_z w32 (of_z w32 c.value_at-value.result) ≡ at = to_z-of_z {w = w32} (record { sfits = c.value_at-value.type_inv })
     ∙ value-is a.0 a.1 visited given in
     let first : c.hard-first.result ≡ hard at = c.hard-first.ensures.0 ∙ ap hard is in
@@ -182,47 +183,53 @@ info_step-overflow_add-after t c =
     record { fits = omega (arith, other, sum_small a.0.ready (1 - hard at) a.1 (omega arith)) }
 
 -- the other bit is dropped: the indices that are taken, and their visits
-pub info_step-returns-then-not-visits : goal.info_step-returns-then-not-visits
-info_step-returns-then-not-visits t c =
+pub info_step-returns-then-not-visit_many : goal.info_step-returns-then-not-visit_many
+info_step-returns-then-not-visit_many t c =
     let a = c.requires in
     let visited = may_visit (ap not c.if-not-visit.false) c.visit.ensures in
     let given = c.value_at-value.ensures in
-    let at : ℤ = value (get_or c.args.state.now 6 0) (front c.args.state.now c.args.readings.now) (take c.args.i c.args.path.now) in
+    let at : ℤ = value c.args.state.now.count.m (front c.args.state.now.count c.args.readings.now) (take c.args.i c.args.path.now) in
     let is : to_z w32 (of_z w32 c.value_at-value.result) ≡ at = to_z-of_z {w = w32} (record { sfits = c.value_at-value.type_inv })
     ∙ value-is a.0 a.1 visited given in
     let first : c.hard-first.result ≡ hard at = c.hard-first.ensures.0 ∙ ap hard is in
     let other : c.args.penalty + c.loss.result ≡ c.args.penalty + loss at (1 - hard at) =
     ap (λ (n : ℕ). c.args.penalty + n) (c.loss.ensures ∙ ap₂ (λ (v : ℤ) (b : ℕ). loss v (1 - b)) is first) in
     let put : c.put.new.path ≡ set c.args.path.now c.args.i (hard at) = c.put.ensures ∙ ap (set c.args.path.now c.args.i) first in
-    let gone : drops (seen c.value_at-value.new.state) (c.args.penalty + c.loss.result) ≡ true = sym c.dropped-gone.ensures ∙ c.if-gone.true in
+    let gone : drops c.args.state.now (c.args.penalty + c.loss.result) ≡ true = sym c.dropped-gone.ensures ∙ c.if-gone.true in
     let n = c.hard_here-n.result in
     let block = c.hard_here-n.ensures.1 in
-    let counted = subst (λ (σ : List ℕ). (c.visits.result ≡ allows_more (n + n - 1) σ) × Shows c.visits.new.state (counted_by (n + n - 1) (seen σ)))
-    c.hard_here-n.ensures.0 c.visits.ensures in
-    behind_out a.0 a.1 visited given a.2 put block other gone counted.1 (sym counted.0 ∙ c.if-not-visits.true)
+    let counted = subst (λ (w : Progress). (c.visit_many.result ≡ allows_more (n + n - 1) w.count) × (c.visit_many.new.self ≡ counted_by (n + n - 1) w.count))
+    c.hard_here-n.ensures.0 c.visit_many.ensures in
+    let args = c.args in
+    subst (λ (w : Progress). StepGiven args.readings.now args.kinds.now args.path.now args.best.now args.second.now args.state.now args.i args.penalty
+    c.value_at-value.new.rows c.hard_here-n.new.path args.best.now args.second.now (with_count w c.visit_many.new.self)) (sym c.hard_here-n.ensures.0)
+    (behind_out a.0 a.1 visited given a.2 put block other gone counted.1 (sym counted.0 ∙ c.if-not-visit_many.true))
 
 pub info_step-frozen_step-requires : goal.info_step-frozen_step-requires
 info_step-frozen_step-requires t c =
     let a = c.requires in
     let visited = may_visit (ap not c.if-not-visit.false) c.visit.ensures in
     let given = c.value_at-value.ensures in
-    let at : ℤ = value (get_or c.args.state.now 6 0) (front c.args.state.now c.args.readings.now) (take c.args.i c.args.path.now) in
+    let at : ℤ = value c.args.state.now.count.m (front c.args.state.now.count c.args.readings.now) (take c.args.i c.args.path.now) in
     let is : to_z w32 (of_z w32 c.value_at-value.result) ≡ at = to_z-of_z {w = w32} (record { sfits = c.value_at-value.type_inv })
     ∙ value-is a.0 a.1 visited given in
     let first : c.hard-first.result ≡ hard at = c.hard-first.ensures.0 ∙ ap hard is in
     let other : c.args.penalty + c.loss.result ≡ c.args.penalty + loss at (1 - hard at) =
     ap (λ (n : ℕ). c.args.penalty + n) (c.loss.ensures ∙ ap₂ (λ (v : ℤ) (b : ℕ). loss v (1 - b)) is first) in
     let put : c.put.new.path ≡ set c.args.path.now c.args.i (hard at) = c.put.ensures ∙ ap (set c.args.path.now c.args.i) first in
-    let gone : drops (seen c.value_at-value.new.state) (c.args.penalty + c.loss.result) ≡ true = sym c.dropped-gone.ensures ∙ c.if-gone.true in
+    let gone : drops c.args.state.now (c.args.penalty + c.loss.result) ≡ true = sym c.dropped-gone.ensures ∙ c.if-gone.true in
     let n = c.hard_here-n.result in
     let block = c.hard_here-n.ensures.1 in
-    let counted = subst (λ (σ : List ℕ). (c.visits.result ≡ allows_more (n + n - 1) σ) × Shows c.visits.new.state (counted_by (n + n - 1) (seen σ)))
-    c.hard_here-n.ensures.0 c.visits.ensures in
-    let may : allows_more (n + n - 1) c.value_at-value.new.state ≡ true = sym counted.0 ∙ c.if-not-visits.false in
+    let counted = subst (λ (w : Progress). (c.visit_many.result ≡ allows_more (n + n - 1) w.count) × (c.visit_many.new.self ≡ counted_by (n + n - 1) w.count))
+    c.hard_here-n.ensures.0 c.visit_many.ensures in
+    let may : allows_more (n + n - 1) c.value_at-value.new.count ≡ true = sym counted.0 ∙ c.if-not-visit_many.false in
     let same = hard_m a.0 a.1 visited given a.2 put block other gone counted.1 may in
-    let later : c.args.i < c.args.i + c.wide.result = omega (arith, c.wide.ensures, (block-length block).0) in (
+    let later : c.args.i < c.args.i + n = omega (arith, (block-length block).0) in
+    let args = c.args in (
       omega (arith, c.decreases, information_call c.args.kinds.now same c.args.i _ a.0.ready.long_kinds a.1 a.2 later),
-      behind_asked a.0 a.1 visited given a.2 put block other gone counted.1 may c.wide.ensures,
+      subst (λ (w : Progress). StepAsked args.readings.now args.kinds.now c.value_at-value.new.rows c.hard_here-n.new.path args.best.now args.second.now
+          (with_count w c.visit_many.new.self) (args.i + n) args.penalty) (sym c.hard_here-n.ensures.0)
+          (behind_asked a.0 a.1 visited given a.2 put block other gone counted.1 may refl),
     )
 
 pub info_step-returns-then-gone : goal.info_step-returns-then-gone
@@ -230,20 +237,24 @@ info_step-returns-then-gone t c =
     let a = c.requires in
     let visited = may_visit (ap not c.if-not-visit.false) c.visit.ensures in
     let given = c.value_at-value.ensures in
-    let at : ℤ = value (get_or c.args.state.now 6 0) (front c.args.state.now c.args.readings.now) (take c.args.i c.args.path.now) in
+    let at : ℤ = value c.args.state.now.count.m (front c.args.state.now.count c.args.readings.now) (take c.args.i c.args.path.now) in
     let is : to_z w32 (of_z w32 c.value_at-value.result) ≡ at = to_z-of_z {w = w32} (record { sfits = c.value_at-value.type_inv })
     ∙ value-is a.0 a.1 visited given in
     let first : c.hard-first.result ≡ hard at = c.hard-first.ensures.0 ∙ ap hard is in
     let other : c.args.penalty + c.loss.result ≡ c.args.penalty + loss at (1 - hard at) =
     ap (λ (n : ℕ). c.args.penalty + n) (c.loss.ensures ∙ ap₂ (λ (v : ℤ) (b : ℕ). loss v (1 - b)) is first) in
     let put : c.put.new.path ≡ set c.args.path.now c.args.i (hard at) = c.put.ensures ∙ ap (set c.args.path.now c.args.i) first in
-    let gone : drops (seen c.value_at-value.new.state) (c.args.penalty + c.loss.result) ≡ true = sym c.dropped-gone.ensures ∙ c.if-gone.true in
+    let gone : drops c.args.state.now (c.args.penalty + c.loss.result) ≡ true = sym c.dropped-gone.ensures ∙ c.if-gone.true in
     let n = c.hard_here-n.result in
     let block = c.hard_here-n.ensures.1 in
-    let counted = subst (λ (σ : List ℕ). (c.visits.result ≡ allows_more (n + n - 1) σ) × Shows c.visits.new.state (counted_by (n + n - 1) (seen σ)))
-    c.hard_here-n.ensures.0 c.visits.ensures in
-    let may : allows_more (n + n - 1) c.value_at-value.new.state ≡ true = sym counted.0 ∙ c.if-not-visits.false in
-    behind_given a.0 a.1 visited given a.2 put block other gone counted.1 may c.wide.ensures c.frozen_step.ensures
+    let counted = subst (λ (w : Progress). (c.visit_many.result ≡ allows_more (n + n - 1) w.count) × (c.visit_many.new.self ≡ counted_by (n + n - 1) w.count))
+    c.hard_here-n.ensures.0 c.visit_many.ensures in
+    let may : allows_more (n + n - 1) c.value_at-value.new.count ≡ true = sym counted.0 ∙ c.if-not-visit_many.false in
+    let args = c.args in
+    let f = c.frozen_step in
+    behind_given a.0 a.1 visited given a.2 put block other gone counted.1 may refl
+    (subst (λ (w : Progress). StepGiven args.readings.now args.kinds.now c.hard_here-n.new.path args.best.now args.second.now
+    (with_count w c.visit_many.new.self) (args.i + n) args.penalty f.new.rows f.new.path f.new.best f.new.second f.new.state) c.hard_here-n.ensures.0 f.ensures)
 
 -- the other bit is not dropped yet: first the step below
 pub info_step-frozen_step-requires-2 : goal.info_step-frozen_step-requires-2
@@ -251,7 +262,7 @@ info_step-frozen_step-requires-2 t c =
     let a = c.requires in
     let visited = may_visit (ap not c.if-not-visit.false) c.visit.ensures in
     let given = c.value_at-value.ensures in
-    let at : ℤ = value (get_or c.args.state.now 6 0) (front c.args.state.now c.args.readings.now) (take c.args.i c.args.path.now) in
+    let at : ℤ = value c.args.state.now.count.m (front c.args.state.now.count c.args.readings.now) (take c.args.i c.args.path.now) in
     let is : to_z w32 (of_z w32 c.value_at-value.result) ≡ at = to_z-of_z {w = w32} (record { sfits = c.value_at-value.type_inv })
     ∙ value-is a.0 a.1 visited given in
     let first : c.hard-first.result ≡ hard at = c.hard-first.ensures.0 ∙ ap hard is in
@@ -271,7 +282,7 @@ info_step-returns-then-not-visit-2 t c =
     let a = c.requires in
     let visited = may_visit (ap not c.if-not-visit.false) c.visit.ensures in
     let given = c.value_at-value.ensures in
-    let at : ℤ = value (get_or c.args.state.now 6 0) (front c.args.state.now c.args.readings.now) (take c.args.i c.args.path.now) in
+    let at : ℤ = value c.args.state.now.count.m (front c.args.state.now.count c.args.readings.now) (take c.args.i c.args.path.now) in
     let is : to_z w32 (of_z w32 c.value_at-value.result) ≡ at = to_z-of_z {w = w32} (record { sfits = c.value_at-value.type_inv })
     ∙ value-is a.0 a.1 visited given in
     let first : c.hard-first.result ≡ hard at = c.hard-first.ensures.0 ∙ ap hard is in
@@ -289,7 +300,7 @@ info_step-returns-then-dropped t c =
     let a = c.requires in
     let visited = may_visit (ap not c.if-not-visit.false) c.visit.ensures in
     let given = c.value_at-value.ensures in
-    let at : ℤ = value (get_or c.args.state.now 6 0) (front c.args.state.now c.args.readings.now) (take c.args.i c.args.path.now) in
+    let at : ℤ = value c.args.state.now.count.m (front c.args.state.now.count c.args.readings.now) (take c.args.i c.args.path.now) in
     let is : to_z w32 (of_z w32 c.value_at-value.result) ≡ at = to_z-of_z {w = w32} (record { sfits = c.value_at-value.type_inv })
     ∙ value-is a.0 a.1 visited given in
     let first : c.hard-first.result ≡ hard at = c.hard-first.ensures.0 ∙ ap hard is in
@@ -310,7 +321,7 @@ info_step-frozen_step-requires-3 t c =
     let a = c.requires in
     let visited = may_visit (ap not c.if-not-visit.false) c.visit.ensures in
     let given = c.value_at-value.ensures in
-    let at : ℤ = value (get_or c.args.state.now 6 0) (front c.args.state.now c.args.readings.now) (take c.args.i c.args.path.now) in
+    let at : ℤ = value c.args.state.now.count.m (front c.args.state.now.count c.args.readings.now) (take c.args.i c.args.path.now) in
     let is : to_z w32 (of_z w32 c.value_at-value.result) ≡ at = to_z-of_z {w = w32} (record { sfits = c.value_at-value.type_inv })
     ∙ value-is a.0 a.1 visited given in
     let first : c.hard-first.result ≡ hard at = c.hard-first.ensures.0 ∙ ap hard is in
@@ -336,7 +347,7 @@ info_step-returns t c =
     let a = c.requires in
     let visited = may_visit (ap not c.if-not-visit.false) c.visit.ensures in
     let given = c.value_at-value.ensures in
-    let at : ℤ = value (get_or c.args.state.now 6 0) (front c.args.state.now c.args.readings.now) (take c.args.i c.args.path.now) in
+    let at : ℤ = value c.args.state.now.count.m (front c.args.state.now.count c.args.readings.now) (take c.args.i c.args.path.now) in
     let is : to_z w32 (of_z w32 c.value_at-value.result) ≡ at = to_z-of_z {w = w32} (record { sfits = c.value_at-value.type_inv })
     ∙ value-is a.0 a.1 visited given in
     let first : c.hard-first.result ≡ hard at = c.hard-first.ensures.0 ∙ ap hard is in
@@ -353,5 +364,5 @@ info_step-returns t c =
     let other_put : c.put-2.new.path ≡ set f.new.path c.args.i (1 - hard at) =
     c.put-2.ensures ∙ ap (λ (b : ℕ). set f.new.path c.args.i (1 - b)) first in
     let e = c.frozen_step-3.ensures in
-    second-given a.0 a.1 a.2 f.new.state extended again e.long
+    second-given a.0 a.1 a.2 f.new.state extended again
     (deeper_given a.0 a.1 again (1 - hard at) (omega arith) other undropped other_put e)

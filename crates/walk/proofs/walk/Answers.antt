@@ -1,29 +1,17 @@
 -- `walk`: the first step is asked and gives what the whole walk does; no row is made yet.
-use Prim.Native.Nat.{ℕ, ◌*◌, ◌%◌, ◌^◌}
-use native.Mathlib.Omega.{arith}
-use lib.IntN.{pos}
-use lib.ListN.{replicate, length-replicate}
-use lib.Pow.{pow_pos}
-use Rattle.memory.specs.TopLaws.{exponent_small}
+use Rattle.std.proofs.Common.{ℕ, sym, subst}
+use Rattle.std.specs.Prelude.{pos, replicate}
+use Rattle.std.proofs.lemmas.List.{length-replicate}
 use Rattle.words.specs.TransformLaws.{bits_zeros}
-use Rattle.walk.specs.StartLaws.{power_is, start_asked, start-given}
+use Rattle.walk.specs.declared.progress.Count.{Count}
+use Rattle.walk.specs.Progress.{none_yet, StepAsked}
+use Rattle.walk.specs.StartLaws.{start_asked}
 use Rattle.walk.proofs.walk.Goals as goal
-
-pub overflow_shl-state : goal.overflow_shl-state
-overflow_shl-state c = omega (arith, exponent_small c.args.m c.requires.1.room)
-
-pub overflow_sub-state : goal.overflow_sub-state
-overflow_sub-state c = omega (arith, power_is c.args.m c.requires.1.room, pow_pos c.args.m)
 
 pub frozen_step-requires : goal.frozen_step-requires
 frozen_step-requires c =
-    let g = c in
-    start_asked g.args.m ((1 * 2 ^ g.args.m) % 4294967296) g.args.allowed g.args.readings.now g.args.kinds.now
-    g.args.best.now g.args.second.now (power_is g.args.m g.requires.1.room) g.requires.0 g.requires.1
-    (replicate 256 (pos 0)) (replicate 256 0) (length-replicate {A = ℕ} 256 0) (bits_zeros 256)
-
-pub returns : goal.returns
-returns c =
-    let g = c in
-    start-given g.args.m ((1 * 2 ^ g.args.m) % 4294967296) g.args.allowed g.args.readings.now g.args.kinds.now
-    g.args.best.now g.args.second.now (power_is g.args.m g.requires.1.room) g.requires.0 c.frozen_step.ensures
+    let a = c.args in
+    subst (λ (k : Count). StepAsked a.readings.now a.kinds.now (replicate 256 (pos 0)) (replicate 256 0) a.best.now a.second.now
+    (record { held = 0; best = 0; second = none_yet; count = k }) 0 0) (sym c.start.ensures)
+    (start_asked a.m a.allowed a.readings.now a.kinds.now a.best.now a.second.now c.requires
+    (replicate 256 (pos 0)) (replicate 256 0) (length-replicate {A = ℕ} 256 0) (bits_zeros 256))
