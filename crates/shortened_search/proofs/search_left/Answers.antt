@@ -1,18 +1,12 @@
 -- Each return is the outcome after the tests that led there.
-use Rattle.std.specs.Prelude.{Ok, Err}
 use mathlib.Core.Path.{ap, sym, ◌∙◌}
 use Prim.Native.Nat.{ℕ}
 use lib.ListN.{length}
 use Rattle.numbers.specs.Sums.{sum}
 use Rattle.words.proofs.KindLaws.{length-kinds}
-use Rattle.code.specs.declared.Code.{Code}
 use Rattle.code.specs.Admitted.{admitted_by}
-use Rattle.search.specs.declared.WithRunnerUp.{WithRunnerUp}
-use Rattle.search.specs.RunnerUp.{runner_up_outcome_of, runner_up_outcome_by}
 use Rattle.shortened.specs.Outcome.{left_of}
 use Rattle.shortened.specs.OutcomeLaws.{allowed_over}
-use Rattle.shortened_search.specs.OutcomeLaws.{over-refused, over_answered}
-use borrow.Author.Rules.{rules}
 use Rattle.shortened_search.proofs.search_left.Goals as goal
 
 pub count_left-left-requires : goal.count_left-left-requires
@@ -27,23 +21,3 @@ search_sound-requires c =
     let n = length s.word.now in
     let is = sym c.in-Ok.is ∙ c.admit_for.ensures ∙ ap (λ (expected : ℕ). admitted_by s.code expected s.readings.now k n) c.count_left-left.ensures in
     (c.requires.1, (allowed_over s.code (sum ks) s.readings.now k n c.requires.0 c.in-Ok.field-0 is).1)
-
-pub returns-in-Err : goal.returns-in-Err
-returns-in-Err c =
-    let s = c.args in
-    let ks = left_of s.named.now s.code in
-    ap (λ (a : WithRunnerUp). runner_up_outcome_of a s.bits.now s.word.now) c.refused.ensures
-    ∙ over-refused ks s.code s.allowed s.readings.now s.bits.now s.word.now c.in-Err.why
-    (sym c.in-Err.is ∙ c.admit_for.ensures
-    ∙ ap (λ (expected : ℕ). admitted_by s.code expected s.readings.now (length s.bits.now) (length s.word.now)) c.count_left-left.ensures)
-
-pub returns-in-Ok : goal.returns-in-Ok
-returns-in-Ok c =
-    let s = c.args in
-    let ks = left_of s.named.now s.code in
-    let k = length s.bits.now in
-    let n = length s.word.now in
-    let is = sym c.in-Ok.is ∙ c.admit_for.ensures ∙ ap (λ (expected : ℕ). admitted_by s.code expected s.readings.now k n) c.count_left-left.ensures in
-    let same = (allowed_over s.code (sum ks) s.readings.now k n c.requires.0 c.in-Ok.field-0 is).0 in
-    c.search_sound.ensures ∙ ap (λ (d : Code). runner_up_outcome_by d.m ks s.readings.now s.allowed s.bits.now s.word.now) (sym same)
-    ∙ over_answered ks s.code s.allowed s.readings.now s.bits.now s.word.now c.in-Ok.field-0 is

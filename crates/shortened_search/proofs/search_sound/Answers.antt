@@ -1,22 +1,12 @@
 -- The kinds that are left and the readings are at the fronts of arrays of 256.
-use mathlib.Core.Path.{refl, ap₂, ◌∙◌}
-use mathlib.Core.List.{List}
-use Prim.Native.Nat.{ℕ, ◌^◌}
-use native.Mathlib.Omega.{arith}
-use lib.IntN.{ℤ}
+use mathlib.Core.Path.{refl, ◌∙◌}
+use Prim.Native.Nat.{◌^◌}
 use Rattle.words.proofs.KindLaws.{length-kinds}
-use Rattle.code.specs.SoundLaws.{length_most}
-use Rattle.search.specs.RunnerUp.{runner_up_outcome_by}
 use Rattle.shortened.specs.Outcome.{left_of}
 use Rattle.shortened.specs.WorkLaws.{long_left, zeros-lent}
 use Rattle.search.specs.WorkLaws.{front-is}
 use Rattle.shortened_search.specs.OutcomeLaws.{left_searchable}
-use borrow.Author.Rules.{rules}
 use Rattle.shortened_search.proofs.search_sound.Goals as goal
-
-pub slice_bounds-kinds-end : goal.slice_bounds-kinds-end
-slice_bounds-kinds-end c =
-    omega (arith, length_most c.requires.1.sound, c.length-n.ensures)
 
 pub put_left-requires : goal.put_left-requires
 put_left-requires c =
@@ -26,10 +16,6 @@ put_left-requires c =
       zeros-lent s.code _ c.requires.1.sound
           c.length-n.ensures,
     )
-
-pub slice_bounds-own-end : goal.slice_bounds-own-end
-slice_bounds-own-end c =
-    omega (arith, length_most c.requires.1.sound, c.length-n.ensures)
 
 pub search_kinds-result-requires : goal.search_kinds-result-requires
 search_kinds-result-requires c =
@@ -41,14 +27,3 @@ search_kinds-result-requires c =
     let readings_are = front-is copied.new.to _ s.readings.now n copied.ensures c.requires.1.entries.long in
     let named = s.named.now in
     (refl, left_searchable s.code named _ s.readings.now _ s.bits.now s.word.now kinds_are readings_are c.requires.0 c.requires.1)
-
-pub returns : goal.returns
-returns c =
-    let s = c.args in
-    let put = c.put_left in
-    let copied = c.copy in
-    let m = s.code.m in
-    c.search_kinds-result.ensures
-    ∙ ap₂ (λ (ks : List ℕ) (x : List ℤ). runner_up_outcome_by m ks x s.allowed s.bits.now s.word.now)
-    (front-is put.new.row _ (left_of s.named.now s.code) (2 ^ m) put.ensures (long_left s.named.now s.code))
-    (front-is copied.new.to _ s.readings.now (2 ^ m) copied.ensures c.requires.1.entries.long)

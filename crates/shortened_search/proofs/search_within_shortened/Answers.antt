@@ -1,12 +1,11 @@
 -- Each return is the outcome after the row's tests.
-use Rattle.std.specs.Prelude.{Ok, Err}
+use Rattle.std.specs.Prelude.{Ok}
 use mathlib.Core.Path.{◌≡◌, ap, sym, ◌∙◌}
 use Rattle.named.specs.Named.{row_admitted}
 use Rattle.named.specs.NamedLaws.{allowed_row}
 use Rattle.search.specs.declared.WithRunnerUp.{WithRunnerUp}
 use Rattle.search.specs.RunnerUp.{runner_up_outcome_of}
 use Rattle.shortened_search.specs.OutcomeLaws.{searching-refused, searching-left}
-use borrow.Author.Rules.{rules}
 use Rattle.shortened_search.proofs.search_within_shortened.Goals as goal
 use Rattle.shortened_search.proofs.search_within_shortened.Goals.{In-Ok}
 
