@@ -8,7 +8,8 @@ use Rattle.words.proofs.KindLaws.{length-kinds}
 use Rattle.code.specs.SoundLaws.{length_most}
 use Rattle.search.specs.RunnerUp.{runner_up_outcome_by}
 use Rattle.shortened.specs.Outcome.{left_of}
-use Rattle.shortened.specs.WorkLaws.{long_left, zeros-lent}
+use Rattle.encode.specs.WorkLaws.{zeros-lent}
+use Rattle.shortened.specs.WorkLaws.{long_left}
 use Rattle.search.specs.WorkLaws.{front-is}
 use Rattle.shortened_search.specs.OutcomeLaws.{left_searchable}
 use borrow.Author.Rules.{rules}
