@@ -68,7 +68,7 @@ digit-more : (q i k : ℕ) → i < 2 ^ q → digit k (2 ^ q + i) ≡ digit k i +
 digit-more q i k h =
     ⊎_elim
     (λ l. second_alike q i k l ∙ sym (add-zero (digit k i)) ∙ ap (λ (n : ℕ). digit k i + n) (sym (is_other k q (λ e. omega arith))))
-    (λ l.
+    (λ (l : q ≤ k).
     ⊎_elim
     (λ (o : q < k).
     let more : 2 ^ suc q ≤ 2 ^ k = pow_mono o in

@@ -78,13 +78,7 @@ where_same f g v zero same = refl
 where_same f g v (suc n) same =
     ap₂ (λ (x i : ℕ). cond (eqb x v) n i) (same n (le_refl (suc n))) (where_same f g v n (λ i h. same i (omega arith)))
 
-false_true : {P : Type 0} (x : Bool) → x ≡ false → x ≡ true → P
-false_true x e f = let z : ◌≡◌ {A = ℕ} 0 1 = cc in absurd (omega arith)
-
 module _ (m : ℕ) (A b images places : List ℕ) where
-  pub not_taken : is_map m A b ≡ false → NotTaken m A b Map
-  not_taken e = record { bad = e; says_so = refl }
-
   module _ (n : ℕ) (is_n : n ≡ 2 ^ m) (table : length A ≤ first_bad_bit A) (row : length b ≤ first_bad_bit b)
       (s : Shows (image m A []) (2 ^ m) images) where
     tests_apart : all_apart (λ j. get_or images j 0) n ≡ is_map m A b
@@ -103,7 +97,7 @@ module _ (m : ℕ) (A b images places : List ℕ) where
         }
 
     pub not_apart_taken : false ≡ all_apart (λ j. get_or images j 0) n → NotTaken m A b Map
-    not_apart_taken is = not_taken (sym (is ∙ tests_apart))
+    not_apart_taken is = record { bad = sym (is ∙ tests_apart); says_so = refl }
 
 -- ---- a row as a table of one column
 pub row_number : (m : ℕ) (b : List ℕ) → number m (λ p. get_or b (p * 1 + 0) 0) ≡ number m (λ p. get_or b p 0)

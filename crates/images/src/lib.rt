@@ -71,6 +71,7 @@ pub fn is_long(m: u32, table: usize, row: usize) -> bool
 }
 
 // The number whose bit p is the entry at row p and column q of a table of m rows.
+// stays: Bits in clauses, since put_undo asks it of a row alone, and a type of maps a table too
 pub fn column(table: &[u8], width: usize, q: usize, m: usize) -> u8
     requires { (m ≤ largest_m) × (q < width)
         × (length table.now ≡ m * width) × Bits table.now }
@@ -94,13 +95,13 @@ fn add_column(images: &mut [u8; 256], h: usize, column: u8)
 }
 
 // The images of all positions under the table without the row.
-fn put_images(m: usize, table: &[u8], images: &mut [u8; 256])
-    requires { (m ≤ largest_m) × (length table.now ≡ m * m) × Bits table.now }
-    ensures { Shows (image m table.now []) (2 ^ m) images.new }
+fn put_images(map: &Map<'_>, images: &mut [u8; 256])
+    requires { Bits map.now.table.now }
+    ensures { Shows (image map.now.m map.now.table.now []) (2 ^ map.now.m) images.new }
 {
     images[0] = 0;
-    for q in 0..m {
-        add_column(images, 1 << q, column(table, m, q, m));
+    for q in 0..map.m {
+        add_column(images, 1 << q, column(map.table, map.m, q, map.m));
     }
 }
 
@@ -146,7 +147,7 @@ pub fn take_map(map: &Map<'_>, images: &mut Images) -> Result<(), Refusal>
     only_bits(map.table)?;
     only_bits(map.row)?;
     let n = 1 << map.m;
-    put_images(map.m, map.table, &mut images.image);
+    put_images(map, &mut images.image);
     put_places(n, &images.image, &mut images.place);
     if all_apart(n, &images.image, &images.place) {
         Ok(())
@@ -187,6 +188,7 @@ fn undo_columns(m: usize, places: &[u8; 256], columns: &mut [u8; 8])
 }
 
 // The undo map, by the places: its row is the position whose image is the row.
+// stays: out and outrow, since clauses on a struct of both would have to say that it still lends them
 pub fn put_undo(m: usize, places: &[u8; 256], row: &[u8], out: &mut [u8], outrow: &mut [u8])
     requires { Mapped m out.old outrow.old × (length row.now ≡ m) × Bits row.now }
     ensures { UndoPut m places.now row.now
@@ -200,13 +202,13 @@ pub fn put_undo(m: usize, places: &[u8; 256], row: &[u8], out: &mut [u8], outrow
 }
 
 // The columns of a product: the images of the second table's.
-fn product_columns(images: &[u8; 256], m: usize, table: &[u8], columns: &mut [u8; 8])
-    requires { (m ≤ largest_m) × (length table.now ≡ m * m) × Bits table.now }
-    ensures { Shows (λ q. get_or images.now
-        (number m (λ p. get_or table.now (p * m + q) 0)) 0) m columns.new }
+fn product_columns(images: &[u8; 256], second: &Map<'_>, columns: &mut [u8; 8])
+    requires { Bits second.now.table.now }
+    ensures { let second = second.now in Shows (λ q. get_or images.now
+        (number second.m (λ p. get_or second.table.now (p * second.m + q) 0)) 0) second.m columns.new }
 {
-    for q in 0..m {
-        columns[q] = images[usize::from(column(table, m, q, m))];
+    for q in 0..second.m {
+        columns[q] = images[usize::from(column(second.table, second.m, q, second.m))];
     }
 }
 
@@ -218,7 +220,7 @@ pub fn put_product(images: &[u8; 256], x: u8, second: &Map<'_>, out: &mut [u8], 
         out.new outrow.new }
 {
     let mut columns = [0; 8];
-    product_columns(images, second.m, second.table, &mut columns);
+    product_columns(images, second, &mut columns);
     spread(&columns, second.m, out);
     columns[0] = images[usize::from(column(second.row, 1, 0, second.m))] ^ x;
     spread(&columns, 1, outrow);

@@ -12,7 +12,7 @@ use Rattle.words.specs.Bits.{Bits}
 use Rattle.code.specs.declared.Refusal.{Refusal}
 use Rattle.code.specs.declared.Refusal.TheVariants.{Parameters, InputLength, OutputLength, Entry, Map}
 use Rattle.code.specs.Sound.{largest_m, largest_reading}
-use Rattle.code.specs.Entries.{first_above, first_bad_bit, first_bad_reading}
+use Rattle.code.specs.Entries.{first_above, first_bad_bit}
 use Rattle.code.specs.EntriesLaws.{first-none}
 use Rattle.code.specs.Demand1.{Checks, passed, check_at, LowestBad}
 use Rattle.code.specs.Demand1Laws.{Decides, demand_1, decides_entry}
@@ -22,14 +22,14 @@ use Rattle.maps.proofs.UndoLaws.{undoable_apart, undo_before, undo_after}
 use Rattle.maps.proofs.TestLaws.{can_undo_lem}
 use Rattle.images.specs.Images.{is_map, Mapped}
 use Rattle.images.specs.WorkLaws.{both_good, bits_map}
-use Rattle.reorder.specs.Outcome.{Outcome, done, refused, is_long, sized, map_tested, entry_tested, reordering, reordering_word, undoing, multiplying}
+use Rattle.reorder.specs.Outcome.{Outcome, done, refused, is_long, sized, map_tested, entry_tested, reordering_entries, reordering, reordering_word, undoing, multiplying}
 use Rattle.reorder.specs.Outcome.{undoing_long}
 use Rattle.reorder.specs.OutcomeLaws.{both_true, AllRight, sized_right, map_allowed}
-use Rattle.reorder.specs.Demands.{Good, LongMap, map_checks, reorder_checks, reorder_word_checks, undo_checks, product_checks, reorder_view}
+use Rattle.reorder.specs.Demands.{Good, LongMap, map_checks, entries_checks, reorder_checks, reorder_word_checks, undo_checks, product_checks, reorder_view}
 use Rattle.reorder.specs.Demands.{ReorderDemand1, ReorderDemands}
 
 -- ---- the test 11
-all_bits_lem : (l : List ℕ) → Bits l → length l ≤ first_bad_bit l
+pub all_bits_lem : (l : List ℕ) → Bits l → length l ≤ first_bad_bit l
 all_bits_lem l h = let place = first-none 0 (λ b. b) 1 l (length l) (λ j k. omega (arith, h j)) refl in omega (arith, place)
 
 pub map_exactly : (m : ℕ) (A b : List ℕ) → Mapped m A b → (is_map m A b ≡ true) ↔ Good m A b
@@ -176,25 +176,23 @@ module _ (m : ℕ) (A b : List ℕ) where
   with_entries : (n : ℕ) → (is_long m (length A) (length b) && eqb n (2 ^ m) ≡ true) ↔ (LongMap m A b × (n ≡ 2 ^ m))
   with_entries n = both_exactly (is_long m (length A) (length b)) (eqb n (2 ^ m)) (LongMap m A b) (n ≡ 2 ^ m) (long_exactly m A b) (equal_exactly n (2 ^ m))
 
-  reorder_met : (l out : List ℤ) → ReorderDemand1 (reorder_checks m A b l out) out (reordering m A b l out)
-  unfolding reordering
-  reorder_met l out =
-      let place = first_bad_reading largest_reading l in
-      let moved = reordered (pos 0) m A b l in
+  entries_met : {T : Type 0} (d : T) (size : T → ℕ) (limit : ℕ) (l out : List T)
+      → ReorderDemand1 (entries_checks d size limit m A b l out) out (reordering_entries d size limit m A b l out)
+  entries_met d size limit l out =
+      let place = first_above size limit l in
+      let moved = reordered d m A b l in
       met out m (is_long m (length A) (length b) && eqb (length l) (2 ^ m)) (eqb (length out) (2 ^ m)) (is_map m A b) (LongMap m A b × (length l ≡ 2 ^ m))
       (length out ≡ 2 ^ m) (Good m A b) (with_entries (length l)) (equal_exactly (length out) (2 ^ m)) (λ h p. good_exactly h p.0)
-      (entry_tested out place (length l) (done moved)) (check_at Entry (LowestBad (pos 0) nat_abs largest_reading l) passed)
-      (entry_decides out (pos 0) nat_abs largest_reading l moved) (kept_entry out place (length l) moved)
+      (entry_tested out place (length l) (done moved)) (check_at Entry (LowestBad d size limit l) passed)
+      (entry_decides out d size limit l moved) (kept_entry out place (length l) moved)
+
+  reorder_met : (l out : List ℤ) → ReorderDemand1 (reorder_checks m A b l out) out (reordering m A b l out)
+  unfolding reordering
+  reorder_met = entries_met (pos 0) nat_abs largest_reading
 
   reorder_word_met : (x out : List ℕ) → ReorderDemand1 (reorder_word_checks m A b x out) out (reordering_word m A b x out)
   unfolding reordering_word
-  reorder_word_met x out =
-      let place = first_bad_bit x in
-      let moved = reordered 0 m A b x in
-      met out m (is_long m (length A) (length b) && eqb (length x) (2 ^ m)) (eqb (length out) (2 ^ m)) (is_map m A b) (LongMap m A b × (length x ≡ 2 ^ m))
-      (length out ≡ 2 ^ m) (Good m A b) (with_entries (length x)) (equal_exactly (length out) (2 ^ m)) (λ h p. good_exactly h p.0)
-      (entry_tested out place (length x) (done moved)) (check_at Entry (LowestBad 0 (λ b. b) 1 x) passed)
-      (entry_decides out 0 (λ b. b) 1 x moved) (kept_entry out place (length x) moved)
+  reorder_word_met = entries_met 0 (λ b. b) 1
 
   undo_met : (C c : List ℕ) → ReorderDemand1 (undo_checks m A b C c) (C, c) (undoing m A b C c)
   unfolding undoing

@@ -25,14 +25,16 @@ abbrev pub map_checks : ℕ → Type 0 → Type 0 → Type 0 → Checks → Chec
 map_checks m inputs outputs maps rest =
     check Parameters (largest_m < m) (check InputLength (inputs → ⊥) (check OutputLength (outputs → ⊥) (check Map (maps → ⊥) rest)))
 
+-- on entries of which none may have a size above the limit
+abbrev pub entries_checks : {T : Type 0} → T → (T → ℕ) → ℕ → ℕ → List ℕ → List ℕ → List T → List T → Checks
+entries_checks d size limit m A b l out =
+    map_checks m (LongMap m A b × (length l ≡ 2 ^ m)) (length out ≡ 2 ^ m) (Good m A b) (check_at Entry (LowestBad d size limit l) passed)
+
 abbrev pub reorder_checks : ℕ → List ℕ → List ℕ → List ℤ → List ℤ → Checks
-reorder_checks m A b l out =
-    map_checks m (LongMap m A b × (length l ≡ 2 ^ m)) (length out ≡ 2 ^ m) (Good m A b)
-    (check_at Entry (LowestBad (pos 0) nat_abs largest_reading l) passed)
+reorder_checks = entries_checks (pos 0) nat_abs largest_reading
 
 abbrev pub reorder_word_checks : ℕ → List ℕ → List ℕ → List ℕ → List ℕ → Checks
-reorder_word_checks m A b x out =
-    map_checks m (LongMap m A b × (length x ≡ 2 ^ m)) (length out ≡ 2 ^ m) (Good m A b) (check_at Entry (LowestBad 0 (λ b. b) 1 x) passed)
+reorder_word_checks = entries_checks 0 (λ b. b) 1
 
 abbrev pub undo_checks : ℕ → List ℕ → List ℕ → List ℕ → List ℕ → Checks
 undo_checks m A b C c = map_checks m (LongMap m A b) (LongMap m C c) (Good m A b) passed

@@ -48,14 +48,6 @@ abbrev pub reordering_entries_long : {T : Type 0} → T → (T → ℕ) → ℕ 
 reordering_entries_long d size limit m A b l out =
     map_tested out (is_map m A b) (entry_tested out (first_above size limit l) (length l) (done (reordered d m A b l)))
 
--- with readings
-abbrev pub reordering_long : ℕ → List ℕ → List ℕ → List ℤ → List ℤ → Outcome (List ℤ)
-reordering_long = reordering_entries_long (pos 0) nat_abs largest_reading
-
--- with a word
-abbrev pub reordering_word_long : ℕ → List ℕ → List ℕ → List ℕ → List ℕ → Outcome (List ℕ)
-reordering_word_long = reordering_entries_long 0 (λ b. b) 1
-
 -- from m, a table, a row, and the buffers for those of the undo map
 abbrev pub undoing_long : ℕ → List ℕ → List ℕ → List ℕ → List ℕ → Outcome (List ℕ × List ℕ)
 undoing_long m A b C c = map_tested (C, c) (is_map m A b) (done (undo_table m A, undo_row m A b))

@@ -5,7 +5,7 @@ use Rattle.std.proofs.Common.{ap, sym, ◌∙◌, arith}
 use Rattle.words.specs.Bits.{Bits}
 use Rattle.decoding.specs.Readings.{Within}
 use Rattle.code.specs.Sound.{largest_reading}
-use Rattle.code.specs.Entries.{first_bad_bit, first_bad_reading}
+use Rattle.code.specs.Entries.{first_bad_reading}
 use Rattle.code.specs.EntriesLaws.{first-none}
 use Rattle.maps.specs.Maps.{Undoable, image, reordered, product_table, product_row, undo_table, undo_row}
 use Rattle.maps.specs.PositionOrders.{Orders}
@@ -17,14 +17,11 @@ use Rattle.images.specs.Images.{Mapped}
 use Rattle.reorder.specs.Outcome.{Outcome, done, reordering, reordering_word, undoing, multiplying}
 use Rattle.reorder.specs.Demands.{Good, LongMap, OneThenAnother, Call, ByProduct, Restored, SameCode}
 use Rattle.reorder.specs.OutcomeLaws.{reordering_does, undoing_does, multiplying_does}
-use Rattle.reorder.specs.Demand1Met.{map_exactly}
+use Rattle.reorder.specs.Demand1Met.{all_bits_lem, map_exactly}
 use Rattle.reorder.specs.DemandsMet.{CallDone, reorder_done, reorder_word_done}
 
 all_within : (l : List ℤ) → Within largest_reading l → length l ≤ first_bad_reading largest_reading l
 all_within l h = let place = first-none (pos 0) nat_abs largest_reading l (length l) (λ j k. h j) refl in omega (arith, place)
-
-all_bits_lem : (l : List ℕ) → Bits l → length l ≤ first_bad_bit l
-all_bits_lem l h = let place = first-none 0 (λ b. b) 1 l (length l) (λ j k. omega (arith, h j)) refl in omega (arith, place)
 
 -- if no test applies
 reorder_does : (m : ℕ) (A b : List ℕ) (l out : List ℤ) → Mapped m A b → Good m A b → length l ≡ 2 ^ m → Within largest_reading l → length out ≡ 2 ^ m

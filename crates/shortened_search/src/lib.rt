@@ -91,7 +91,7 @@ fn search_sound(
     let mut own = [0i16; 256];
     let n = code.length();
     named::put_left(code, named, &mut kinds[0..n]);
-    search::copy_readings(readings, &mut own[0..n]);
+    bit_rows::copy(readings, &mut own[0..n]);
     let mut runner_up = [0u8; 256];
     let result = search::search_kinds(&own, &kinds, code.m, allowed, bits, word, &mut runner_up);
     WithRunnerUp { result, runner_up }

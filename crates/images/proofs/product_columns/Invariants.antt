@@ -6,4 +6,4 @@ use Rattle.images.proofs.product_columns.Given as goal
 
 abbrev pub invariant-loop-q : goal.invariant-loop-q
 invariant-loop-q l =
-    Shows (λ k. get_or l.images (number l.m (λ p. get_or l.table (p * l.m + k) 0)) 0) l.q l.columns × (length l.columns ≡ 8)
+    Shows (λ k. get_or l.images (number l.second.m (λ p. get_or l.second.table.now (p * l.second.m + k) 0)) 0) l.q l.columns × (length l.columns ≡ 8)

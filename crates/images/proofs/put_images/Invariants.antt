@@ -5,4 +5,4 @@ use Rattle.images.specs.Images.{Shows}
 use Rattle.images.proofs.put_images.Given as goal
 
 abbrev pub invariant-loop-q : goal.invariant-loop-q
-invariant-loop-q l = Shows (image l.m l.table []) (2 ^ l.q) l.images
+invariant-loop-q l = Shows (image l.map.m l.map.table.now []) (2 ^ l.q) l.images

@@ -7,10 +7,7 @@ use Rattle.images.specs.WorkLaws.{taken, not_apart_taken}
 use Rattle.images.proofs.take_map.Goals as goal
 
 pub put_images-requires : goal.put_images-requires
-put_images-requires c =
-    let map = c.args.map.now in
-    let good : length map.table.now ≤ first_bad_bit map.table.now = c.in_ok-only_bits.ensures in
-    (map.mapped.small, map.mapped.table_long, good_bits map.table.now good)
+put_images-requires c = good_bits c.args.map.now.table.now c.in_ok-only_bits.ensures
 
 pub returns-then-all_apart : goal.returns-then-all_apart
 returns-then-all_apart c =

@@ -8,7 +8,8 @@ use Rattle.words.proofs.KindLaws.{length-kinds}
 use Rattle.code.specs.SoundLaws.{length_most}
 use Rattle.search.specs.RunnerUp.{runner_up_outcome_by}
 use Rattle.shortened.specs.Outcome.{left_of}
-use Rattle.shortened.specs.WorkLaws.{long_left, zeros-lent}
+use Rattle.encode.specs.WorkLaws.{zeros-lent}
+use Rattle.shortened.specs.WorkLaws.{long_left}
 use Rattle.search.specs.WorkLaws.{front-is}
 use Rattle.shortened_search.specs.OutcomeLaws.{left_searchable}
 use borrow.Author.Rules.{rules}
@@ -16,49 +17,39 @@ use Rattle.shortened_search.proofs.search_sound.Goals as goal
 
 pub slice_bounds-kinds-end : goal.slice_bounds-kinds-end
 slice_bounds-kinds-end c =
-    let c4 = c in
-    omega (arith, length_most c4.requires.1.sound, c.length-n.ensures)
+    omega (arith, length_most c.requires.1.sound, c.length-n.ensures)
 
 pub put_left-requires : goal.put_left-requires
 put_left-requires c =
-    let start = c in
-    let s = start.args in (
-      start.requires.1.sound,
-      start.requires.0.long ∙ length-kinds s.code.r s.code.m,
-      zeros-lent s.code _ start.requires.1.sound
+    let s = c.args in (
+      c.requires.1.sound,
+      c.requires.0.long ∙ length-kinds s.code.r s.code.m,
+      zeros-lent s.code _ c.requires.1.sound
           c.length-n.ensures,
     )
 
 pub slice_bounds-own-end : goal.slice_bounds-own-end
 slice_bounds-own-end c =
-    let c7 = c in
-    omega (arith, length_most c7.requires.1.sound, c.length-n.ensures)
+    omega (arith, length_most c.requires.1.sound, c.length-n.ensures)
 
 pub search_kinds-result-requires : goal.search_kinds-result-requires
 search_kinds-result-requires c =
-    let c5 = c in
-    let c8 = c5 in
-    let start = c8 in
-    let s = start.args in
-    let put = c8.put_left in
-    let copied = c5.copy_readings in
+    let s = c.args in
+    let put = c.put_left in
+    let copied = c.copy in
     let n = 2 ^ s.code.m in
     let kinds_are = front-is put.new.row _ (left_of s.named.now s.code) n put.ensures (long_left s.named.now s.code) in
-    let readings_are = front-is copied.new.to _ s.readings.now n copied.ensures start.requires.1.entries.long in
+    let readings_are = front-is copied.new.to _ s.readings.now n copied.ensures c.requires.1.entries.long in
     let named = s.named.now in
-    (refl, left_searchable s.code named _ s.readings.now _ s.bits.now s.word.now kinds_are readings_are start.requires.0 start.requires.1)
+    (refl, left_searchable s.code named _ s.readings.now _ s.bits.now s.word.now kinds_are readings_are c.requires.0 c.requires.1)
 
 pub returns : goal.returns
 returns c =
-    let c4 = c in
-    let c10 = c4 in
-    let c13 = c10 in
-    let start = c13 in
-    let s = start.args in
-    let put = c13.put_left in
-    let copied = c10.copy_readings in
+    let s = c.args in
+    let put = c.put_left in
+    let copied = c.copy in
     let m = s.code.m in
-    c4.search_kinds-result.ensures
+    c.search_kinds-result.ensures
     ∙ ap₂ (λ (ks : List ℕ) (x : List ℤ). runner_up_outcome_by m ks x s.allowed s.bits.now s.word.now)
     (front-is put.new.row _ (left_of s.named.now s.code) (2 ^ m) put.ensures (long_left s.named.now s.code))
-    (front-is copied.new.to _ s.readings.now (2 ^ m) copied.ensures start.requires.1.entries.long)
+    (front-is copied.new.to _ s.readings.now (2 ^ m) copied.ensures c.requires.1.entries.long)

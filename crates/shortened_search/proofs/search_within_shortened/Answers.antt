@@ -8,7 +8,7 @@ use Rattle.search.specs.RunnerUp.{runner_up_outcome_of}
 use Rattle.shortened_search.specs.OutcomeLaws.{searching-refused, searching-left}
 use borrow.Author.Rules.{rules}
 use Rattle.shortened_search.proofs.search_within_shortened.Goals as goal
-use Rattle.shortened_search.proofs.search_within_shortened.Goals.{In-Allowed}
+use Rattle.shortened_search.proofs.search_within_shortened.Goals.{In-Ok}
 
 is_allowed : (c : In-Ok)
     → let s = c.args in
