@@ -25,9 +25,9 @@ read_numbers (Err why) = let c = carried why in numbers c.penalty 0 0 c.place
 
 -- ---- of a search's answer
 abbrev pub searched_number : Result Found Refusal → ℕ
-searched_number (FOUND penalty gap visits) = 0
+searched_number (Ok found) = 0
 searched_number (Err why) = (carried why).number
 
 abbrev pub searched_numbers : Result Found Refusal → List ℕ
-searched_numbers (FOUND penalty gap visits) = numbers penalty gap visits 0
+searched_numbers (Ok found) = numbers found.penalty found.gap found.visits 0
 searched_numbers (Err why) = let c = carried why in numbers c.penalty 0 c.visits c.place

@@ -24,7 +24,7 @@ reported-written answer word o returned out e f g =
 
 -- the two answers of a telegram's reader
 module _ (answer : Result Heard Fault) where
-  pub reported-shown : (t : Telegram) (p g v : ℕ) (out telegram : List ℕ) → answer ≡ SHOWN t p g v → out ≡ numbers p g v 0 → telegram ≡ fields t
+  pub reported-shown : (t : Telegram) (p g v : ℕ) (out telegram : List ℕ) → answer ≡ Ok (record { telegram = t; found = record { penalty = p; gap = g; visits = v } }) → out ≡ numbers p g v 0 → telegram ≡ fields t
       → reported 0 out (telegram ∷ []) ≡ shown_read (Tilt.outcome_of answer)
   reported-shown t p g v out telegram e f h = rw (e, f, h)
 
@@ -34,8 +34,8 @@ module _ (answer : Result Heard Fault) where
   reported-unread why number penalty visits place out e n p v a f = rw (e, f, n, p, v, a)
 
 -- and of the rod's
-module _ (answer : RodHeard.Heard) where
-  pub reported_position : (n p g : ℕ) (out : List ℕ) → answer ≡ SHOWN n p g → out ≡ numbers p g 0 0
+module _ (answer : Result RodHeard.Heard Fault) where
+  pub reported_position : (n p g : ℕ) (out : List ℕ) → answer ≡ Ok (record { position = n; penalty = p; gap = g }) → out ≡ numbers p g 0 0
       → reported 0 out ((n ∷ []) ∷ []) ≡ shown_rod (Rod.outcome_of answer)
   reported_position n p g out e f = rw (e, f)
 

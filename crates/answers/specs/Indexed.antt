@@ -4,12 +4,13 @@ use Rattle.code.specs.Sound.{carried}
 use Rattle.record.specs.Reader as Reader
 use Rattle.index.specs.declared.Index.{Index}
 use Rattle.index.specs.Making.{IndexOutcome, index_of}
-use Rattle.index.specs.Fronting.{FrontOutcome}
+use Rattle.index.specs.Fronting.{FrontOutcome, number_in}
 use Rattle.index.specs.Appending.{AppendOutcome}
 use Rattle.answers.specs.Reported.{Reported, reported}
 use Rattle.code.specs.declared.Code.{Code}
 use Rattle.code.specs.declared.Refusal.{Refusal}
 use Rattle.index.specs.declared.FrontIndex.{FrontIndex}
+use Rattle.index.specs.declared.Located.{Located}
 
 -- records and used: the header's struct
 abbrev pub pair : Index → List ℕ
@@ -35,6 +36,15 @@ entry_numbers h start n = let t = Reader.outcome_of h in t.r ∷ t.m ∷ start �
 abbrev pub shown_entry : Result Code Refusal → ℕ → List ℕ → Reported
 shown_entry h start part = reported (Reader.outcome_of h).carry.number (entry_numbers h start (length part)) []
 
+-- ---- of a record that was found, or not
+abbrev pub found_number : Result Located Refusal → ℕ
+found_number (Ok l) = 0
+found_number (Err why) = (carried why).number
+
+abbrev pub found_numbers : Result Located Refusal → List ℕ
+found_numbers (Ok l) = entry_numbers (Ok l.code) l.start l.length
+found_numbers (Err why) = entry_numbers (Err why) 0 0
+
 -- the new end and the place under 4; the index, which stays as it is on refusal; both buffers
 abbrev pub shown_appended : List ℕ → AppendOutcome → Reported
 shown_appended before o =
@@ -55,7 +65,7 @@ fronted_number (Ok front) = 0
 fronted_number (Err why) = (carried why).number
 
 abbrev pub fronted_numbers : Result FrontIndex Refusal → List ℕ
-fronted_numbers (Ok front) = front_numbers front.index front.ended
+fronted_numbers (Ok front) = front_numbers front.index (number_in front.ended)
 fronted_numbers (Err why) = 0 ∷ 0 ∷ 0 ∷ []
 
 abbrev pub appended_numbers : Result Index Refusal → List ℕ

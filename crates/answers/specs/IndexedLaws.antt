@@ -1,5 +1,5 @@
 -- The exports of an index report the outcomes of the calls that they make.
-use Rattle.std.specs.Prelude.{◌≡◌, refl, List, [], ◌∷◌, ℕ, length, Result, Ok, Err}
+use Rattle.std.specs.Prelude.{◌≡◌, refl, List, [], ◌∷◌, ℕ, length, drop, Result, Ok, Err}
 use Rattle.std.proofs.Common.{ap, ap₂, ◌∙◌, arith, ne_eqb}
 use Rattle.code.specs.Sound.{carried}
 use Rattle.code.specs.RefusalLaws.{number_above}
@@ -9,8 +9,10 @@ use Rattle.index.specs.Making.{IndexOutcome}
 use Rattle.index.specs.Fronting.{FrontOutcome, front_outcome_of}
 use Rattle.index.specs.Appending.{AppendOutcome, append_outcome_of}
 use Rattle.answers.specs.Reported.{reported}
-use Rattle.answers.specs.Answers.{header_number}
-use Rattle.answers.specs.Indexed.{shown_made, entry_numbers, shown_entry, shown_appended, indexed_number, made_numbers, appended_numbers, pair_after}
+use Rattle.record.specs.Reader.{header_of, part_by}
+use Rattle.index.specs.Finding.{start_in, header_at, part_at, header_in, part_in, part_after, part_start_at, part_start}
+use Rattle.index.specs.Finding.{located_by, located_at, located_in}
+use Rattle.answers.specs.Indexed.{shown_made, found_number, found_numbers, shown_entry, shown_appended, indexed_number, made_numbers, appended_numbers, pair_after}
 use Rattle.answers.specs.Indexed.{shown_front, fronted_number, fronted_numbers}
 use Rattle.code.specs.declared.Code.{Code}
 use Rattle.code.specs.declared.Refusal.{Refusal}
@@ -47,13 +49,24 @@ reported-appended before a d t o returned out after e f g h =
     ∙ by_appended before a d t
     ∙ ap (shown_appended before) e
 
-pub reported-entry : (answer : Located) (header : Result Code Refusal) (start : ℕ) (part out : List ℕ) (returned : ℕ)
-    → answer ≡ record { header = header; start = start; length = length part }
-    → returned ≡ header_number answer.header → out ≡ entry_numbers answer.header answer.start answer.length
-    → reported returned out [] ≡ shown_entry header start part
-reported-entry answer header start part out returned e f g =
+-- a record that was found: its header, where its packed part starts, and that part
+by_header : (h : Result Code Refusal) (start : ℕ) (s : List ℕ) → let a = located_by h (part_after h start) (length (part_by h s)) in
+    reported (found_number a) (found_numbers a) [] ≡ shown_entry h (part_after h start) (part_by h s)
+by_header (Ok c) start s = refl
+by_header (Err why) start s = refl
+
+by_found : (s : List ℕ) (p : Result ℕ Refusal) → let a = located_at s p in
+    reported (found_number a) (found_numbers a) [] ≡ shown_entry (header_at s p) (part_start_at s p) (part_at s p)
+by_found s (Err why) = refl
+by_found s (Ok start) = by_header (header_of (drop start s)) start (drop start s)
+
+pub reported-entry : (answer : Result Located Refusal) (s table : List ℕ) (w : ℕ) (out : List ℕ) (returned : ℕ) → answer ≡ located_in s table w
+    → returned ≡ found_number answer → out ≡ found_numbers answer
+    → reported returned out [] ≡ shown_entry (header_in s table w) (part_start s table w) (part_in s table w)
+reported-entry answer s table w out returned e f g =
     ap₂ (λ (n : ℕ) (l : List ℕ). reported n l []) f g
-    ∙ ap (λ (k : Located). reported (header_number k.header) (entry_numbers k.header k.start k.length) []) e
+    ∙ ap (λ (a : Result Located Refusal). reported (found_number a) (found_numbers a) []) e
+    ∙ by_found s (start_in s table w)
 
 -- what an append reports, by its variant
 pub handed_append : (before : List ℕ) (answer a : Result Index Refusal) (returned : ℕ) (after out : List ℕ) → answer ≡ a

@@ -47,7 +47,7 @@ reported-read answer bits word o returned out e f g =
 
 by_answer_lem : (answer : Result Found Refusal) (bits word : List ℕ)
     → reported (searched_number answer) (searched_numbers answer) (bits ∷ word ∷ []) ≡ shown_search (Search.outcome_of answer bits word)
-by_answer_lem (FOUND penalty gap visits) bits word = refl
+by_answer_lem (Ok found) bits word = refl
 by_answer_lem (Err why) bits word = refl
 
 pub reported-searched : (answer : Result Found Refusal) (bits word : List ℕ) (o : Search.Outcome) (returned : ℕ) (out : List ℕ)
@@ -60,7 +60,7 @@ reported-searched answer bits word o returned out e f g =
 by_runner_up : (answer : Result Found Refusal) (bits word shown : List ℕ)
     → reported (searched_number answer) (searched_numbers answer) (bits ∷ word ∷ shown ∷ []) ≡
     shown_with_runner_up (beside (Search.outcome_of answer bits word) shown)
-by_runner_up (FOUND penalty gap visits) bits word shown = refl
+by_runner_up (Ok found) bits word shown = refl
 by_runner_up (Err why) bits word shown = refl
 
 pub reported-runner_up : (answer : WithRunnerUp) (bits word shown : List ℕ) (o : RunnerUpOutcome) (returned : ℕ) (out : List ℕ)

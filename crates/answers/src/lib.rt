@@ -12,7 +12,7 @@ ghost use Rattle.answers.specs.Answers.{read_number, read_numbers};
 ghost use Rattle.answers.specs.Answers.{searched_number, searched_numbers};
 ghost use Rattle.answers.specs.Answers.{header_number, header_numbers};
 ghost use Rattle.answers.specs.EarlyLaws.{answered_number, answered_numbers};
-ghost use Rattle.answers.specs.Indexed.{indexed_number, made_numbers, entry_numbers};
+ghost use Rattle.answers.specs.Indexed.{pair, indexed_number, made_numbers, found_number, found_numbers};
 ghost use Rattle.answers.specs.Indexed.{appended_numbers, pair_after};
 ghost use Rattle.answers.specs.Indexed.{fronted_number, fronted_numbers};
 ghost use Rattle.answers.specs.Written.{wrote_number, wrote_numbers};
@@ -20,31 +20,23 @@ ghost use Rattle.answers.specs.Guarded.{written_number, fields, shown_read, show
 
 use code::{Code, Refusal};
 use guarded::Fault;
-use index::{FrontIndex, Index};
+use index::{FrontIndex, Index, Located};
 use search::{Found, WithRunnerUp};
-use telegram::{Heard, Telegram};
+use telegram::Heard;
 
 // Penalty, gap, visits and place.
+// stays: `as u64` at a usize, here and below, since no From gives a u64 of it
 pub fn put_numbers(out: &mut [u64; 4], penalty: u32, gap: u32, visits: u32, place: usize)
     ensures { out.new ≡ numbers penalty gap visits place }
 {
-    *out = [penalty as u64, gap as u64, visits as u64, place as u64];
+    *out = [penalty.into(), gap.into(), visits.into(), place as u64];
 }
 
-// A refusal by a call whose refusals show only their place.
-fn put_place(why: Refusal, out: &mut [u64; 4]) -> u32
-    ensures { (result ≡ (carried why).number)
-        × (out.new ≡ numbers 0 0 0 (carried why).place) }
-{
-    let shown = why.shown();
-    put_numbers(out, 0, 0, 0, shown.place);
-    shown.number
-}
-
-// A refusal by a search.
-fn put_refused(why: Refusal, out: &mut [u64; 4]) -> u32
-    ensures { (result ≡ (carried why).number) × (out.new
-        ≡ numbers (carried why).penalty 0 (carried why).visits (carried why).place) }
+// A refusal by a search, or a fault of a guarded word's reader, which may be that.
+fn put_refused(why: Fault, out: &mut [u64; 4]) -> u32
+    ensures { (result ≡ (fault_carries why).number) × (out.new
+        ≡ numbers (fault_carries why).penalty 0 (fault_carries why).visits
+        (fault_carries why).place) }
 {
     let shown = why.shown();
     put_numbers(out, shown.penalty, 0, shown.visits, shown.place);
@@ -61,7 +53,11 @@ pub fn put_completed(answer: Result<(), Refusal>, out: &mut [u64; 4]) -> u32
             put_numbers(out, 0, 0, 0, 0);
             0
         }
-        Err(why) => put_place(why, out),
+        Err(why) => {
+            let shown = why.shown();
+            put_numbers(out, 0, 0, 0, shown.place);
+            shown.number
+        }
     }
 }
 
@@ -91,7 +87,7 @@ pub fn put_searched(answer: Result<Found, Refusal>, out: &mut [u64; 4]) -> u32
             put_numbers(out, found.penalty, found.gap, found.visits, 0);
             0
         }
-        Err(why) => put_refused(why, out),
+        Err(why) => put_refused(why.into(), out),
     }
 }
 
@@ -121,54 +117,41 @@ pub fn put_answered(answer: Result<u32, Refusal>, out: &mut [u64; 4]) -> u32
             put_numbers(out, penalty, 0, 0, 0);
             0
         }
-        Err(why) => put_refused(why, out),
+        Err(why) => put_refused(why.into(), out),
     }
 }
 
 // r, m, the packed part's length and place.
-fn put_part(out: &mut [u64; 4], r: u32, m: u32, length: usize, place: usize)
-    ensures { out.new ≡ numbers r m length place }
-{
-    *out = [r as u64, m as u64, length as u64, place as u64];
-}
-
 pub fn put_header(header: Result<Code, Refusal>, length: usize, out: &mut [u64; 4]) -> u32
     ensures { (result ≡ header_number header)
         × (out.new ≡ header_numbers header length) }
 {
     match header {
         Ok(code) => {
-            put_part(out, code.r, code.m, length, 0);
+            *out = [code.r.into(), code.m.into(), length as u64, 0];
             0
         }
         Err(why) => {
             let shown = why.shown();
-            put_part(out, 0, 0, length, shown.place);
+            *out = [0, 0, length as u64, shown.place as u64];
             shown.number
         }
     }
 }
 
-// The place after the record, and a reading's place.
-fn put_places(out: &mut [u64; 2], next: usize, place: usize)
-    ensures { out.new ≡ next ∷ place ∷ [] }
-{
-    *out = [next as u64, place as u64];
-}
-
-// The place after a record that was written, or a refusal.
+// The place after a record that was written, and a reading's place under a refusal.
 pub fn put_wrote(answer: Result<usize, Refusal>, out: &mut [u64; 2]) -> u32
     ensures { (result ≡ wrote_number answer)
         × (out.new ≡ wrote_numbers answer) }
 {
     match answer {
         Ok(next) => {
-            put_places(out, next, 0);
+            *out = [next as u64, 0];
             0
         }
         Err(why) => {
             let shown = why.shown();
-            put_places(out, 0, shown.place);
+            *out = [0, shown.place as u64];
             shown.number
         }
     }
@@ -185,29 +168,8 @@ pub fn put_written(answer: Result<(), Fault>, out: &mut [u64; 4]) -> u32
     }
 }
 
-// A fault of a guarded word's reader, which may be the search's refusal.
-fn put_fault(why: Fault, out: &mut [u64; 4]) -> u32
-    ensures { (result ≡ (fault_carries why).number) × (out.new
-        ≡ numbers (fault_carries why).penalty 0 (fault_carries why).visits
-        (fault_carries why).place) }
-{
-    let shown = why.shown();
-    put_numbers(out, shown.penalty, 0, shown.visits, shown.place);
-    shown.number
-}
-
-// Cylinder, direction and tilt.
-fn put_telegram(out: &mut [u64; 3], t: Telegram)
-    ensures { out.new ≡ fields t }
-{
-    *out = [t.cylinder as u64, t.direction as u64, t.tilt as u64];
-}
-
-pub fn put_heard(
-    answer: Result<Heard, Fault>,
-    telegram: &mut [u64; 3],
-    out: &mut [u64; 4],
-) -> u32
+// Cylinder, direction and tilt go into numbers of their own.
+pub fn put_heard(answer: Result<Heard, Fault>, telegram: &mut [u64; 3], out: &mut [u64; 4]) -> u32
     ensures { reported result out.new (telegram.new ∷ [])
         ≡ shown_read (Tilt.outcome_of answer) }
 {
@@ -215,12 +177,13 @@ pub fn put_heard(
         Ok(heard) => {
             let found = heard.found;
             put_numbers(out, found.penalty, found.gap, found.visits, 0);
-            put_telegram(telegram, heard.telegram);
+            let t = heard.telegram;
+            *telegram = [t.cylinder.into(), t.direction.into(), t.tilt.into()];
             0
         }
         Err(why) => {
-            *telegram = [0, 0, 0];
-            put_fault(why, out)
+            *telegram = [0; 3];
+            put_refused(why, out)
         }
     }
 }
@@ -237,14 +200,21 @@ pub fn put_rod(
     match answer {
         Ok(heard) => {
             put_numbers(out, heard.penalty, heard.gap, 0, 0);
-            *position = [heard.position as u64];
+            *position = [heard.position.into()];
             0
         }
         Err(why) => {
             *position = [0];
-            put_fault(why, out)
+            put_refused(why, out)
         }
     }
+}
+
+// Records and used.
+fn pair(index: Index) -> [u64; 2]
+    ensures { result ≡ pair index }
+{
+    [index.records as u64, index.used as u64]
 }
 
 // The index that was made: records and used.
@@ -254,21 +224,14 @@ pub fn put_made(answer: Result<Index, Refusal>, out: &mut [u64; 2]) -> u32
 {
     match answer {
         Ok(index) => {
-            put_places(out, index.records, index.used);
+            *out = pair(index);
             0
         }
         Err(why) => {
-            put_places(out, 0, 0);
+            *out = [0; 2];
             why.shown().number
         }
     }
-}
-
-// Records and bytes at a capture's front, and the number of what ended them.
-fn put_three(out: &mut [u64; 3], records: usize, used: usize, ended: u32)
-    ensures { out.new ≡ records ∷ used ∷ ended ∷ [] }
-{
-    *out = [records as u64, used as u64, ended as u64];
 }
 
 // The index of a capture's front: records, used and ended.
@@ -278,71 +241,53 @@ pub fn put_front(answer: Result<FrontIndex, Refusal>, out: &mut [u64; 3]) -> u32
 {
     match answer {
         Ok(front) => {
-            put_three(out, front.index.records, front.index.used, front.ended);
+            let ended = front.ended.map_or(0, |why| why.shown().number);
+            let index = front.index;
+            *out = [index.records as u64, index.used as u64, ended.into()];
             0
         }
         Err(why) => {
-            put_three(out, 0, 0, 0);
+            *out = [0; 3];
             why.shown().number
         }
     }
 }
 
-// r, m, start, length and place.
-fn put_five(out: &mut [u64; 5], r: u32, m: u32, start: usize, length: usize, place: usize)
-    ensures { out.new ≡ r ∷ m ∷ start ∷ length ∷ place ∷ [] }
-{
-    *out = [
-        r as u64,
-        m as u64,
-        start as u64,
-        length as u64,
-        place as u64,
-    ];
-}
-
 // A record that was found, and where its packed part starts.
-pub fn put_entry(
-    header: Result<Code, Refusal>,
-    start: usize,
-    length: usize,
-    out: &mut [u64; 5],
-) -> u32
-    ensures { (result ≡ header_number header)
-        × (out.new ≡ entry_numbers header start length) }
+pub fn put_entry(answer: Result<Located, Refusal>, out: &mut [u64; 5]) -> u32
+    ensures { (result ≡ found_number answer) × (out.new ≡ found_numbers answer) }
 {
-    match header {
-        Ok(code) => {
-            put_five(out, code.r, code.m, start, length, 0);
+    match answer {
+        Ok(found) => {
+            let code = found.code;
+            let start = found.start as u64;
+            let length = found.length as u64;
+            *out = [code.r.into(), code.m.into(), start, length, 0];
             0
         }
         Err(why) => {
             let shown = why.shown();
-            put_five(out, 0, 0, start, length, shown.place);
+            *out = [0, 0, 0, 0, shown.place as u64];
             shown.number
         }
     }
 }
 
 // The index after an append, which stays as it is on refusal; the new end and the place under 4.
-pub fn put_appended(
-    answer: Result<Index, Refusal>,
-    index: &mut [u64; 2],
-    out: &mut [u64; 2],
-) -> u32
+pub fn put_appended(answer: Result<Index, Refusal>, index: &mut [u64; 2], out: &mut [u64; 2]) -> u32
     ensures { (result ≡ indexed_number answer)
         × (index.new ≡ pair_after index.old answer)
         × (out.new ≡ appended_numbers answer) }
 {
     match answer {
         Ok(after) => {
-            put_places(index, after.records, after.used);
-            put_places(out, after.used, 0);
+            *index = pair(after);
+            *out = [after.used as u64, 0];
             0
         }
         Err(why) => {
             let shown = why.shown();
-            put_places(out, 0, shown.place);
+            *out = [0, shown.place as u64];
             shown.number
         }
     }

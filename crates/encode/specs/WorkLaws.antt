@@ -1,6 +1,7 @@
 -- What the steps of the work require: a scratch array z of 256 bytes whose front, of n bytes, came back as k.
-use Rattle.std.specs.Prelude.{◌≡◌, List, ℕ, ◌-◌, ◌^◌, ◌≤◌, length}
-use Rattle.std.proofs.Common.{ap, ap₂, sym, ◌∙◌, arith}
+use Rattle.std.specs.Prelude.{◌≡◌, List, ℕ, ◌-◌, ◌^◌, ◌≤◌, length, take, replicate}
+use Rattle.std.proofs.Common.{ap, ap₂, sym, ◌∙◌, arith, length-take-le}
+use Rattle.std.proofs.Math.Nat.{sub-zero}
 use borrow.Rule.Slice.PartMut.{mid_of, put_mid, same_len_mid}
 use Rattle.numbers.specs.Sums.{sum}
 use Rattle.numbers.specs.Lent.{lent_again}
@@ -11,9 +12,17 @@ use Rattle.words.specs.Inverse.{taken_back}
 use Rattle.words.specs.TransformLaws.{length-transform}
 use Rattle.words.proofs.KindLaws.{length-kinds, sum-kinds, bits_kinds}
 use Rattle.words.proofs.FillLaws.{length-fill, bits_fill}
+use Rattle.code.specs.declared.Code.{Code}
+use Rattle.code.specs.Sound.{Sound}
+use Rattle.code.specs.SoundLaws.{length_most}
 use Rattle.encode.specs.Outcome.{Outcome, taking_back}
 use Rattle.encode.specs.Work.{taking_row}
 use Rattle.encode.specs.OutcomeLaws.{taking_word}
+
+-- n bytes of scratch
+pub zeros-lent : (c : Code) (n : ℕ) → Sound c → n ≡ 2 ^ c.m → length (take (n - 0) (replicate {A = ℕ} 256 0)) ≡ 2 ^ c.m
+zeros-lent c n s e =
+    ap (λ (k : ℕ). length (take k (replicate {A = ℕ} 256 0))) (sub-zero n) ∙ length-take-le n (replicate {A = ℕ} 256 0) (omega (arith, length_most s)) ∙ e
 
 module _ (n : ℕ) (z k : List ℕ) (long : length k ≡ length (mid_of 0 (n - 0) z)) where
   -- the front is within the array as before

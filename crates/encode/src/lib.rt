@@ -1,14 +1,14 @@
 // Encoding (docs/RULES.md, §1): from information bits to the word, and back.
 #![tactic(auto)]
 
-ghost use Rattle.std.specs.Prelude.{◌≡◌, length};
+ghost use Rattle.std.specs.Prelude.{◌≡◌, ◌^◌, length};
 ghost use Rattle.numbers.specs.Sums.{sum};
 ghost use Rattle.words.specs.Bits.{Bits};
 ghost use Rattle.words.specs.Kinds.{kinds, fill, encoded};
 ghost use Rattle.words.specs.Inverse.{taken_back};
 ghost use Rattle.code.specs.SoundInput.{SoundInput};
 ghost use Rattle.encode.specs.Outcome.{outcome_of, bits_admitted, encoding, inverting, taking_back};
-ghost use Rattle.encode.specs.Work.{taking_row};
+ghost use Rattle.encode.specs.Work.{ByKinds, taking_row};
 
 use code::{Code, Refusal};
 
@@ -82,8 +82,34 @@ fn take_back(code: Code, word: &[u8], bits: &mut [u8]) -> Result<(), Refusal>
     let mut row = [0u8; 256];
     let n = code.length();
     code::put_kinds(code, &mut kinds[0..n]);
-    bit_rows::put_row(word, &mut row[0..n], code.m as usize);
-    take_row(&kinds[0..n], &row[0..n], bits)
+    take_by_kinds(&kinds[0..n], &mut row[0..n], word, bits, code.m as usize)
+}
+
+// ---- over any row of kinds, for the calls on a shortened set too
+// The bits go into the word by their kinds, and are transformed there.
+pub fn put_by_kinds(kinds: &[u8], bits: &[u8], word: &mut [u8], m: usize)
+    requires { ByKinds m kinds.now bits.now word.old × Bits bits.now }
+    ensures { word.new ≡ encoded m kinds.now bits.now }
+{
+    bit_rows::fill(kinds, bits, word);
+    bit_rows::transform(word, m);
+}
+
+// The bits are taken from the word's row, which is made in lent scratch.
+pub fn take_by_kinds(
+    kinds: &[u8],
+    row: &mut [u8],
+    word: &[u8],
+    bits: &mut [u8],
+    m: usize,
+) -> Result<(), Refusal>
+    requires { ByKinds m kinds.now bits.old word.now × Bits word.now
+        × (length row.old ≡ 2 ^ m) }
+    ensures { outcome_of result bits.new
+        ≡ taking_back (taken_back m kinds.now word.now) bits.old }
+{
+    bit_rows::put_row(word, row, m);
+    take_row(kinds, row, bits)
 }
 
 // Nothing is written before every frozen index has been found to be 0.

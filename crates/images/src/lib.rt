@@ -71,6 +71,7 @@ pub fn is_long(m: u32, table: usize, row: usize) -> bool
 }
 
 // The number whose bit p is the entry at row p and column q of a table of m rows.
+// stays: Bits in clauses, since put_undo asks it of a row alone, and a type of maps a table too
 pub fn column(table: &[u8], width: usize, q: usize, m: usize) -> u8
     requires { (m ≤ largest_m) × (q < width)
         × (length table.now ≡ m * width) × Bits table.now }

@@ -1,11 +1,9 @@
 -- The loop's invariant: the sum is that of the part that is read.
 use mathlib.Core.Path.{◌≡◌, refl, ap, ap₂, sym, ◌∙◌}
-use mathlib.Core.List.{List}
 use Prim.Native.Nat.{◌+◌}
 use native.Mathlib.Omega.{arith}
 use lib.IntN.{ℤ, pos}
 use lib.ListN.{get_or, take}
-use lib.Seq.{take_all}
 use mir.Syntax.{w16}
 use mir.Facts.{to_z-of_z}
 use Rattle.sure.specs.Sure.{doubt_at, doubt}

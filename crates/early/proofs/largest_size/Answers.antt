@@ -1,6 +1,6 @@
 -- The loop's invariant: the largest size of the part that is read.
 use Rattle.std.specs.Prelude.{refl, max, pos, nat_abs, get_or}
-use Rattle.std.proofs.Common.{ap, ap₂, sym, ◌∙◌, arith, take_all, to_z-of_z}
+use Rattle.std.proofs.Common.{ap, ap₂, sym, ◌∙◌, arith, to_z-of_z}
 use Rattle.std.specs.Int.{w16}
 use Rattle.sure.specs.Sure.{largest}
 use Rattle.early.specs.TestedLaws.{largest-more}

@@ -1,16 +1,15 @@
 -- After j passes the first j sums and the first j differences are in their places.
-use mathlib.Core.Path.{◌≡◌, refl, ap, ap₂, ◌∙◌}
-use Prim.Native.Nat.{◌+◌, ◌≤◌, zero-le}
+use mathlib.Core.Path.{◌≡◌, ap, ap₂, ◌∙◌}
+use Prim.Native.Nat.{◌+◌, ◌≤◌}
 use native.Mathlib.Omega.{arith}
-use lib.IntN.{ℤ, pos, nat_abs, ◌+ℤ◌, ◌-ℤ◌}
-use lib.ListN.{get_or, set, length-set}
-use lib.Seq.{lt-length-set}
+use lib.IntN.{pos, nat_abs, ◌+ℤ◌, ◌-ℤ◌}
+use lib.ListN.{get_or}
 use mir.Syntax.{w32}
 use mir.Val.{to_z, of_z}
 use mir.Facts.{to_z-of_z}
 use Rattle.numbers.specs.PartsLaws.{fits_size}
 use Rattle.hadamard.proofs.HadamardLaws.{size-combined}
-use Rattle.first_order.specs.CrossLaws.{crossing, crossing-none, crossing-all, read_first, read-second, pair_small, pass_stores}
+use Rattle.first_order.specs.CrossLaws.{crossing, crossing-all, read_first, read-second, pair_small, pass_stores}
 use Rattle.first_order.proofs.cross.Goals as goal
 use Rattle.first_order.proofs.cross.Goals.{After-b-1}
 

@@ -1,7 +1,5 @@
 -- After j passes the first j bits are repeated after the first h.
-use Rattle.std.proofs.Common.{arith, ap, ◌∙◌}
-use Rattle.std.specs.Prelude.{◌≡◌}
-use Rattle.first_order.specs.WordLaws.{doubling, doubling-none, doubling-all, read_again, stored-again}
+use Rattle.first_order.specs.WordLaws.{stored-again}
 use Rattle.first_order.proofs.double.Goals as goal
 
 pub loop-j-preserved : goal.loop-j-preserved

@@ -1,14 +1,11 @@
 -- The readings are put into the row, which is transformed and looked at.
 use mathlib.Core.Path.{◌≡◌, ap, sym, ◌∙◌, subst}
-use mathlib.Core.List.{List}
 use Prim.Native.Nat.{◌^◌, ◌-◌}
 use native.Mathlib.Omega.{arith}
-use lib.IntN.{ℤ}
 use lib.ListN.{length}
-use Rattle.decoding.specs.Readings.{sizes, Within}
+use Rattle.decoding.specs.Readings.{Within}
 use Rattle.hadamard.specs.Hadamard.{hadamard}
 use Rattle.hadamard.proofs.HadamardLaws.{length-hadamard, hadamard_within}
-use Rattle.first_order.specs.Work.{Looked}
 use Rattle.first_order.specs.OutcomeLaws.{two_or_more, power_most}
 use Rattle.first_order.proofs.find.Goals as goal
 

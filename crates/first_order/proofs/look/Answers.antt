@@ -1,10 +1,10 @@
 -- The place by the largest key; the next size once that entry is set to 0.
-use Rattle.std.specs.Prelude.{◌≡◌, refl, ℤ, pos, negsuc, get_or, ◌%◌, ◌^◌, ◌-◌}
+use Rattle.std.specs.Prelude.{◌≡◌, ℤ, pos, negsuc, get_or, ◌%◌}
 use Rattle.std.specs.Int.{w32, from_bool, is_negative}
 use Rattle.std.proofs.Common.{ap, ◌∙◌, arith, to_z-of_z}
 use Rattle.std.proofs.lemmas.Bool.Decides.{nat_tests}
 use Rattle.decoding.specs.Quick.{hard}
-use Rattle.first_order.specs.TopLaws.{Placed, placed, within_wiped, both_found}
+use Rattle.first_order.specs.TopLaws.{Placed, placed, both_found}
 use Rattle.first_order.proofs.look.Goals as goal
 use Rattle.first_order.proofs.look.Goals.{After-top_key-key}
 

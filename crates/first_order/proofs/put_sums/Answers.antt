@@ -1,8 +1,8 @@
 -- After j passes the row has the first j readings.
 use Rattle.std.specs.Prelude.{◌≡◌, ℤ, pos, get_or}
-use Rattle.std.proofs.Common.{◌∙◌, add-one, arith, to_z-of_z, drop_of_length-le}
+use Rattle.std.proofs.Common.{◌∙◌, add-one, arith, to_z-of_z}
 use Rattle.std.specs.Int.{w16, w32}
-use Rattle.numbers.specs.Front.{front-suc, front-done}
+use Rattle.numbers.specs.Front.{front-suc}
 use Rattle.first_order.proofs.put_sums.Goals as goal
 
 pub loop-j-preserved : goal.loop-j-preserved

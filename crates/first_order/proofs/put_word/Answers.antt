@@ -1,9 +1,8 @@
 -- After p passes the first 2^p bits are the word of the place's lowest p digits.
 use Rattle.std.specs.Prelude.{◌≡◌, refl, ℕ, ◌*◌, ◌^◌, ◌%◌, ◌≤◌, ◌<◌, length, take}
-use Rattle.std.proofs.Common.{ap, sym, ◌∙◌, subst, add-one, arith, length-set, pow_pos, pow_mono, take_all}
+use Rattle.std.proofs.Common.{ap, sym, ◌∙◌, subst, add-one, arith, length-set, pow_pos, pow_mono}
 use Rattle.words.specs.Bits.{Bits, digit}
-use Rattle.hadamard.specs.Hadamard.{first_order}
-use Rattle.first_order.specs.WordLaws.{word-start, bits_first_order, next_word, Doubles, doubles}
+use Rattle.first_order.specs.WordLaws.{word-start, bits_first_order, next_word, doubles}
 use Rattle.first_order.proofs.put_word.Goals as goal
 
 pub loop-p-init : goal.loop-p-init

@@ -1,9 +1,9 @@
 -- After j passes the largest of the first j keys is held.
-use Rattle.std.specs.Prelude.{◌≡◌, ℕ, ◌+◌, ◌*◌, max, pos, nat_abs, length, get_or}
-use Rattle.std.proofs.Common.{ap, ◌∙◌, subst, arith, to_z-of_z}
+use Rattle.std.specs.Prelude.{◌≡◌, ℕ, ◌+◌, ◌*◌, max, pos, nat_abs, get_or}
+use Rattle.std.proofs.Common.{ap, ◌∙◌, arith, to_z-of_z}
 use Rattle.std.specs.Int.{w32}
-use Rattle.first_order.specs.Work.{size_at, key_at, Top}
-use Rattle.first_order.specs.TopLaws.{top_none, top_more}
+use Rattle.first_order.specs.Work.{key_at}
+use Rattle.first_order.specs.TopLaws.{top_more}
 use Rattle.first_order.proofs.top_key.Goals as goal
 
 pub loop-j-preserved : goal.loop-j-preserved

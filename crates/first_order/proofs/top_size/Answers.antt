@@ -1,9 +1,9 @@
 -- The largest of the sizes that are passed is held.
-use Rattle.std.specs.Prelude.{◌≡◌, ℕ, max, pos, nat_abs, length, get_or}
-use Rattle.std.proofs.Common.{ap, ◌∙◌, subst, arith, to_z-of_z}
+use Rattle.std.specs.Prelude.{◌≡◌, max, pos, nat_abs, get_or}
+use Rattle.std.proofs.Common.{ap, ◌∙◌, arith, to_z-of_z}
 use Rattle.std.specs.Int.{w32}
-use Rattle.first_order.specs.Work.{size_at, Top}
-use Rattle.first_order.specs.TopLaws.{top_none, top_more}
+use Rattle.first_order.specs.Work.{size_at}
+use Rattle.first_order.specs.TopLaws.{top_more}
 use Rattle.first_order.proofs.top_size.Goals as goal
 
 pub loop-entry-preserved : goal.loop-entry-preserved

@@ -1,6 +1,6 @@
 -- The loop's invariant: the sum is that of the part that is read.
 use Rattle.std.specs.Prelude.{◌≡◌, refl, ◌+◌, pos, nat_abs, get_or, take, drop}
-use Rattle.std.proofs.Common.{ap, ap₂, sym, ◌∙◌, add-one, arith, take-append-drop, take_all, to_z-of_z}
+use Rattle.std.proofs.Common.{ap, ap₂, sym, ◌∙◌, add-one, arith, take-append-drop, to_z-of_z}
 use Rattle.std.specs.Int.{w16}
 use Rattle.decoding.specs.Readings.{sizes}
 use Rattle.decoding.specs.StepLaws.{sizes-append}

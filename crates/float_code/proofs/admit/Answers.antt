@@ -1,6 +1,6 @@
 -- `float_code::admit`: each return is what the tests that led there show.
 use Rattle.std.specs.Prelude.{◌≡◌, length, Ok}
-use Rattle.std.proofs.Common.{rules, sym, ◌∙◌, arith}
+use Rattle.std.proofs.Common.{rules, sym, ◌∙◌}
 use Rattle.code.specs.Sound.{made, largest_reading}
 use Rattle.code.specs.SoundLaws.{made_of}
 use Rattle.code.specs.SoundInput.{dimension_of}

@@ -1,11 +1,11 @@
 -- `float_code::test_readings`: every float passed is a reading.
 use Rattle.std.specs.Prelude.{length}
 use Rattle.std.proofs.Common.{sym, ◌∙◌, arith}
-use borrow.Author.Tests.{leb-true, leb-false, not-true, not-false}
+use borrow.Author.Tests.{leb-false, not-true}
 use lib.Ieee.{nan}
 use Rattle.code.specs.Sound.{largest_reading}
 use Rattle.code.specs.Entries.{first_bad_reading}
-use Rattle.code.specs.EntriesLaws.{first-here, first-none, good_more}
+use Rattle.code.specs.EntriesLaws.{first-here, first-none}
 use Rattle.code.specs.AdmittedLaws.{entry_refused, entry_passed}
 use Rattle.float_numbers.specs.Whole.{wholes}
 use Rattle.float_numbers.proofs.WholesLaws.{length-wholes}

@@ -1,5 +1,5 @@
 -- `float_search::search_float_within`: each return is the outcome after the tests.
-use Rattle.std.specs.Prelude.{Ok, Err}
+use Rattle.std.specs.Prelude.{Ok}
 use mathlib.Core.Path.{◌≡◌, ap, sym, ◌∙◌}
 use lib.ListN.{length}
 use Rattle.code.specs.Admitted.{admitted}

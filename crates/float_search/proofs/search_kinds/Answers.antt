@@ -55,9 +55,6 @@ returns-then-count c =
     ∙ runner_up_out s.m _ _ s.allowed s.bits.now s.word.now
     (out_answer c.requires.1 c.walk.ensures.0 c.if-count.true)
 
-pub whole-penalty-requires : goal.whole-penalty-requires
-whole-penalty-requires c = c.walk.ensures.1.best
-
 pub whole-gap-requires : goal.whole-gap-requires
 whole-gap-requires c = let else1 = (goal.at.whole-gap-requires c).Else-count in penalty_of_lem _ (apart else1) (small else1)
 

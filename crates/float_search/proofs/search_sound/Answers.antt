@@ -25,14 +25,6 @@ own_is a rest l n e f = sym (wholes-take n (a ++ rest)) ∙ ap wholes (front-is 
 lent_long : (n : ℕ) → n ≤ 256 → length (take (n - 0) (replicate {A = Float} 256 (of_bits binary32 0))) ≡ n
 lent_long n h = rw sub-zero (length-take-le n (replicate {A = Float} 256 (of_bits binary32 0)) h)
 
-pub slice_bounds-kinds-end : goal.slice_bounds-kinds-end
-slice_bounds-kinds-end c = omega (arith, length_most c.requires.sound, c.length-n.ensures)
-
-pub slice_bounds-own-end : goal.slice_bounds-own-end
-slice_bounds-own-end c =
-    let sized = c in
-    omega (arith, length_most sized.requires.sound, sized.length-n.ensures)
-
 pub copy-requires : goal.copy-requires
 copy-requires c =
     let filled = c in

@@ -1,13 +1,8 @@
 -- The kinds and the readings are at the fronts of arrays of 256.
-use mathlib.Core.Path.{refl, ap₂, ◌∙◌}
-use mathlib.Core.List.{List}
-use Prim.Native.Nat.{ℕ, ◌^◌}
-use native.Mathlib.Omega.{arith}
-use lib.IntN.{ℤ}
+use mathlib.Core.Path.{refl}
+use Prim.Native.Nat.{◌^◌}
 use Rattle.words.specs.Kinds.{kinds}
 use Rattle.words.proofs.KindLaws.{length-kinds}
-use Rattle.code.specs.SoundLaws.{length_most}
-use Rattle.search.specs.RunnerUp.{runner_up_outcome_by}
 use Rattle.search.specs.WorkLaws.{front-is, same_readings, searchable}
 use Rattle.search.proofs.search_sound.Goals as goal
 

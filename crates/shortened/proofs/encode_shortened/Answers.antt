@@ -1,13 +1,15 @@
 -- Each return is the outcome after the tests that led there.
-use Rattle.std.specs.Prelude.{◌≡◌, length, Ok}
+use Rattle.std.specs.Prelude.{◌≡◌, ℕ, List, length, Ok}
 use Rattle.std.proofs.Common.{rules, ap, sym, ◌∙◌, arith}
+use Rattle.words.specs.Kinds.{encoded}
 use Rattle.code.specs.SoundLaws.{length_most}
 use Rattle.named.specs.Named.{row_admitted}
 use Rattle.encode.specs.Outcome.{refused, done}
+use Rattle.encode.specs.WorkLaws.{zeros-lent}
 use Rattle.encode.specs.OutcomeLaws.{tested_refused, tested_passed, bits_passed}
 use Rattle.shortened.specs.Outcome.{encoding_shortened}
 use Rattle.shortened.specs.OutcomeLaws.{encoding-refused, encoding-left, Allowed, is_allowed}
-use Rattle.shortened.specs.WorkLaws.{zeros-lent}
+use Rattle.shortened.specs.WorkLaws.{left-read, left_by_kinds}
 use Rattle.shortened.proofs.encode_shortened.Goals as goal
 use Rattle.shortened.proofs.encode_shortened.Goals.{In_ok-code}
 
@@ -44,26 +46,28 @@ slice_bounds-kinds-end c =
     let a = allowed (goal.at.slice_bounds-kinds-end c).In_ok-code in
     omega (arith, length_most a.sound, c.length-n.ensures)
 
-pub put_word-requires : goal.put_word-requires
-put_word-requires c =
+pub put_left-requires : goal.put_left-requires
+put_left-requires c =
+    let a = allowed (goal.at.put_left-requires c).In_ok-code in
+    (a.sound, a.long-named, zeros-lent c.in_ok-code.code _ a.sound c.length-n.ensures)
+
+pub put_by_kinds-requires : goal.put_by_kinds-requires
+put_by_kinds-requires c =
     let s = c.args in
-    let a = allowed (goal.at.put_word-requires c).In_ok-code in
-    let passed = bits_passed s.bits.now c.count_left.result (length s.word.now) c.length-n.result (sym c.admit_bits.ensures ∙ c.in_ok-admit_bits.was) in
-    record {
-      long-named = a.long-named;
-      long_kinds = zeros-lent c.in_ok-code.code _ a.sound c.length-n.ensures;
-      input = record {
-        sound = a.sound;
-        long_bits = passed.long_input ∙ c.count_left.ensures;
-        long_word = passed.long_output ∙ c.length-n.ensures;
-        entries = passed.entries;
-      };
-    }
+    let code = c.in_ok-code.code in
+    let passed = bits_passed s.bits.now c.count_left.result (length s.word.now) c.length-n.result (sym c.admit_bits.ensures ∙ c.in_ok-admit_bits.was) in (
+      left_by_kinds s.named.now code (left-read s.named.now code _ _ c.put_left.ensures c.length-n.ensures) s.bits.now s.word.now
+          (passed.long_input ∙ c.count_left.ensures) (passed.long_output ∙ c.length-n.ensures),
+      passed.entries,
+    )
 
 pub returns : goal.returns
 returns c =
     let s = c.args in
+    let code = c.in_ok-code.code in
     let made = (goal.at.returns c).In_ok-code in
-    ap done c.put_word.ensures
+    ap done
+    (c.put_by_kinds.ensures
+    ∙ ap (λ (ks : List ℕ). encoded code.m ks s.bits.now) (left-read s.named.now code _ _ c.put_left.ensures c.length-n.ensures))
     ∙ tested_passed _ _ _ _ _ _ _ (allowed made).good c.count_left.ensures c.length-n.ensures (sym c.admit_bits.ensures ∙ c.in_ok-admit_bits.was)
-    ∙ encoding-left s.r s.m s.named.now c.in_ok-code.code (row_is made) s.bits.now s.word.now
+    ∙ encoding-left s.r s.m s.named.now code (row_is made) s.bits.now s.word.now

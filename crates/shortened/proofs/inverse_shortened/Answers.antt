@@ -1,13 +1,15 @@
 -- Each return is the outcome after the tests that led there.
-use Rattle.std.specs.Prelude.{◌≡◌, length, Ok}
-use Rattle.std.proofs.Common.{rules, sym, ◌∙◌, arith}
+use Rattle.std.specs.Prelude.{◌≡◌, ℕ, List, length, Ok}
+use Rattle.std.proofs.Common.{rules, ap, sym, ◌∙◌, arith}
+use Rattle.words.specs.Inverse.{taken_back}
 use Rattle.code.specs.SoundLaws.{length_most}
 use Rattle.named.specs.Named.{row_admitted}
-use Rattle.encode.specs.Outcome.{refused}
+use Rattle.encode.specs.Outcome.{refused, taking_back}
+use Rattle.encode.specs.WorkLaws.{zeros-lent}
 use Rattle.encode.specs.OutcomeLaws.{tested_refused, tested_passed, bits_passed}
 use Rattle.shortened.specs.Outcome.{inverting_shortened}
 use Rattle.shortened.specs.OutcomeLaws.{inverting-refused, inverting-left, Allowed, is_allowed}
-use Rattle.shortened.specs.WorkLaws.{zeros-lent}
+use Rattle.shortened.specs.WorkLaws.{left-read, left_by_kinds}
 use Rattle.shortened.proofs.inverse_shortened.Goals as goal
 use Rattle.shortened.proofs.inverse_shortened.Goals.{In_ok-code}
 
@@ -44,29 +46,30 @@ slice_bounds-kinds-end c =
     let a = allowed (goal.at.slice_bounds-kinds-end c).In_ok-code in
     omega (arith, length_most a.sound, c.length-n.ensures)
 
-pub take_back-requires : goal.take_back-requires
-take_back-requires c =
+pub put_left-requires : goal.put_left-requires
+put_left-requires c =
+    let a = allowed (goal.at.put_left-requires c).In_ok-code in
+    (a.sound, a.long-named, zeros-lent c.in_ok-code.code _ a.sound c.length-n.ensures)
+
+pub take_by_kinds-requires : goal.take_by_kinds-requires
+take_by_kinds-requires c =
     let s = c.args in
-    let a = allowed (goal.at.take_back-requires c).In_ok-code in
-    let passed = bits_passed s.word.now c.length-n.result (length s.bits.now) c.count_left.result (sym c.admit_bits.ensures ∙ c.in_ok-admit_bits.was) in
-    let zeros = zeros-lent c.in_ok-code.code _ a.sound c.length-n.ensures in (
-      record {
-        long-named = a.long-named;
-        long_kinds = zeros;
-        input = record {
-          sound = a.sound;
-          long_bits = passed.long_output ∙ c.count_left.ensures;
-          long_word = passed.long_input ∙ c.length-n.ensures;
-          entries = passed.entries;
-        };
-      },
-      zeros,
+    let code = c.in_ok-code.code in
+    let a = allowed (goal.at.take_by_kinds-requires c).In_ok-code in
+    let passed = bits_passed s.word.now c.length-n.result (length s.bits.now) c.count_left.result (sym c.admit_bits.ensures ∙ c.in_ok-admit_bits.was) in (
+      left_by_kinds s.named.now code (left-read s.named.now code _ _ c.put_left.ensures c.length-n.ensures) s.bits.now s.word.now
+          (passed.long_output ∙ c.count_left.ensures) (passed.long_input ∙ c.length-n.ensures),
+      passed.entries,
+      zeros-lent code _ a.sound c.length-n.ensures,
     )
 
 pub returns : goal.returns
 returns c =
     let s = c.args in
+    let code = c.in_ok-code.code in
     let made = (goal.at.returns c).In_ok-code in
-    c.take_back.ensures
+    c.take_by_kinds.ensures
+    ∙ ap
+    (λ (ks : List ℕ). taking_back (taken_back code.m ks s.word.now) s.bits.now) (left-read s.named.now code _ _ c.put_left.ensures c.length-n.ensures)
     ∙ tested_passed _ _ _ _ _ _ _ (allowed made).good c.length-n.ensures c.count_left.ensures (sym c.admit_bits.ensures ∙ c.in_ok-admit_bits.was)
-    ∙ inverting-left s.r s.m s.named.now c.in_ok-code.code (row_is made) s.word.now s.bits.now
+    ∙ inverting-left s.r s.m s.named.now code (row_is made) s.word.now s.bits.now

@@ -1,5 +1,5 @@
 -- Each return is the outcome after the tests that led there.
-use Rattle.std.specs.Prelude.{◌≡◌, ℕ, length, Ok}
+use Rattle.std.specs.Prelude.{◌≡◌, ℕ, List, length, Ok}
 use Rattle.std.proofs.Common.{rules, ap, sym, ◌∙◌, arith}
 use Rattle.numbers.specs.Sums.{sum}
 use Rattle.code.specs.declared.Code.{Code}
@@ -9,7 +9,8 @@ use Rattle.named.specs.Named.{row_admitted}
 use Rattle.quick.specs.Outcome.{reading_over}
 use Rattle.shortened.specs.Outcome.{left_of}
 use Rattle.shortened.specs.OutcomeLaws.{quick_refused, quick-left, over-refused, over_done, allowed_over, Allowed, is_allowed}
-use Rattle.shortened.specs.WorkLaws.{zeros-lent}
+use Rattle.encode.specs.WorkLaws.{zeros-lent}
+use Rattle.shortened.specs.WorkLaws.{left-read, left-asked}
 use Rattle.shortened.proofs.quick_shortened.Goals as goal
 use Rattle.shortened.proofs.quick_shortened.Goals.{In_ok-code, After-admit_for}
 
@@ -61,18 +62,20 @@ slice_bounds-kinds-end c =
     let a = allowed (goal.at.slice_bounds-kinds-end c).In_ok-code in
     omega (arith, length_most a.sound, c.length-n.ensures)
 
-pub take_reading-requires : goal.take_reading-requires
-take_reading-requires c =
+pub put_left-requires : goal.put_left-requires
+put_left-requires c =
+    let a = allowed (goal.at.put_left-requires c).In_ok-code in
+    (a.sound, a.long-named, zeros-lent c.in_ok-code.code _ a.sound c.length-n.ensures)
+
+pub read_kinds-requires : goal.read_kinds-requires
+read_kinds-requires c =
     let s = c.args in
-    let at = goal.at.take_reading-requires c in
-    let a = allowed at.In_ok-code in
+    let at = goal.at.read_kinds-requires c in
     let code = c.in_ok-code.code in
-    record {
-      long-named = a.long-named;
-      long_kinds = zeros-lent code _ a.sound c.length-n.ensures;
-      input = (allowed_over code (sum (left_of s.named.now code)) s.readings.now (length s.bits.now) (length s.word.now) a.sound c.in_ok-admit_for.field-0
-          (sym c.in_ok-admit_for.was ∙ tests at.After-admit_for)).1;
-    }
+    let ks = left_of s.named.now code in
+    let is = sym c.in_ok-admit_for.was ∙ tests at.After-admit_for in
+    left-asked s.named.now code (left-read s.named.now code _ _ c.put_left.ensures c.length-n.ensures) s.readings.now s.bits.now s.word.now
+    (allowed_over code (sum ks) s.readings.now (length s.bits.now) (length s.word.now) (allowed at.In_ok-code).sound c.in_ok-admit_for.field-0 is).1
 
 pub returns : goal.returns
 returns c =
@@ -83,6 +86,8 @@ returns c =
     let is = sym c.in_ok-admit_for.was ∙ tests at.After-admit_for in
     let same =
     (allowed_over code (sum ks) s.readings.now (length s.bits.now) (length s.word.now) (allowed at.In_ok-code).sound c.in_ok-admit_for.field-0 is).0 in
-    c.take_reading.ensures ∙ ap (λ (d : Code). reading_over d.m ks s.readings.now) (sym same)
+    c.read_kinds.ensures
+    ∙ ap (λ (x : List ℕ). reading_over code.m x s.readings.now) (left-read s.named.now code _ _ c.put_left.ensures c.length-n.ensures)
+    ∙ ap (λ (d : Code). reading_over d.m ks s.readings.now) (sym same)
     ∙ over_done ks code s.readings.now s.bits.now s.word.now c.in_ok-admit_for.field-0 is
     ∙ quick-left s.r s.m s.named.now code (row_is at.In_ok-code) s.readings.now s.bits.now s.word.now

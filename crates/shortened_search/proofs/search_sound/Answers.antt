@@ -3,7 +3,8 @@ use mathlib.Core.Path.{refl, ◌∙◌}
 use Prim.Native.Nat.{◌^◌}
 use Rattle.words.proofs.KindLaws.{length-kinds}
 use Rattle.shortened.specs.Outcome.{left_of}
-use Rattle.shortened.specs.WorkLaws.{long_left, zeros-lent}
+use Rattle.encode.specs.WorkLaws.{zeros-lent}
+use Rattle.shortened.specs.WorkLaws.{long_left}
 use Rattle.search.specs.WorkLaws.{front-is}
 use Rattle.shortened_search.specs.OutcomeLaws.{left_searchable}
 use Rattle.shortened_search.proofs.search_sound.Goals as goal
