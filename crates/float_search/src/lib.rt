@@ -17,6 +17,8 @@ use search::{Found, WithRunnerUp};
 
 // What the search reports and writes for the whole numbers that the readings are. A float that is
 // no whole number is refused as a reading out of range is.
+// stays: this and the three below are search's over floats; a trait for both would have to hold the
+// tests, the walk and its end, which is all that they do.
 pub fn search_float_within(
     r: u32,
     m: u32,
