@@ -4,7 +4,7 @@
 ghost use Rattle.std.specs.Prelude.{◌≡◌, ◌^◌, length};
 ghost use Rattle.numbers.specs.Sums.{sum};
 ghost use Rattle.words.specs.Bits.{Bits};
-ghost use Rattle.words.specs.Kinds.{kinds, fill, encoded};
+ghost use Rattle.words.specs.Kinds.{kinds, encoded};
 ghost use Rattle.words.specs.Inverse.{taken_back};
 ghost use Rattle.code.specs.SoundInput.{SoundInput};
 ghost use Rattle.encode.specs.Outcome.{outcome_of, bits_admitted, encoding, inverting, taking_back};
@@ -47,29 +47,22 @@ pub fn admit_bits(input: &[u8], long: usize, output: usize, room: usize) -> Resu
     code::test_bits(input)
 }
 
-// The row u of the information bits. The few kinds of a short row are written out for it.
-fn put_row(code: Code, bits: &[u8], row: &mut [u8])
-    requires { SoundInput code (length bits.now) (length row.old) (Bits bits.now) }
-    ensures { row.new ≡ fill (kinds code.r code.m) bits.now }
-{
-    if 3 <= code.m {
-        bit_rows::fill_code(code.r, code.m, bits, row);
-        return;
-    }
-    let mut kinds = [0u8; 8];
-    let n = code.length();
-    code::put_kinds(code, &mut kinds[0..n]);
-    bit_rows::fill(&kinds[0..n], bits, row);
-}
-
-// The row u goes into the buffer, whatever it held, and is transformed there.
+// The row u goes into the buffer, whatever it held, and is transformed there. The few kinds of a
+// short row are written out for it.
 fn put_word(code: Code, bits: &[u8], word: &mut [u8])
     requires { SoundInput code (length bits.now) (length word.old) (Bits bits.now) }
     ensures { word.new
         ≡ encoded code.m (kinds code.r code.m) bits.now }
 {
-    put_row(code, bits, word);
-    bit_rows::transform(word, code.m as usize);
+    if 3 <= code.m {
+        bit_rows::fill_code(code.r, code.m, bits, word);
+        bit_rows::transform(word, code.m as usize);
+        return;
+    }
+    let mut kinds = [0u8; 8];
+    let n = code.length();
+    code::put_kinds(code, &mut kinds[0..n]);
+    put_by_kinds(&kinds[0..n], bits, word, code.m as usize);
 }
 
 fn take_back(code: Code, word: &[u8], bits: &mut [u8]) -> Result<(), Refusal>

@@ -27,6 +27,7 @@ pub enum Fault {
 }
 
 // The number whose binary digits these are, most significant first.
+// stays: no method of the library reads a slice of bits as a number
 pub fn number_of(bits: &[u8]) -> u32
     requires { Bits bits.now × (length bits.now ≤ 16) }
     ensures { result ≡ of_digits bits.now }

@@ -35,7 +35,7 @@ pub fn write(m: u32, position: u32, word: &mut [u8]) -> Result<(), Fault>
         return Err(Fault::Field);
     }
     // the sign that makes the marker 0
-    let sign = (u32::count_ones(position) % 2) as u8;
+    let sign = (position.count_ones() % 2) as u8;
     first_order::put_word(word, m as usize, place, sign);
     Ok(())
 }

@@ -149,6 +149,7 @@ fn reader_fault(marker: u8, telegram: Telegram) -> Result<(), Fault>
 
 // ---- bits
 // The number's lowest binary digits, as many as there are places, most significant first.
+// stays: first_order's put_bits adds a check bit, so that only two lines of a loop are alike
 fn put_number(number: u32, bits: &mut [u8])
     requires { length bits.old ≤ 16 }
     ensures { bits.new ≡ digits (length bits.old) number }
