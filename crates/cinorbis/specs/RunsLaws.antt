@@ -1,5 +1,5 @@
 -- The theorem of the program: whatever pieces the bytes arrive in, what it hands over is the output of all of them.
-use Rattle.std.specs.Prelude.{◌≡◌, refl, List, [], ◌++◌, Bool, true, false, cond, ℕ, zero, suc, ◌+◌, ◌-◌, ◌≤◌, ◌<◌, min, ℤ, pos, negsuc, length, get_or, take}
+use Rattle.std.specs.Prelude.{◌≡◌, refl, List, [], ◌++◌, Bool, true, false, cond, ℕ, zero, suc, ◌+◌, ◌-◌, ◌≤◌, ◌<◌, min, Option, None, Some, length, get_or, take}
 use Rattle.std.specs.Prelude.{drop}
 use Rattle.std.proofs.Common.{ap, sym, ◌∙◌, subst, append_assoc, append-nil, ⊎_elim, arith, add-one, length-append, length-drop, length-take-le, take_at}
 use Rattle.std.proofs.Common.{take-add, take_all, drop-drop, get_or-take, get_or-drop}
@@ -238,8 +238,8 @@ module _ (n : ℕ) (s : Situation) (input output₁ : List ℕ) (p : Passed) (h 
         let long : length fresh ≡ length input - k = length-drop k input' ∙ ap (λ (n : ℕ). n - k) same in
         rw (sub-zero, take-add k (min j (length input - k)) input', kept, ← long) (ap (λ (l : List ℕ). unread s input ++ l) (take_min j fresh))
 
-    holds_read : (got : ℤ) → Holds (suc n) (after_read got (length input - k) s) input' output₁ (with_read p got fresh)
-    holds_read (negsuc j) =
+    holds_read : (got : Option ℕ) → Holds (suc n) (after_read got (length input - k) s) input' output₁ (with_read p got fresh)
+    holds_read None =
         record {
           bounded =
               record {
@@ -250,7 +250,7 @@ module _ (n : ℕ) (s : Situation) (input output₁ : List ℕ) (p : Passed) (h 
               };
           output-is = λ rest z. rw front (h.output-is rest z);
         }
-    holds_read (pos zero) =
+    holds_read (Some zero) =
         record {
           bounded =
               record {
@@ -261,7 +261,7 @@ module _ (n : ℕ) (s : Situation) (input output₁ : List ℕ) (p : Passed) (h 
               };
           output-is = λ rest z. rw (front, z refl) (rw (ended, z refl) at (h.output-is rest (λ a. z refl)));
         }
-    holds_read (pos (suc j)) =
+    holds_read (Some (suc j)) =
         record {
           bounded =
               record {
