@@ -1,5 +1,5 @@
 -- The program ends: each round brings it nearer, so that a run has at most three rounds for each byte that came, plus four.
-use Rattle.std.specs.Prelude.{◌≡◌, refl, List, ◌++◌, ◌⊎◌, Bool, true, false, cond, not, ℕ, zero, suc, ◌+◌, ◌-◌, ◌*◌, ◌^◌, ◌≤◌, ◌<◌, min, ℤ, pos, negsuc, ltb}
+use Rattle.std.specs.Prelude.{◌≡◌, refl, List, ◌++◌, ◌⊎◌, Bool, true, false, cond, not, ℕ, zero, suc, ◌+◌, ◌-◌, ◌*◌, ◌^◌, ◌≤◌, ◌<◌, min, Option, None, Some, ltb}
 use Rattle.std.specs.Prelude.{length, take, drop}
 use Rattle.std.proofs.Common.{ap, sym, ◌∙◌, subst, inl, inr, ⊎_elim, arith, length-append, length-drop, length-take, ltb-true}
 use Rattle.numbers.specs.Choice.{cond_by}
@@ -7,9 +7,9 @@ use Rattle.rounds.specs.declared.Situation.{Situation}
 use Rattle.rounds.specs.declared.Next.TheVariants.{Write, Take, Total, Read}
 use Rattle.program.specs.Program.{Result, answered, refused, result_of, stops, next_start}
 use Rattle.program.specs.OutputLaws.{goes_on_there}
-use Rattle.rounds.specs.Situation.{room, longest, starting, Ready, unread, is_there, after, after_read, after_write}
+use Rattle.rounds.specs.Situation.{room, longest, Ready, unread, is_there, after, after_read, after_write}
 use Rattle.rounds.specs.SituationLaws.{next-shown, there_first, absent_short}
-use Rattle.cinorbis.specs.Runs.{RoundTaken, writes, takes, totals, reads, Passed, nothing, with_read, passing, Chain, start, round, Ran}
+use Rattle.cinorbis.specs.Runs.{RoundTaken, writes, takes, totals, reads, Passed, with_read, passing, Chain, start, round, Ran}
 use Rattle.cinorbis.specs.RunsLaws.{Bounded, chain_holds}
 
 -- as many rounds may still come if no other byte does
@@ -55,12 +55,12 @@ module _ (n most : ℕ) (s : Situation) (input output : List ℕ) (r : Ready s i
       (λ z. omega (arith, before, at_most_one s.going, (goes_on_there (unread s input) (rw e z)).some, there_first s input t r.order))
 
   -- ---- a read: bytes came, or it is the last
-  left-read : (got : ℤ) (input' : List ℕ) → length input' ≡ length input → is_there s input ≡ false → s.ended ≡ false → (p : Passed)
+  left-read : (got : Option ℕ) (input' : List ℕ) → length input' ≡ length input → is_there s input ≡ false → s.ended ≡ false → (p : Passed)
       → most ≡ 3 * length p.came + 4 → let k = s.«end» - s.at in
       suc n + rounds_left (after_read got (length input - k) s) ≤ 3 * length (with_read p got (drop k input')).came + 4
-  left-read (negsuc j) input' same t e p b = omega (arith, before)
-  left-read (pos zero) input' same t e p b = let c = rw e at before in omega (arith, c, at_most_one s.going)
-  left-read (pos (suc j)) input' same t e p b =
+  left-read None input' same t e p b = omega (arith, before)
+  left-read (Some zero) input' same t e p b = let c = rw e at before in omega (arith, c, at_most_one s.going)
+  left-read (Some (suc j)) input' same t e p b =
       let k = s.«end» - s.at in
       let c = min (suc j) (length input - k) in
       let fresh = drop k input' in
@@ -99,43 +99,33 @@ chain_length n s input output p (round m s₀ input₀ output₀ p₀ t input' o
     let r = (chain_holds m s₀ input₀ output₀ p₀ c).bounded.ready in
     left_round m (3 * length p₀.came + 4) s₀ input₀ output₀ r g big wide (chain_length m s₀ input₀ output₀ p₀ c big wide) p₀ refl t input' output' e w
 
--- ---- for the proof at the code: a chain of rounds when this many of the counted rounds are left
-pub record Along (left : ℕ) (s : Situation) (input output : List ℕ) : Type 0 where
-  pub rounds : ℕ
+-- ---- for the proof at the code: a chain of so many rounds, over buffers in which the longest record and the longest line fit
+pub record Along (n : ℕ) (s : Situation) (input output : List ℕ) : Type 0 where
   pub passed : Passed
-  pub chain : Chain rounds s input output passed
-  pub count : rounds + left ≡ 2 ^ 64 - 1
+  pub chain : Chain n s input output passed
   pub space : longest ≤ length input
   pub line : room ≤ length output
 
-pub along_start : (input output : List ℕ) (s : Situation) → s ≡ starting → longest ≤ length input → room ≤ length output → Along (2 ^ 64 - 1) s input output
-along_start input output s e space line =
-    rw e (record { rounds = 0; passed = nothing; chain = start input output; count = refl; space = space; line = line })
+module _ (n : ℕ) (s : Situation) (input output : List ℕ) (a : Along n s input output) where
+  pub along_bounded : Bounded n s input output a.passed
+  along_bounded = (chain_holds n s input output a.passed a.chain).bounded
 
-module _ (left : ℕ) (s : Situation) (input output : List ℕ) (a : Along left s input output) where
-  pub along_bounded : Bounded a.rounds s input output a.passed
-  along_bounded = (chain_holds a.rounds s input output a.passed a.chain).bounded
-
-  unfoldable pub along_round : (t : Situation) (input' output' : List ℕ) → 0 < left → s.going ≡ true → length input' ≡ length input
+  unfoldable pub along_round : (t : Situation) (input' output' : List ℕ) → s.going ≡ true → length input' ≡ length input
       → length output' ≡ length output
-      → RoundTaken s input output t input' output' → Along (left - 1) t input' output'
-  along_round t input' output' h g e f w =
+      → RoundTaken s input output t input' output' → Along (suc n) t input' output'
+  along_round t input' output' g e f w =
       record {
-        rounds = suc a.rounds;
         passed = passing s input output t input' output' w a.passed;
-        chain = round a.rounds s input output a.passed t input' output' a.chain g e f w;
-        count = omega (arith, a.count);
+        chain = round n s input output a.passed t input' output' a.chain g e f w;
         space = omega (arith, a.space);
         line = omega (arith, a.line);
       }
 
-  unfoldable pub along_ran : (s.going ≡ false) ⊎ (left ≡ 0) → Ran s input output
+  unfoldable pub along_ran : (s.going ≡ false) ⊎ (2 ^ 64 - 1 ≤ n) → Ran s input output
   along_ran e =
       record {
-        rounds = a.rounds;
+        rounds = n;
         passed = a.passed;
         chain = a.chain;
-        ends =
-            ⊎_elim (λ g. inl g)
-            (λ z. inr (omega (arith, a.count, chain_length a.rounds s input output a.passed a.chain a.space a.line))) e;
+        ends = ⊎_elim (λ g. inl g) (λ z. inr (omega (arith, z, chain_length n s input output a.passed a.chain a.space a.line))) e;
       }

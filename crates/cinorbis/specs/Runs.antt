@@ -1,5 +1,5 @@
 -- A run of the program: any chain of rounds, with all that passed between it and the operating system.
-use Rattle.std.specs.Prelude.{◌≡◌, List, [], ◌++◌, Bool, true, false, ◌⊎◌, ℕ, zero, suc, ◌-◌, ◌^◌, ◌<◌, ℤ, pos, negsuc, length, take, drop}
+use Rattle.std.specs.Prelude.{◌≡◌, List, [], ◌++◌, Bool, true, false, ◌⊎◌, ℕ, zero, suc, ◌-◌, ◌^◌, ◌<◌, Option, None, Some, length, take, drop}
 use Rattle.rounds.specs.declared.Situation.{Situation}
 use Rattle.rounds.specs.declared.Next.TheVariants.{Write, Take, Total, Read}
 use Rattle.program.specs.Program.{output}
@@ -25,10 +25,10 @@ abbrev pub with_text : Passed → List ℕ → Passed
 with_text p text = record { came = p.came; over = p.over; handed = p.handed ++ text }
 
 -- a read returned a number, and the bytes that it put are at the front of fresh
-abbrev pub with_read : Passed → ℤ → List ℕ → Passed
-with_read p (negsuc k) fresh = p
-with_read p (pos zero) fresh = record { came = p.came; over = true; handed = p.handed }
-with_read p (pos (suc k)) fresh = record { came = p.came ++ take (suc k) fresh; over = p.over; handed = p.handed }
+abbrev pub with_read : Passed → Option ℕ → List ℕ → Passed
+with_read p None fresh = p
+with_read p (Some zero) fresh = record { came = p.came; over = true; handed = p.handed }
+with_read p (Some (suc k)) fresh = record { came = p.came ++ take (suc k) fresh; over = p.over; handed = p.handed }
 
 -- what a round adds: all of the text that waits is handed over, and each byte that a read gave came
 abbrev pub passing : (s : Situation) (input output : List ℕ) (t : Situation) (input' output' : List ℕ)
@@ -45,10 +45,10 @@ pub data Chain : ℕ → Situation → List ℕ → List ℕ → Passed → Type
       → Chain n s input output p → s.going ≡ true → length input' ≡ length input → length output' ≡ length output
       → (w : RoundTaken s input output t input' output') → Chain (suc n) t input' output' (passing s input output t input' output' w p)
 
--- a read returned no number below 0
-abbrev pub Came : ℤ → Type 0
-Came (pos n) = Unit {0}
-Came (negsuc n) = ⊥
+-- a read did not fail
+abbrev pub Came : Option ℕ → Type 0
+Came (Some n) = Unit {0}
+Came None = ⊥
 
 -- the operating system reported no error in a round
 abbrev pub Went : (s : Situation) (input output : List ℕ) (t : Situation) (input' output' : List ℕ) → RoundTaken s input output t input' output' → Type 0

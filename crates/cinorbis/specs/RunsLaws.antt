@@ -1,5 +1,5 @@
 -- The theorem of the program: whatever pieces the bytes arrive in, what it hands over is the output of all of them.
-use Rattle.std.specs.Prelude.{◌≡◌, refl, List, [], ◌++◌, Bool, true, false, cond, ℕ, zero, suc, ◌+◌, ◌-◌, ◌≤◌, ◌<◌, min, ℤ, pos, negsuc, length, get_or, take}
+use Rattle.std.specs.Prelude.{◌≡◌, refl, List, [], ◌++◌, Bool, true, false, cond, ℕ, zero, suc, ◌+◌, ◌-◌, ◌≤◌, ◌<◌, min, Option, None, Some, length, get_or, take}
 use Rattle.std.specs.Prelude.{drop}
 use Rattle.std.proofs.Common.{ap, sym, ◌∙◌, subst, append_assoc, append-nil, ⊎_elim, arith, add-one, length-append, length-drop, length-take-le, take_at}
 use Rattle.std.proofs.Common.{take-add, take_all, drop-drop, get_or-take, get_or-drop}
@@ -33,9 +33,6 @@ pub record Bounded (n : ℕ) (s : Situation) (input output₁ : List ℕ) (p : P
 pub record Holds (n : ℕ) (s : Situation) (input output₁ : List ℕ) (p : Passed) : Type 0 where
   pub bounded : Bounded n s input output₁ p
   pub output-is : (rest : List ℕ) → (p.over ≡ true → rest ≡ []) → p.handed ++ take s.text output₁ ++ to_hand_over s input rest ≡ output (p.came ++ rest)
-
-clash : true ≡ false → ⊥
-clash e = let z : ◌≡◌ {A = ℕ} 0 1 = cc in omega arith
 
 length-unread : (s : Situation) (input output₁ : List ℕ) → Ready s input output₁ → length (unread s input) ≡ s.«end» - s.at
 length-unread s input output₁ r = length-take-le (s.«end» - s.at) (drop s.at input) (simp length-drop (omega (arith, r.within)))
@@ -75,8 +72,8 @@ holds_start input output₁ =
           record {
             ready = record { order = omega arith; within = omega arith; waiting = omega arith };
             counts = omega arith;
-            over = λ e. absurd (clash (sym e));
-            done = λ e f. absurd (clash e);
+            over = λ e. cc;
+            done = λ e f. cc;
           };
       output-is = λ rest h. refl;
     }
@@ -105,7 +102,7 @@ module _ (n : ℕ) (s : Situation) (input output₁ : List ℕ) (p : Passed) (h 
               ready = record { order = r.order; within = r.within; waiting = omega arith };
               counts = omega (arith, h.bounded.counts);
               over = h.bounded.over;
-              done = λ e f. absurd (clash f);
+              done = λ e f. cc;
             };
         output-is = λ rest z. rw (append-nil (p.handed ++ take s.text output₁)) (h.output-is rest z);
       }
@@ -164,7 +161,7 @@ module _ (n : ℕ) (s : Situation) (input output₁ : List ℕ) (p : Passed) (h 
           ready = record { order = omega (arith, there.whole, length-unread s input output₁ r, r.order); within = r.within; waiting = w };
           counts = omega (arith, h.bounded.counts);
           over = h.bounded.over;
-          done = λ a b. absurd (clash (sym g ∙ a));
+          done = λ a b. cc;
         }
     bounded_after (refused why) text output' e w =
         cond_by (λ (t : Situation). Bounded (suc n) t input output' p) (stops (refused why)) _ _
@@ -173,7 +170,7 @@ module _ (n : ℕ) (s : Situation) (input output₁ : List ℕ) (p : Passed) (h 
           ready = record { order = omega arith; within = r.within; waiting = w };
           counts = omega (arith, h.bounded.counts);
           over = λ a. refl;
-          done = λ a b. absurd (clash (sym g ∙ a));
+          done = λ a b. cc;
         })
         (λ z.
         let there = goes_on_there u (rw e z) in
@@ -181,7 +178,7 @@ module _ (n : ℕ) (s : Situation) (input output₁ : List ℕ) (p : Passed) (h 
           ready = record { order = omega (arith, there.whole, length-unread s input output₁ r, r.order); within = r.within; waiting = w };
           counts = omega (arith, h.bounded.counts);
           over = h.bounded.over;
-          done = λ a b. absurd (clash (sym g ∙ a));
+          done = λ a b. cc;
         })
 
     holds_taken : (t : Situation) (output' : List ℕ) → Took s input output₁ t output' → length output' ≡ length output₁ → Holds (suc n) t input output' p
@@ -212,7 +209,7 @@ module _ (n : ℕ) (s : Situation) (input output₁ : List ℕ) (p : Passed) (h 
               ready = record { order = r.order; within = r.within; waiting = within };
               counts = omega (arith, h.bounded.counts);
               over = h.bounded.over;
-              done = λ a b. absurd (clash (sym g ∙ a));
+              done = λ a b. cc;
             });
         output-is = λ rest z.
             output-more t total output' rest k.line
@@ -238,40 +235,40 @@ module _ (n : ℕ) (s : Situation) (input output₁ : List ℕ) (p : Passed) (h 
         let long : length fresh ≡ length input - k = length-drop k input' ∙ ap (λ (n : ℕ). n - k) same in
         rw (sub-zero, take-add k (min j (length input - k)) input', kept, ← long) (ap (λ (l : List ℕ). unread s input ++ l) (take_min j fresh))
 
-    holds_read : (got : ℤ) → Holds (suc n) (after_read got (length input - k) s) input' output₁ (with_read p got fresh)
-    holds_read (negsuc j) =
+    holds_read : (got : Option ℕ) → Holds (suc n) (after_read got (length input - k) s) input' output₁ (with_read p got fresh)
+    holds_read None =
         record {
           bounded =
               record {
                 ready = record { order = omega arith; within = omega (arith, r.within); waiting = r.waiting };
                 counts = omega (arith, h.bounded.counts);
                 over = h.bounded.over;
-                done = λ a b. absurd (clash b);
+                done = λ a b. cc;
               };
           output-is = λ rest z. rw front (h.output-is rest z);
         }
-    holds_read (pos zero) =
+    holds_read (Some zero) =
         record {
           bounded =
               record {
                 ready = record { order = omega arith; within = omega (arith, r.within); waiting = r.waiting };
                 counts = omega (arith, h.bounded.counts);
                 over = λ a. refl;
-                done = λ a b. absurd (clash (sym g ∙ a));
+                done = λ a b. cc;
               };
           output-is = λ rest z. rw (front, z refl) (rw (ended, z refl) at (h.output-is rest (λ a. z refl)));
         }
-    holds_read (pos (suc j)) =
+    holds_read (Some (suc j)) =
         record {
           bounded =
               record {
                 ready = record { order = omega arith; within = omega (arith, r.within); waiting = r.waiting };
                 counts = omega (arith, h.bounded.counts);
                 over = h.bounded.over;
-                done = λ a b. absurd (clash (sym g ∙ a));
+                done = λ a b. cc;
               };
           output-is = λ rest z.
-              let old = rw ended at (h.output-is (take (suc j) fresh ++ rest) (λ a. absurd (clash (sym (h.bounded.over a) ∙ ended)))) in
+              let old = rw ended at (h.output-is (take (suc j) fresh ++ rest) (λ a. cc (h.bounded.over a))) in
               rw (behind (suc j), ended, append_assoc p.came (take (suc j) fresh) rest, append_assoc (unread s input) (take (suc j) fresh) rest) old;
         }
 

@@ -1,16 +1,11 @@
 -- What a run does to its reader and its writer: to the bytes that a reader has left, and to those that a writer holds, where these are known.
-use Rattle.std.specs.Prelude.{◌≡◌, List, true, false, ℕ, ◌-◌, ℤ, pos, negsuc, take, drop, Option, Result, Ok, Err, IfSome}
+use Rattle.std.specs.Prelude.{◌≡◌, List, true, false, ℕ, ◌-◌, take, drop, Option, IfSome}
 use Rattle.std.specs.Io.KnownBytes.{Appends, Consumes, IsAtEnd}
 use Rattle.rounds.specs.declared.Situation.{Situation}
 use Rattle.rounds.specs.declared.Next.{Next}
 use Rattle.rounds.specs.declared.Next.TheVariants.{Write, Take, Total, Read}
 use Rattle.program.specs.Program.{output}
 use Rattle.rounds.specs.Situation.{text_of}
-
--- what a read returned, as a number: below 0 an error, else how many bytes came
-abbrev pub number_of : {E : Type 0} → Result ℕ E → ℤ
-number_of (Ok n) = pos n
-number_of (Err e) = negsuc 0
 
 -- the text was handed to the writer: unless that failed, the writer holds it too
 abbrev pub WrittenOn : Situation → List ℕ → Option (List ℕ) → Option (List ℕ) → Type 0

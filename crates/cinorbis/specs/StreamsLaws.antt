@@ -1,7 +1,8 @@
 -- Laws of a run's streams: what one read and one write do to them, and that a chain of rounds keeps count.
-use Rattle.std.specs.Prelude.{◌≡◌, refl, ⊤, List, [], ◌++◌, Bool, true, false, ℕ, zero, suc, ◌+◌, ◌-◌, ◌^◌, ◌⊎◌, ◌≤◌, ◌<◌, min, ℤ, pos, negsuc, length, take}
+use Rattle.std.specs.Prelude.{◌≡◌, refl, ⊤, List, [], ◌++◌, Bool, true, false, ℕ, zero, suc, ◌+◌, ◌-◌, ◌^◌, ◌⊎◌, ◌≤◌, ◌<◌, min, length, take}
 use Rattle.std.specs.Prelude.{drop, Option, None, Some, Result, Ok, Err, IfSome, OnOk, is_ok}
-use Rattle.std.proofs.Common.{ap, sym, ◌∙◌, subst, arith, length-drop, length-take-le, append-nil}
+use Rattle.std.specs.Result.{result_ok}
+use Rattle.std.proofs.Common.{ap, sym, ◌∙◌, subst, arith, add-one, length-drop, length-take-le, append-nil}
 use Rattle.std.proofs.Math.Seq.{drop-append_seam}
 use Rattle.std.specs.Io.{ReadsAtMost}
 use Rattle.std.specs.Io.KnownBytes.{Appends, Consumes, IsAtEnd, ReadConsumes}
@@ -18,20 +19,17 @@ use Rattle.cinorbis.specs.Runs.{RoundTaken, writes, takes, totals, reads, Passed
 use Rattle.cinorbis.specs.RunsLaws.{ran_hands_over, take_min}
 use Rattle.cinorbis.specs.EndLaws.{Along, along_bounded, along_round, along_ran}
 use Rattle.cinorbis.specs.UnfailedLaws.{failed_after}
-use Rattle.cinorbis.specs.Streams.{number_of, WrittenOn, ReadOn, Streamed, Whole}
-
-clash : true ≡ false → ⊥
-clash e = let z : ◌≡◌ {A = ℕ} 0 1 = cc in omega arith
+use Rattle.cinorbis.specs.Streams.{WrittenOn, ReadOn, Streamed, Whole}
 
 -- ---- one write
 pub written_on : {E : Type 0} (r : Result ⊤ E) (s : Situation) (text : List ℕ) (held held' : Option (List ℕ)) → OnOk r (Appends held held' text)
     → WrittenOn (after_write (is_ok r) s) text held held'
 written_on (Ok x) s text held held' h e = h
-written_on (Err x) s text held held' h e = absurd (clash e)
+written_on (Err x) s text held held' h e = cc
 
 -- ---- one read into the bytes of a buffer after the first k
 read_bytes : {E : Type 0} (r : Result ℕ E) (s : Situation) (buf : List ℕ) (left left' : Option (List ℕ)) → ReadConsumes left left' r buf
-    → ReadsAtMost r buf → 0 < length buf → let t = after_read (number_of r) (length buf) s in t.failed ≡ false
+    → ReadsAtMost r buf → 0 < length buf → let t = after_read (result_ok r) (length buf) s in t.failed ≡ false
     → Consumes left left' (take (t.«end» - (s.«end» - s.at)) buf) × (s.ended ≡ false → t.ended ≡ true → IsAtEnd left')
 read_bytes (Ok zero) s buf left left' h m some e =
     let k = s.«end» - s.at in
@@ -40,12 +38,12 @@ read_bytes (Ok zero) s buf left left' h m some e =
 read_bytes (Ok (suc n)) s buf left left' h m some e =
     let k = s.«end» - s.at in
     let all : k + min (suc n) (length buf) - k ≡ suc n = omega (arith, m.0) in
-    (rw all h.0, λ a b. absurd (clash (sym b ∙ a)))
-read_bytes (Err x) s buf left left' h m some e = absurd (clash e)
+    (rw all h.0, λ a b. cc)
+read_bytes (Err x) s buf left left' h m some e = cc
 
 -- the same of the whole buffer, whose bytes after the first k were lent to the reader
 pub read_on : {E : Type 0} (r : Result ℕ E) (s : Situation) (t : Situation) (m buf : List ℕ) (n : ℕ) (left left' : Option (List ℕ))
-    → ReadConsumes left left' r buf → ReadsAtMost r buf → length buf ≡ n → 0 < n → s.«end» - s.at ≤ length m → t ≡ after_read (number_of r) n s
+    → ReadConsumes left left' r buf → ReadsAtMost r buf → length buf ≡ n → 0 < n → s.«end» - s.at ≤ length m → t ≡ after_read (result_ok r) n s
     → ReadOn s t (put_mid (s.«end» - s.at) (length m - (s.«end» - s.at)) m buf) left left'
 read_on r s t m buf n left left' h most long some k is e =
     let fresh : drop (s.«end» - s.at) (put_mid (s.«end» - s.at) (length m - (s.«end» - s.at)) m buf) ≡ buf =
@@ -71,13 +69,13 @@ module _ (s : Situation) (input output₁ : List ℕ) (p : Passed) (left₀ left
   known_written t true left' held' e is w f =
       let o = k (ap (λ (x : Situation). x.failed) (sym is) ∙ f) in
       rw e (record { came = o.came; over = o.over; handed = Appends-trans held₀ held held' p.handed (text_of s output₁) o.handed (w f) })
-  known_written t false left' held' e is w f = absurd (clash (ap (λ (x : Situation). x.failed) (sym is) ∙ f))
+  known_written t false left' held' e is w f = cc
 
-  known_read : (t : Situation) (got : ℤ) (n : ℕ) (input' : List ℕ) (left' held' : Option (List ℕ)) → s.ended ≡ false → held' ≡ held
+  known_read : (t : Situation) (got : Option ℕ) (n : ℕ) (input' : List ℕ) (left' held' : Option (List ℕ)) → s.ended ≡ false → held' ≡ held
       → t ≡ after_read got n s → length (drop (s.«end» - s.at) input') ≡ n → ReadOn s t input' left left' → t.failed ≡ false
       → Known t (with_read p got (drop (s.«end» - s.at) input')) left₀ left' held₀ held'
-  known_read t (negsuc j) n input' left' held' more e is long w f = absurd (clash (ap (λ (x : Situation). x.failed) (sym is) ∙ f))
-  known_read t (pos zero) n input' left' held' more e is long w f =
+  known_read t None n input' left' held' more e is long w f = cc
+  known_read t (Some zero) n input' left' held' more e is long w f =
       let q = s.«end» - s.at in
       let unfailed : s.failed ≡ false = ap (λ (x : Situation). x.failed) (sym is) ∙ f in
       let o = k unfailed in
@@ -89,7 +87,7 @@ module _ (s : Situation) (input output₁ : List ℕ) (p : Passed) (left₀ left
         over = λ z. r.1 more (ap (λ (x : Situation). x.ended) is);
         handed = o.handed;
       })
-  known_read t (pos (suc j)) n input' left' held' more e is long w f =
+  known_read t (Some (suc j)) n input' left' held' more e is long w f =
       let q = s.«end» - s.at in
       let fresh = drop q input' in
       let unfailed : s.failed ≡ false = ap (λ (x : Situation). x.failed) (sym is) ∙ f in
@@ -99,7 +97,7 @@ module _ (s : Situation) (input output₁ : List ℕ) (p : Passed) (left₀ left
       let c : Consumes left left' (take (suc j) fresh) = subst (Consumes left left') (ap (λ (x : ℕ). take x fresh) some ∙ take_min (suc j) fresh) r.0 in
       rw e (record {
         came = Consumes-trans left₀ left left' p.came (take (suc j) fresh) o.came c;
-        over = λ z. absurd (clash (sym (over z) ∙ more));
+        over = λ z. cc (over z);
         handed = o.handed;
       })
 
@@ -129,29 +127,30 @@ pub record Streaming (n : ℕ) (s : Situation) (input output₁ : List ℕ) (lef
   pub known : s.failed ≡ false → Known s along.passed left left' held held'
 
 pub streaming_start : (input output₁ : List ℕ) (s : Situation) (left held : Option (List ℕ)) → (e : s ≡ starting) → (space : longest ≤ length input)
-    → (line : room ≤ length output₁) → Streaming (2 ^ 64 - 1) s input output₁ left left held held
+    → (line : room ≤ length output₁) → Streaming 0 s input output₁ left left held held
 streaming_start input output₁ s left held e space line =
     rw e (record {
-      along = record { rounds = 0; passed = nothing; chain = start input output₁; count = refl; space = space; line = line };
-      known = λ f. record { came = Consumes-nil left; over = λ z. absurd (clash (sym z)); handed = Appends-nil held };
+      along = record { passed = nothing; chain = start input output₁; space = space; line = line };
+      known = λ f. record { came = Consumes-nil left; over = λ z. cc; handed = Appends-nil held };
     })
 
 module _ (n : ℕ) (s : Situation) (input output₁ : List ℕ) (left₀ left held₀ held : Option (List ℕ))
     (a : Streaming n s input output₁ left₀ left held₀ held) where
-  pub streaming_round : (t : Situation) (input' output' : List ℕ) (left' held' : Option (List ℕ)) → 0 < n → s.going ≡ true
+  pub streaming_round : (t : Situation) (input' output' : List ℕ) (left' held' : Option (List ℕ)) → s.going ≡ true
       → length input' ≡ length input → length output' ≡ length output₁ → RoundTaken s input output₁ t input' output'
       → Streamed (next_of s input (length output₁)) s t output₁ input' left left' held held'
-      → Streaming (n - 1) t input' output' left₀ left' held₀ held'
+      → Streaming (n + 1) t input' output' left₀ left' held₀ held'
   unfolding along_round
-  streaming_round t input' output' left' held' h g e f w z =
-      record {
-        along = along_round n s input output₁ a.along t input' output' h g e f w;
+  streaming_round t input' output' left' held' g e f w z =
+      rw add-one
+      (record {
+        along = along_round n s input output₁ a.along t input' output' g e f w;
         known = known_round s input output₁ a.along.passed left₀ left held₀ held a.known (along_bounded n s input output₁ a.along).over
             t input' output' left' held' e w z;
-      }
+      })
 
   -- the theorem: a run that has ended without an error has written the output of all bytes of its reader
-  pub streaming_whole : (s.going ≡ false) ⊎ (n ≡ 0) → Whole s left₀ held₀ held
+  pub streaming_whole : (s.going ≡ false) ⊎ (2 ^ 64 - 1 ≤ n) → Whole s left₀ held₀ held
   unfolding along_ran
   streaming_whole r g f =
       let x : Ran s input output₁ = along_ran n s input output₁ a.along r in

@@ -1,5 +1,5 @@
 -- A run in which no read and no write failed has not failed: so, once it has ended, it has handed over the output of all bytes.
-use Rattle.std.specs.Prelude.{◌≡◌, refl, List, Bool, true, false, ℕ, zero, suc, ℤ, pos, negsuc}
+use Rattle.std.specs.Prelude.{◌≡◌, refl, List, Bool, true, false, ℕ, zero, suc, Option, None, Some}
 use Rattle.std.proofs.Common.{ap, ◌∙◌}
 use Rattle.numbers.specs.Choice.{cond_by}
 use Rattle.rounds.specs.declared.Situation.{Situation}
@@ -17,10 +17,10 @@ failed_after s (refused why) text at =
 failed_written : (s : Situation) (done : Bool) → done ≡ true → (after_write done s).failed ≡ s.failed
 failed_written s done e = rw e
 
-failed_read : (s : Situation) (got : ℤ) (n : ℕ) → Came got → (after_read got n s).failed ≡ s.failed
-failed_read s (pos zero) n h = refl
-failed_read s (pos (suc k)) n h = refl
-failed_read s (negsuc k) n h = absurd h
+failed_read : (s : Situation) (got : Option ℕ) (n : ℕ) → Came got → (after_read got n s).failed ≡ s.failed
+failed_read s (Some zero) n h = refl
+failed_read s (Some (suc k)) n h = refl
+failed_read s None n h = absurd h
 
 went_kept : (s : Situation) (input output : List ℕ) (t : Situation) (input' output' : List ℕ) (w : RoundTaken s input output t input' output')
     → Went s input output t input' output' w → t.failed ≡ s.failed

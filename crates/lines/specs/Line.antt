@@ -1,13 +1,14 @@
 -- The text of the program's lines (docs/RULES.md, §8).
 use Rattle.std.specs.Prelude.{◌≡◌, List, [], ◌∷◌, ◌++◌, map, cond, ℕ, zero, suc, ◌+◌, ◌/◌, ◌%◌, length, ltb}
 use Prim.Native.Char.{code}
-use Prim.Native.String as Text
+use Prim.Native.String as Chars
 use Rattle.numbers.specs.Laid.{laid_at}
+use Rattle.lines.specs.declared.Text.{Text}
 
 -- the bytes of a text
-unfoldable pub bytes_of : Text.String → List ℕ
-bytes_of Text.[] = []
-bytes_of (Text.◌∷◌ c t) = code c ∷ bytes_of t
+unfoldable pub bytes_of : Chars.String → List ℕ
+bytes_of Chars.[] = []
+bytes_of (Chars.◌∷◌ c t) = code c ∷ bytes_of t
 
 -- the byte of a digit from 0 to 9, or of a bit
 abbrev pub digit_byte : ℕ → ℕ
@@ -44,3 +45,9 @@ total_line read refused = decimal read ++ bytes_of " read, " ++ decimal refused 
 pub record Put (d : List ℕ) (at : ℕ) (t : List ℕ) (end : ℕ) (d' : List ℕ) : Type 0 where
   pub end_is : end ≡ at + length t
   pub text_is : d' ≡ laid_at at t d
+
+-- what a method of `Text` that writes a text leaves: the same buffer, as long as before, and in it the text
+pub record Puts (old new : Text) (t : List ℕ) : Type 0 where
+  pub same_buffer : new.out.ghost_name ≡ old.out.ghost_name
+  pub same_length : length new.out.now ≡ length old.out.now
+  pub put : Put old.out.now old.at t new.at new.out.now

@@ -1,15 +1,16 @@
 -- Laws of the lines: a text after a text, decimals, and the rules' two lines.
 use Rattle.std.specs.Prelude.{◌≡◌, refl, ℕ, zero, suc, ◌+◌, ◌-◌, ◌/◌, ◌%◌, ◌^◌, ◌≤◌, ◌<◌, length, take, drop}
-use Rattle.std.proofs.Common.{ap, sym, ◌∙◌, ⊎_elim, arith, pow-suc, length-append, drop-drop, lt-ltb, le-ltb}
-use Rattle.std.proofs.Math.Path.{subst}
-use mathlib.Core.List.{List, [], ◌∷◌, ◌++◌, map, append_assoc}
+use Rattle.std.proofs.Common.{ap, sym, ◌∙◌, ⊎_elim, arith, pow-suc, length-append, drop-drop, lt-ltb, le-ltb, set, add-one}
+use mathlib.Core.List.{List, [], ◌∷◌, ◌++◌, append_assoc}
 use Rattle.std.proofs.Math.Nat.{one-le-pow, pow-le-pow_right}
 use Rattle.std.proofs.Math.Seq.{paste, take-length}
-use Rattle.std.proofs.lemmas.List.Edits.{take-paste, drop-paste}
+use Rattle.std.proofs.lemmas.List.{set_split}
+use Rattle.std.proofs.lemmas.List.Edits.{take-paste, drop-paste, paste_all}
 use Rattle.io.specs.Digits.{last_digits, IsDigitCount}
 use Rattle.numbers.specs.Choice.{lt_or_le}
 use Rattle.numbers.specs.Laid.{laid_at}
-use Rattle.lines.specs.Line.{bytes_of, digit_byte, decimal_within, decimal, info_text, figures_text, answer_line, refused_line, total_line, Put}
+use Rattle.lines.specs.Line.{bytes_of, digit_byte, decimal_within, decimal, info_text, figures_text, answer_line, refused_line, total_line, Put, Puts}
+use Rattle.lines.specs.declared.Text.{Text}
 
 -- the two lines of the rules' example, and a refused one
 pub record Lines : Type 0 where
@@ -24,13 +25,7 @@ unfolding bytes_of decimal_within info_text figures_text answer_line refused_lin
 lines = record { answered = refl; refused = refl; total = refl; empty = refl; large = refl }
 
 laid_paste : (d : List ℕ) (at : ℕ) (t : List ℕ) → laid_at at t d ≡ paste d at t (length t)
-laid_paste d at t =
-    let pasted : take at d ++ t ++ drop (at + length t) d ≡ paste d at t (length t) = rw (take-length t) in
-    sym (append_assoc (take at d) t (drop (at + length t) d)) ∙ pasted
-
--- a loop has pasted all of a text
-pub pasted : (d : List ℕ) (at : ℕ) (t : List ℕ) (i : ℕ) (d' : List ℕ) → i ≡ length t → d' ≡ paste d at t i → Put d at t (at + i) d'
-pasted d at t i d' e p = record { end_is = ap (λ (k : ℕ). at + k) e; text_is = p ∙ ap (paste d at t) e ∙ sym (laid_paste d at t) }
+laid_paste d at t = sym (paste_all d at t (length t) refl)
 
 -- one text after another is both as one text
 pub put_then : (d : List ℕ) (at : ℕ) (t : List ℕ) (end : ℕ) (d' u : List ℕ) (end' : ℕ) (d'' : List ℕ)
@@ -48,6 +43,34 @@ put_then d at t end d' u end' d'' h p q =
           q.text_is
           ∙ rw (p.text_is, p.end_is, laid_paste d at t, front, back, k, append_assoc (take at d) t (u ++ rest), append_assoc t u rest);
     }
+
+-- the same of two calls on one buffer
+pub puts_then : {s t u : Text} {x y : List ℕ} → s.at ≤ length s.out.now → Puts s t x → Puts t u y → Puts s u (x ++ y)
+puts_then h p q =
+    record {
+      same_buffer = q.same_buffer ∙ p.same_buffer;
+      same_length = q.same_length ∙ p.same_length;
+      put = put_then _ _ _ _ _ _ _ _ h p.put q.put;
+    }
+
+-- one byte
+put_one : (d : List ℕ) (at b : ℕ) → at < length d → Put d at (b ∷ []) (at + 1) (set d at b)
+put_one d at b h = record { end_is = refl; text_is = rw add-one (set_split d at b h) }
+
+-- in a loop that has put i bytes, before it says so
+pub record Putting (old now : Text) (i : ℕ) (t : List ℕ) : Type 0 where
+  pub same_buffer : now.out.ghost_name ≡ old.out.ghost_name
+  pub same_length : length now.out.now ≡ length old.out.now
+  pub same_place : now.at ≡ old.at
+  pub put : Put old.out.now old.at t (old.at + i) now.out.now
+
+-- and then one more
+pub put_more : {old now : Text} {i : ℕ} {t : List ℕ} (b : ℕ) → Putting old now i t → old.at + i < length old.out.now
+    → Put old.out.now old.at (t ++ b ∷ []) (old.at + (i + 1)) (set now.out.now (now.at + i) b)
+put_more {old} {now} {i} b p h =
+    let next : old.at + (i + 1) ≡ old.at + i + 1 = omega arith in
+    rw (next, p.same_place)
+    (put_then _ _ _ _ _ _ _ _ (omega arith) p.put (put_one now.out.now (old.at + i) b (omega (arith, p.same_length))))
 
 -- the digits that the library's function writes are the decimal text
 digits_decimal : (k j n : ℕ) → k < j → n < 10 ^ suc k → (0 < k → 10 ^ k ≤ n) → last_digits 10 (suc k) n ≡ decimal_within j n
@@ -74,42 +97,16 @@ fewest_short n k h f =
     (λ z. z)
     (lt_or_le 20 k)
 
--- the front of an array that holds k digits, put
-pub put_digits : (n k : ℕ) (a : List ℕ) (d : List ℕ) (at end : ℕ) (d' : List ℕ) → n < 2 ^ 64 → IsDigitCount 10 1 n k → take k a ≡ last_digits 10 k n
-    → Put d at (take (k - 0) a) end d' → Put d at (decimal n) end d'
-put_digits n k a d at end d' h f e p =
-    let z : k - 0 ≡ k = omega arith in
-    subst (λ (t : List ℕ). Put d at t end d') (ap (λ (k : ℕ). take k a) z ∙ e ∙ decimal-digits n k (fewest_short n k h f) f) p
+-- the front of an array that holds k digits is the decimal text
+pub digits_text : (n k : ℕ) (a : List ℕ) → n < 2 ^ 64 → IsDigitCount 10 1 n k → take k a ≡ last_digits 10 k n → take (k - 0) a ≡ decimal n
+digits_text n k a h f e = let z : k - 0 ≡ k = omega arith in rw z (e ∙ decimal-digits n k (fewest_short n k h f) f)
 
--- how long a decimal text is
-length-decimal : (k n : ℕ) → length (decimal_within k n) ≤ k
-unfolding decimal_within
-length-decimal zero n = omega arith
-length-decimal (suc k) n =
-    ⊎_elim (λ h. rw (lt-ltb n 10 h) (omega arith))
-    (λ h. rw (le-ltb n 10 h) (omega (arith, length-append (decimal_within k (n / 10)) (digit_byte (n % 10) ∷ []), length-decimal k (n / 10))))
-    (lt_or_le n 10)
+puts_by : {s t : Text} {x y : List ℕ} → x ≡ y → Puts s t x → Puts s t y
+puts_by e p = rw (← e) p
 
-pub put_short : (d : List ℕ) (at n end : ℕ) (d' : List ℕ) → Put d at (decimal n) end d' → end ≤ at + 20
-put_short d at n end d' p = omega (arith, p.end_is, length-decimal 20 n)
-
--- the lines, piece by piece
-module _ (d : List ℕ) (at : ℕ) (h : at ≤ length d) where
-  pub info_put : (w : ℕ) (bits : List ℕ) (e₁ e₂ e₃ : ℕ) (d₁ d₂ d₃ : List ℕ)
-      → Put d at (decimal w) e₁ d₁ → Put d₁ e₁ (bytes_of " info ") e₂ d₂ → Put d₂ e₂ (map digit_byte bits) e₃ d₃ → Put d at (info_text w bits) e₃ d₃
-  unfolding info_text
-  info_put w bits e₁ e₂ e₃ d₁ d₂ d₃ p q r = put_then d at _ e₂ d₂ _ e₃ d₃ h (put_then d at _ e₁ d₁ _ e₂ d₂ h p q) r
-
-  -- a number, a text with a number, and a last text
-  pub three_put : (w n : ℕ) (t u : List ℕ) (e₁ e₂ e₃ : ℕ) (d₁ d₂ d₃ : List ℕ)
-      → Put d at (decimal w) e₁ d₁ → Put d₁ e₁ (t ++ decimal n) e₂ d₂ → Put d₂ e₂ u e₃ d₃ → Put d at (decimal w ++ t ++ decimal n ++ u) e₃ d₃
-  three_put w n t u e₁ e₂ e₃ d₁ d₂ d₃ p q r =
-      subst (λ (x : List ℕ). Put d at x e₃ d₃) (simp append_assoc) (put_then d at _ e₂ d₂ _ e₃ d₃ h (put_then d at _ e₁ d₁ _ e₂ d₂ h p q) r)
-
-  pub figures_put : (penalty gap visits e₁ e₂ e₃ e₄ : ℕ) (d₁ d₂ d₃ d₄ : List ℕ)
-      → Put d at (bytes_of " penalty " ++ decimal penalty) e₁ d₁ → Put d₁ e₁ (bytes_of " margin " ++ decimal gap) e₂ d₂
-      → Put d₂ e₂ (bytes_of " visits " ++ decimal visits) e₃ d₃ → Put d₃ e₃ (bytes_of "\n") e₄ d₄ → Put d at (figures_text penalty gap visits) e₄ d₄
-  unfolding figures_text
-  figures_put penalty gap visits e₁ e₂ e₃ e₄ d₁ d₂ d₃ d₄ p q r s =
-      subst (λ (x : List ℕ). Put d at x e₄ d₄) (simp append_assoc)
-      (put_then d at _ e₃ d₃ _ e₄ d₄ h (put_then d at _ e₂ d₂ _ e₃ d₃ h (put_then d at _ e₁ d₁ _ e₂ d₂ h p q) r) s)
+-- the figures of an answer, piece by piece
+pub puts_figures : {s t u v z : Text} (penalty gap visits : ℕ) → s.at ≤ length s.out.now → Puts s t (bytes_of " penalty " ++ decimal penalty)
+    → Puts t u (bytes_of " margin " ++ decimal gap) → Puts u v (bytes_of " visits " ++ decimal visits) → Puts v z (bytes_of "\n")
+    → Puts s z (figures_text penalty gap visits)
+unfolding figures_text
+puts_figures penalty gap visits h p q r l = puts_by (simp append_assoc) (puts_then h (puts_then h (puts_then h p q) r) l)

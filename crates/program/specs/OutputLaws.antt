@@ -18,8 +18,8 @@ allowance-is = refl
 -- if a record does not stop the program, all of its bytes are there
 pub goes_on_there : (s : List ℕ) → stops (result_of s) ≡ false → There s
 unfolding result_of
-goes_on_there s h = header_there s (λ e. let f : true ≡ false = rw e at h in let z : ◌≡◌ {A = ℕ} 0 1 = cc in omega arith)
-    (λ e. let f : true ≡ false = rw e at h in let z : ◌≡◌ {A = ℕ} 0 1 = cc in omega arith)
+goes_on_there s h = header_there s (λ e. let f : true ≡ false = rw e at h in cc)
+    (λ e. let f : true ≡ false = rw e at h in cc)
 
 headed-before : (s rest : List ℕ) (h : std.Result Code Refusal) → header_of s ≡ h → headed h (s ++ rest) ≡ headed h s
 headed-before s rest (Err why) e = refl

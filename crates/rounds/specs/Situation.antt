@@ -1,11 +1,13 @@
 -- The program's state between two rounds, and what each kind of round does to it. The functions of the code are equal to these.
-use Rattle.std.specs.Prelude.{◌≡◌, List, [], Bool, true, false, cond, not, ℕ, zero, suc, ◌+◌, ◌-◌, ◌≤◌, min, ℤ, pos, negsuc, length, get_or, take, drop, ltb}
+use Rattle.std.specs.Prelude.{◌≡◌, List, [], Bool, true, false, cond, not, ℕ, zero, suc, ◌+◌, ◌-◌, ◌≤◌, min, Option, None, Some, length, get_or, take, drop, ltb}
 use Rattle.std.specs.Prelude.{leb, eqb}
 use Rattle.record.specs.Reader.{code_of, length_by}
 use Rattle.rounds.specs.declared.Situation.{Situation}
 use Rattle.rounds.specs.declared.Next.{Next}
 use Rattle.rounds.specs.declared.Next.TheVariants.{Write, Take, Total, Read}
 use Rattle.program.specs.declared.Step.{Step}
+use Rattle.program.specs.declared.Became.{Became}
+use Rattle.program.specs.declared.Became.TheVariants as became
 use Rattle.lines.specs.Line.{total_line, Put}
 use Rattle.program.specs.Program.{Result, answered, refused, result_of, line_of, stops, next_start}
 
@@ -48,18 +50,7 @@ next_of s input n =
 
 -- s with the bytes from `at` on still to be used, maybe the last, and with this text and these counts
 abbrev pub counted : Situation → ℕ → Bool → ℕ → ℕ → ℕ → Situation
-counted s at ended text answers refusals =
-    record {
-      at = at;
-      «end» = s.«end»;
-      ended = ended;
-      text = text;
-      read = answers;
-      refused = refusals;
-      closed = s.closed;
-      going = s.going;
-      failed = s.failed;
-    }
+counted s at ended text answers refusals = record s { at = at; ended = ended; text = text; read = answers; refused = refusals }
 
 -- after a record with this result, whose line ends at text and after which the next one starts at `at`: no byte is used if no next start is known
 abbrev pub after : Situation → Result → ℕ → ℕ → Situation
@@ -68,11 +59,13 @@ after s (refused why) text at =
     cond (stops (refused why)) (counted s s.«end» true text s.read (s.refused + 1)) (counted s at s.ended text s.read (s.refused + 1))
 
 -- the same by what the work on the record reports
+abbrev pub counted_as : Situation → ℕ → Became → Situation
+counted_as s next became.Answered = counted s next s.ended s.text (s.read + 1) s.refused
+counted_as s next became.Refused = counted s next s.ended s.text s.read (s.refused + 1)
+counted_as s next became.Last = counted s s.«end» true s.text s.read (s.refused + 1)
+
 abbrev pub counted_by : Situation → Step → Situation
-counted_by s step =
-    cond step.answered (counted s (s.at + step.taken) s.ended step.«end» (s.read + 1) s.refused)
-    (cond step.stop (counted s s.«end» true step.«end» s.read (s.refused + 1))
-    (counted s (s.at + step.taken) s.ended step.«end» s.read (s.refused + 1)))
+counted_by s step = counted_as s (s.at + step.taken) step.became
 
 -- the next record is taken: its line comes after the text, and it is counted
 pub record Took (s : Situation) (input output : List ℕ) (t : Situation) (output' : List ℕ) : Type 0 where
@@ -81,18 +74,7 @@ pub record Took (s : Situation) (input output : List ℕ) (t : Situation) (outpu
 
 -- s with this much text, and whether the total is in it, the program goes on, and an error was met
 abbrev pub texted : Situation → ℕ → Bool → Bool → Bool → Situation
-texted s text closed going failed =
-    record {
-      at = s.at;
-      «end» = s.«end»;
-      ended = s.ended;
-      text = text;
-      read = s.read;
-      refused = s.refused;
-      closed = closed;
-      going = going;
-      failed = failed;
-    }
+texted s text closed going failed = record s { text = text; closed = closed; going = going; failed = failed }
 
 -- the total comes after the text
 pub record Finished (s : Situation) (output : List ℕ) (t : Situation) (output' : List ℕ) : Type 0 where
@@ -110,28 +92,17 @@ pub record Flushed (s : Situation) (t : Situation) : Type 0 where
 
 -- s with its unread bytes at the front, and those after them, up to n
 abbrev pub moved : Situation → ℕ → Bool → Bool → Bool → Situation
-moved s n ended going failed =
-    record {
-      at = 0;
-      «end» = n;
-      ended = ended;
-      text = s.text;
-      read = s.read;
-      refused = s.refused;
-      closed = s.closed;
-      going = going;
-      failed = failed;
-    }
+moved s n ended going failed = record s { at = 0; «end» = n; ended = ended; going = going; failed = failed }
 
--- after a read into n bytes, by what it returned: below 0 an error, 0 exactly at the end of the input, else the number of bytes that came
-abbrev pub after_read : ℤ → ℕ → Situation → Situation
-after_read (negsuc k) n s = moved s (s.«end» - s.at) s.ended false true
-after_read (pos zero) n s = moved s (s.«end» - s.at) true s.going s.failed
-after_read (pos (suc k)) n s = moved s (s.«end» - s.at + min (suc k) n) s.ended s.going s.failed
+-- after a read into n bytes, by what it gave: none after an error, 0 exactly at the end of the input, else the number of bytes that came
+abbrev pub after_read : Option ℕ → ℕ → Situation → Situation
+after_read None n s = moved s (s.«end» - s.at) s.ended false true
+after_read (Some zero) n s = moved s (s.«end» - s.at) true s.going s.failed
+after_read (Some (suc k)) n s = moved s (s.«end» - s.at + min (suc k) n) s.ended s.going s.failed
 
 -- the unread bytes are at the front, and after them what the read put there
 pub record Refilled (s : Situation) (input : List ℕ) (t : Situation) (input' : List ℕ) : Type 0 where
-  pub got : ℤ
+  pub got : Option ℕ
   pub kept : take (s.«end» - s.at) input' ≡ unread s input
   pub is : t ≡ after_read got (length input - (s.«end» - s.at)) s
 

@@ -1,10 +1,8 @@
 -- Laws of the program's state: what is next, a record that is taken, and the bytes after which a read puts new ones.
-use Rattle.std.specs.Prelude.{◌≡◌, refl, List, ◌++◌, ◌⊎◌, Bool, true, false, cond, ℕ, zero, suc, ◌+◌, ◌-◌, ◌≤◌, ◌<◌, ℤ, pos, negsuc, length, get_or, take, drop}
+use Rattle.std.specs.Prelude.{◌≡◌, refl, List, ◌++◌, ◌⊎◌, Bool, true, false, cond, ℕ, ◌+◌, ◌-◌, ◌≤◌, ◌<◌, length, get_or, take, drop}
 use Rattle.std.specs.Prelude.{ltb, leb, eqb}
-use Rattle.std.proofs.Common.{ap, sym, ◌∙◌, subst, inl, inr, ⊎_elim, arith, length-append, length-drop, length-take-le, take_at, eq-eqb, ne_eqb, eqb-true}
-use Rattle.std.proofs.Common.{leb-false, leb-true, ltb-true}
-use Rattle.std.specs.Int.Signed.{lt_z}
-use Rattle.io.specs.Counts.{clamp_len}
+use Rattle.std.proofs.Common.{ap, ◌∙◌, subst, inl, inr, ⊎_elim, arith, length-append, length-drop, length-take-le, take_at, eq-eqb, ne_eqb, eqb-true}
+use Rattle.std.proofs.Common.{leb-false, leb-true}
 use borrow.Rule.Slice.PartMut.{mid_of, put_mid}
 use Rattle.numbers.specs.Lent.{lent_from, back_from}
 use Rattle.numbers.specs.Choice.{lt_or_le, cond_by}
@@ -13,11 +11,12 @@ use Rattle.record.specs.HeaderLaws.{record_small}
 use Rattle.rounds.specs.declared.Situation.{Situation}
 use Rattle.rounds.specs.declared.Next.{Next}
 use Rattle.rounds.specs.declared.Next.TheVariants.{Write, Take, Total, Read}
+use Rattle.program.specs.declared.Became.TheVariants as became
 use Rattle.program.specs.declared.Step.{Step}
-use Rattle.lines.specs.Line.{Put}
-use Rattle.program.specs.Program.{Result, answered, refused, result_of, line_of, stops, is_answered}
-use Rattle.program.specs.Step.{Stepped}
-use Rattle.rounds.specs.Situation.{room, unread, is_there, next_of, after, counted_by, moved, after_read, Took}
+use Rattle.lines.specs.declared.Text.{Text}
+use Rattle.program.specs.Program.{Result, answered, refused, result_of, stops}
+use Rattle.program.specs.Step.{became_of, Stepped}
+use Rattle.rounds.specs.Situation.{room, unread, is_there, next_of, after, counted, counted_as, counted_by, Took}
 
 -- what the tests on the way to a kind of round have shown
 abbrev Shown : Bool → Bool → Bool → Bool → Bool → Next → Type 0
@@ -41,49 +40,35 @@ next-shown s input n x e =
     subst (Shown s.closed (ltb (n - s.text) room) (is_there s input) s.ended (ltb 0 s.text)) e
     (shown s.closed (ltb (n - s.text) room) (is_there s input) s.ended (ltb 0 s.text))
 
-counted-after : (s : Situation) (result : Result) (t : Step) → t.answered ≡ is_answered result → t.stop ≡ stops result
-    → counted_by s t ≡ after s result t.«end» (s.at + t.taken)
-counted-after s (answered bits penalty gap visits) t a b = rw a
-counted-after s (refused why) t a b = rw (a, b)
+-- what the work on a record reports counts as its result does
+counted-after : (s : Situation) (result : Result) (text at : ℕ) → counted_as (record s { text = text }) at (became_of result) ≡ after s result text at
+counted-after s (answered bits penalty gap visits) text at = refl
+counted-after s (refused why) text at = by_last (stops (refused why))
+  where
+    by_last : (last : Bool)
+        → counted_as (record s { text = text }) at (cond last became.Last became.Refused)
+        ≡ cond last (counted s s.«end» true text s.read (s.refused + 1)) (counted s at s.ended text s.read (s.refused + 1))
+    by_last true = refl
+    by_last false = refl
 
 -- the line of a record that is taken ends where the waiting text then ends
 after_text : (s : Situation) (result : Result) (text at : ℕ) → (after s result text at).text ≡ text
 after_text s (answered bits penalty gap visits) text at = refl
 after_text s (refused why) text at = cond_by (λ (t : Situation). t.text ≡ text) (stops (refused why)) _ _ (λ z. refl) (λ z. refl)
 
-pub took : (s : Situation) (input output : List ℕ) (step : Step) (t : Situation) (output' : List ℕ)
-    → Stepped (s.read + s.refused) (unread s input) (result_of (unread s input)) output s.text step output'
-    → t ≡ counted_by s step → Took s input output t output'
-took s input output step t output' o e =
+pub took : (s : Situation) (input : List ℕ) (old new : Text) (step : Step) (t : Situation) → old.at ≡ s.text
+    → Stepped (s.read + s.refused) (unread s input) (result_of (unread s input)) old step new
+    → t ≡ counted_by (record s { text = new.at }) step → Took s input old.out.now t new.out.now
+took s input old new step t z o e =
     let result = result_of (unread s input) in
-    let is : t ≡ after s result step.«end» (s.at + step.taken) = e ∙ counted-after s result step o.is_answered_lem o.is_last in
-    let text : t.text ≡ step.«end» = ap (λ (t : Situation). t.text) is ∙ after_text s result step.«end» (s.at + step.taken) in
+    let at = s.at + step.taken in
+    let is : t ≡ after s result new.at at =
+    e ∙ ap (counted_as (record s { text = new.at }) at) o.became_is ∙ counted-after s result new.at at in
+    let text : t.text ≡ new.at = ap (λ (t : Situation). t.text) is ∙ after_text s result new.at at in
     record {
-      line = subst (λ (x : ℕ). Put output s.text (line_of (s.read + s.refused) result) x output') (sym text) o.line;
+      line = rw (text, ← z) o.line.put;
       counts = is ∙ rw (text, o.next);
     }
-
--- the three cases of what a read returned
-module _ (z : ℤ) (n : ℕ) (s : Situation) where
-  pub read_failed : lt_z z (pos 0) ≡ true → moved s (s.«end» - s.at) s.ended false true ≡ after_read z n s
-  read_failed = failed z
-    where
-      failed : (z : ℤ) → lt_z z (pos 0) ≡ true → moved s (s.«end» - s.at) s.ended false true ≡ after_read z n s
-      failed (negsuc k) e = refl
-      failed (pos k) e = absurd (omega (arith, ltb-true k 0 e))
-
-  pub read_ended : z ≡ pos 0 → moved s (s.«end» - s.at) true s.going s.failed ≡ after_read z n s
-  read_ended e = rw e
-
-  pub read_more : (more : ℕ) → lt_z z (pos 0) ≡ false → (z ≡ pos 0 → ⊥) → more ≡ clamp_len z n
-      → moved s (s.«end» - s.at + more) s.ended s.going s.failed ≡ after_read z n s
-  read_more more = came z
-    where
-      came : (z : ℤ) → lt_z z (pos 0) ≡ false → (z ≡ pos 0 → ⊥) → more ≡ clamp_len z n
-          → moved s (s.«end» - s.at + more) s.ended s.going s.failed ≡ after_read z n s
-      came (negsuc k) e h m = let z : ◌≡◌ {A = ℕ} 0 1 = cc in absurd (omega arith)
-      came (pos zero) e h m = absurd (h refl)
-      came (pos (suc k)) e h m = rw m
 
 -- what was in front of the bytes of a read is still there
 pub kept_front : (d m q : List ℕ) (at «end» : ℕ) → at ≤ «end» → «end» ≤ length d → m ≡ take («end» - at) (drop at d) ++ drop («end» - at) d
@@ -110,8 +95,7 @@ module _ (s : Situation) (input : List ℕ) where
       (λ k.
       let e : s.at ≡ s.«end» = omega arith in
       let f : false ≡ true = rw (eq-eqb s.at s.«end» e) at t in
-      let z : ◌≡◌ {A = ℕ} 0 1 = cc in
-      absurd (omega arith))
+      cc)
       (lt_or_le s.at s.«end»)
 
   -- or the input has ended, or all of its bytes are there
@@ -119,14 +103,14 @@ module _ (s : Situation) (input : List ℕ) where
   there_whole t e =
       let n = length_by (code_of (get_or input s.at 0)) in
       cond_by (λ (b : Bool). b ≡ true → n ≤ s.«end» - s.at) (eqb s.at s.«end») _ _
-      (λ q f. let z : ◌≡◌ {A = ℕ} 0 1 = cc in absurd (omega arith))
+      (λ q f. cc)
       (λ q f. leb-true n (s.«end» - s.at) (rw e at f)) t
 
   pub absent_none : is_there s input ≡ false → s.ended ≡ true → s.at ≡ s.«end»
   absent_none t e =
       cond_by (λ (b : Bool). b ≡ false → s.at ≡ s.«end») (eqb s.at s.«end») _ _
       (λ q f. eqb-true s.at s.«end» q)
-      (λ q f. let g : true ≡ false = rw e at f in let z : ◌≡◌ {A = ℕ} 0 1 = cc in absurd (omega arith)) t
+      (λ q f. let g : true ≡ false = rw e at f in cc) t
 
   pub absent_short : is_there s input ≡ false → s.ended ≡ false → s.«end» - s.at < 385
   absent_short t e =
