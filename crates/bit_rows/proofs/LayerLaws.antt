@@ -1,12 +1,14 @@
 -- That the layers give the word by halves, and laws of a loop that makes one layer per pass.
 use Rattle.std.specs.Prelude.{◌≡◌, List, [], ◌++◌, take, drop}
 use Rattle.std.proofs.Math.Path.{refl, ap, sym, subst}
-use Rattle.std.proofs.Common.{ap₂, ◌∙◌, append-nil, append_assoc, suc-mul, mul-add, add-mul, add-zero, le_trans, le-mul_of_pos_right, length-drop}
+use Rattle.std.proofs.Common.{ap₂, ◌∙◌, ⊎_elim, append-nil, append_assoc, suc-mul, add-one, add-zero, mul_comm, le-mul_of_pos_right, length-drop}
 use Rattle.std.proofs.Common.{length-append, take-append-drop, take_at, drop_at, take-take, drop-drop, length-take-le, pow_pos, pow-add}
-use Prim.Native.Nat.{ℕ, zero, suc, ◌+◌, ◌*◌, ◌-◌, ◌^◌, ◌/◌, ◌≤◌, ◌<◌}
+use Prim.Native.Nat.{ℕ, zero, suc, ◌+◌, ◌*◌, ◌-◌, ◌^◌, ◌/◌, ◌%◌, ◌≤◌, ◌<◌}
 use native.Mathlib.Omega.{arith}
-use Rattle.std.proofs.Math.Nat.{two-pow-succ}
+use Rattle.std.proofs.Math.Nat.{two-pow-succ, mul-mod_left, mul-div_cancel, one-mul, mod-eq_of_lt}
+use Rattle.std.proofs.Math.Pow.{pow_mono}
 use Rattle.std.proofs.Math.ListN.{length}
+use Rattle.numbers.specs.Choice.{lt_or_le}
 use Rattle.numbers.specs.Halves.{drop-take}
 use Rattle.words.specs.Bits.{Bits, xors}
 use Rattle.words.specs.Word.{transform}
@@ -14,6 +16,12 @@ use Rattle.words.specs.TransformLaws.{length-transform}
 use Rattle.bit_rows.specs.Fold.{folded}
 use Rattle.bit_rows.specs.Layers.{first_blocks, blocks, layer, layers, Steps}
 use Rattle.bit_rows.specs.BlockLaws.{blocks_end, blocks_more, blocks-append, length-blocks, bits_blocks, keeps_folded}
+
+-- ---- 2^m bits are whole blocks of 2^k
+pub whole-blocks : (k m n : ℕ) → k ≤ m → n ≡ 2 ^ m → n % 2 ^ k ≡ 0
+whole-blocks k m n h e =
+    let parts : n ≡ 2 ^ (m - k) * 2 ^ k = e ∙ ap (λ (i : ℕ). 2 ^ i) (omega arith) ∙ pow-add 2 (m - k) k in
+    rw parts (mul-mod_left (2 ^ (m - k)) (2 ^ k))
 
 -- ---- the first two of the blocks of 2^k bits
 module _ (k : ℕ) (x : List ℕ) (e : 2 ^ k + 2 ^ k ≤ length x) where
@@ -110,43 +118,59 @@ pub layers-transform : (m : ℕ) (x : List ℕ) → length x ≡ 2 ^ m → layer
 unfolding blocks
 layers-transform m x e = ap (layers m 1) (sym (ones-alone (length x / 1) x)) ∙ layers_double 0 m m (add-zero m) x e
 
--- ---- a loop that makes one layer per pass; this many are left, the next of step h
-pub record Layering (first count : ℕ) (x word : List ℕ) (h left : ℕ) : Type 0 where
-  pub some : 0 < h
-  pub room : h * 2 ^ left ≤ length word
-  pub same : length word ≡ length x
-  pub is : layers left h word ≡ layers count first x
+-- ---- a loop that makes one layer per pass, of a word of 2^m bits; the next is of step 2^t
+pub record Layering (from m : ℕ) (x word : List ℕ) (t : ℕ) : Type 0 where
+  pub long : length word ≡ 2 ^ m
+  pub is : layers (m - t) (2 ^ t) word ≡ layers (m - from) (2 ^ from) x
   pub bits : Bits word
 
-room_twice : (h l n : ℕ) → h * 2 ^ suc l ≤ n → (h + h) * 2 ^ l ≤ n
-room_twice h l n r = omega (arith, r, ap (λ (k : ℕ). h * k) (two-pow-succ l), mul-add h (2 ^ l) (2 ^ l), add-mul h h (2 ^ l))
+-- a power of two by a shift
+shifted : (t : ℕ) → 2 ^ t < 2 ^ 64 → (t < 64) × (1 * 2 ^ t % 2 ^ 64 ≡ 2 ^ t)
+shifted t h = (
+  ⊎_elim (λ k. k) (λ k. absurd (omega (arith, h, pow_mono k))) (lt_or_le t 64),
+  rw one-mul (mod-eq_of_lt h),
+)
 
-room_once : (h l n : ℕ) → h * 2 ^ l ≤ n → h ≤ n
-room_once h l n r = le_trans (le-mul_of_pos_right h (pow_pos l)) r
+module _ (from m : ℕ) (x word : List ℕ) (t : ℕ) (w : Layering from m x word t) where
+  module _ (more : t < m) where
+    parts : length word ≡ 2 ^ (m - 1 - t) * (2 ^ t + 2 ^ t)
+    parts =
+        w.long ∙ ap (λ (n : ℕ). 2 ^ n) (omega arith) ∙ pow-add 2 (m - 1 - t) (suc t)
+        ∙ ap (λ (n : ℕ). 2 ^ (m - 1 - t) * n) (two-pow-succ t)
 
-module _ (first count : ℕ) (x word : List ℕ) (h left : ℕ) (w : Layering first count x word h left) where
-  pub layer_asked : 0 < left → Steps h word
-  layer_asked more =
-      let q : left ≡ suc (left - 1) = omega arith in
-      let r = room_twice h (left - 1) (length word) (rw q at w.room) in
-      record { some = w.some; within = room_once (h + h) (left - 1) (length word) r; bits = w.bits }
+    pub layer_asked : Steps (2 ^ t) word
+    layer_asked = record {
+      some = pow_pos t;
+      within = omega (arith, parts, mul_comm (2 ^ (m - 1 - t)) (2 ^ t + 2 ^ t), le-mul_of_pos_right (2 ^ t + 2 ^ t) (pow_pos (m - 1 - t)));
+      bits = w.bits;
+    }
 
-  pub next-layer : 0 < left → (out : List ℕ) → out ≡ layer h word → Layering first count x out (h + h) (left - 1)
+    -- the step and the number of blocks are numbers of 64 bits, as the length is
+    module _ (fits : length word < 2 ^ 64) where
+      pub the-step : (t < 64) × (1 * 2 ^ t % 2 ^ 64 ≡ 2 ^ t)
+      the-step = shifted t (omega (arith, layer_asked.within))
+
+      pub the-count : (m - 1 - t < 64) × (1 * 2 ^ (m - 1 - t) % 2 ^ 64 ≡ length word / (2 ^ t + 2 ^ t))
+      the-count =
+          let p = pow_pos t in
+          let c = shifted (m - 1 - t) (omega (arith, w.long, pow_mono {i = m - 1 - t} {j = m} (omega arith))) in
+          (c.0, c.1 ∙ sym (rw parts (mul-div_cancel (2 ^ (m - 1 - t)) (omega arith))))
+
+  pub next-layer : t < m → (out : List ℕ) → out ≡ layer (2 ^ t) word → Layering from m x out (t + 1)
   unfolding layers
   next-layer more out e =
-      let q : left ≡ suc (left - 1) = omega arith in
+      let h = 2 ^ t in
+      let q : m - t ≡ suc (m - (t + 1)) = omega arith in
       let keeps = keeps_folded h in
-      let same : length out ≡ length word = ap length e ∙ length-blocks (folded h) (h + h) keeps word in
+      let twice : 2 ^ (t + 1) ≡ h + h = ap (λ (n : ℕ). 2 ^ n) (add-one t) ∙ two-pow-succ t in
       record {
-        some = omega (arith, w.some);
-        room = rw same (room_twice h (left - 1) (length word) (rw q at w.room));
-        same = same ∙ w.same;
-        is = rw e (sym (ap (λ (l : ℕ). layers l h word) q) ∙ w.is);
+        long = ap length e ∙ length-blocks (folded h) (h + h) keeps word ∙ w.long;
+        is = rw (twice, e) (sym (ap (λ (l : ℕ). layers l h word) q) ∙ w.is);
         bits = subst Bits (sym e) (bits_blocks (folded h) (h + h) keeps word w.bits);
       }
 
-  pub last-layer : left ≤ 0 → word ≡ layers count first x
+  pub last-layer : m ≤ t → word ≡ layers (m - from) (2 ^ from) x
   unfolding layers
   last-layer e =
-      let q : left ≡ 0 = omega arith in
-      sym (ap (λ (l : ℕ). layers l h word) q) ∙ w.is
+      let q : m - t ≡ 0 = omega arith in
+      sym (ap (λ (l : ℕ). layers l (2 ^ t) word) q) ∙ w.is

@@ -1,7 +1,7 @@
 -- Laws of sixteen bits as two numbers: three layers on each at once, the fourth between them. And laws of a loop that puts the words of a list's blocks
 -- into a row of its own.
-use Rattle.std.specs.Prelude.{◌≡◌, refl, List, [], ◌∷◌, ◌++◌, ℕ, zero, suc, ◌+◌, ◌-◌, ◌^◌, ◌/◌, ◌%◌, ◌≤◌, ◌<◌, length, take, drop}
-use Rattle.std.proofs.Common.{ap, ap₂, sym, ◌∙◌, subst, append-nil, append_assoc, zero-le, arith, length-drop, length-append, drop_of_length-le, take_at}
+use Rattle.std.specs.Prelude.{◌≡◌, refl, List, [], ◌∷◌, ◌++◌, ℕ, zero, suc, ◌+◌, ◌*◌, ◌-◌, ◌^◌, ◌/◌, ◌%◌, ◌≤◌, ◌<◌, length, take, drop}
+use Rattle.std.proofs.Common.{ap, ap₂, sym, ◌∙◌, subst, append-nil, append_assoc, arith, length-drop, length-append, drop_of_length-le, take_at}
 use Rattle.std.proofs.Common.{drop_at, drop-drop, take_all, length-take-le}
 use Rattle.std.specs.Int.Bits.{bit_xor}
 use Rattle.std.proofs.lemmas.Nat.{xor_shr, xor_mod}
@@ -93,42 +93,37 @@ module _ (w : List ℕ) (long : 16 ≤ length w) (bits : Bits w) (x y : ℕ) (fi
       ∙ sym (append_assoc front (unpacked y) (drop 16 row))
       ∙ ap (λ (l : List ℕ). l ++ drop 16 row) word
 
--- ---- a loop that puts f of one block of x into a row per pass, from the front; the blocks before s are done
-pub record Putting (f : List ℕ → List ℕ) (x row : List ℕ) (s : ℕ) : Type 0 where
-  pub within : s ≤ length x
-  pub whole : s % 16 ≡ 0
+-- ---- a loop that puts f of one block of x into a row per pass, from the front; the first k blocks are done
+pub record Putting (f : List ℕ → List ℕ) (x row : List ℕ) (k : ℕ) : Type 0 where
+  pub within : 16 * k ≤ length x
   pub same : length row ≡ length x
-  pub is : take s row ++ blocks f 16 (drop s x) ≡ blocks f 16 x
+  pub is : take (16 * k) row ++ blocks f 16 (drop (16 * k) x) ≡ blocks f 16 x
 
 module _ (f : List ℕ → List ℕ) (x : List ℕ) where
-  pub first_put : (row : List ℕ) → length row ≡ length x → Putting f x row 0
-  first_put row e = record { within = zero-le; whole = refl; same = e; is = refl }
+  module _ (row : List ℕ) (k : ℕ) (p : Putting f x row k) where
+    abbrev s : ℕ
+    s = 16 * k
 
-  module _ (row : List ℕ) (s : ℕ) (p : Putting f x row s) where
-    pub last_put : length x % 16 ≡ 0 → length x - s < 16 → row ≡ blocks f 16 x
+    pub last_put : length x % 16 ≡ 0 → length x / 16 ≤ k → row ≡ blocks f 16 x
     last_put e h =
-        let all : s ≡ length x = omega (arith, p.within, p.whole) in
-        let none : drop s x ≡ [] = drop_of_length-le x {i = s} (omega arith) in
+        let all : length x ≤ s = omega arith in
         sym (take_all s row (omega (arith, p.same)))
         ∙ sym (append-nil (take s row))
         ∙ ap (λ (l : List ℕ). take s row ++ l) (sym (blocks_end f 16 [] (omega arith)))
-        ∙ ap (λ (l : List ℕ). take s row ++ blocks f 16 l) (sym none)
+        ∙ ap (λ (l : List ℕ). take s row ++ blocks f 16 l) (sym (drop_of_length-le x {i = s} all))
         ∙ p.is
 
-    module _ (more : 16 ≤ length x - s) where
-      pub put_asked : Bits x → (16 ≤ length (mid_of s (length x - s) x)) × (16 ≤ length (mid_of s (length row - s) row)) × Bits (mid_of s (length x - s) x)
-      put_asked bits = (
-        rw (lent_from s x) (simp length-drop more),
-        rw (lent_from s row) (simp length-drop (omega (arith, p.same))),
-        subst Bits (sym (lent_from s x)) (bits_drop s x bits),
-      )
+    module _ (left : k < length x / 16) where
+      more : 16 ≤ length x - s
+      more = omega arith
 
       pub next_put : Keeps f 16 → (out : List ℕ) → out ≡ f (take 16 (mid_of s (length x - s) x)) ++ drop 16 (mid_of s (length row - s) row)
-          → Putting f x (put_mid s (length row - s) row out) (s + 16)
+          → Putting f x (put_mid s (length row - s) row out) (k + 1)
       next_put keeps out e =
           let block = take 16 (drop s x) in
           let done = f block in
           let rest = drop 16 (drop s row) in
+          let next : 16 * (k + 1) ≡ s + 16 = omega arith in
           let ld : length done ≡ 16 = keeps.long block (length-take-le 16 (drop s x) (simp length-drop more)) in
           let ls : length (take s row) ≡ s = length-take-le s row (omega (arith, p.same, p.within)) in
           let lb : length (take s row ++ done) ≡ s + 16 = length-append (take s row) done ∙ omega (arith, ld, ls) in
@@ -137,12 +132,11 @@ module _ (f : List ℕ → List ℕ) (x : List ℕ) where
           back_from s row out
           ∙ ap (λ (l : List ℕ). take s row ++ l) (e ∙ ap₂ (λ (k l : List ℕ). f (take 16 k) ++ drop 16 l) (lent_from s x) (lent_from s row))
           ∙ sym (append_assoc (take s row) done rest) in
-          subst (λ (l : List ℕ). Putting f x l (s + 16)) (sym put) (record {
-            within = omega arith;
-            whole = omega (arith, p.whole);
-            same = length-append (take s row ++ done) rest ∙ omega (arith, lb, lr, p.same);
+          subst (λ (l : List ℕ). Putting f x l (k + 1)) (sym put) (record {
+            within = omega (arith, more);
+            same = length-append (take s row ++ done) rest ∙ omega (arith, lb, lr, p.same, more);
             is =
-                rw (take_at (take s row ++ done) rest (s + 16) lb, ← (drop-drop 16 s x))
+                rw (next, take_at (take s row ++ done) rest (s + 16) lb, ← (drop-drop 16 s x))
                 (append_assoc (take s row) done (blocks f 16 (drop 16 (drop s x)))
                 ∙ ap (λ (l : List ℕ). take s row ++ l) (sym (blocks_more f 16 (drop s x) (omega arith) (simp length-drop more)))
                 ∙ p.is);

@@ -1,16 +1,18 @@
 -- That a code's row of kinds is made of such eights, and the loop that fills it by them.
-use Rattle.std.specs.Prelude.{◌≡◌, refl, Bool, true, false, leb, get_or, take, drop}
+use Rattle.std.specs.Prelude.{◌≡◌, refl, Bool, true, false, leb, get_or, set, replicate, take, drop}
 use Rattle.std.proofs.Math.Path.{ap, ap₂, subst}
-use Rattle.std.proofs.Common.{sym, ◌∙◌, ⊎_elim, not-suc-le-zero, le_of_suc-le-suc, pow-add, length-drop, drop_of_length-le, take_at, take_all, drop-drop}
+use Rattle.std.proofs.Common.{sym, ◌∙◌, ⊎_elim, pow-add, length-drop, drop_of_length-le, take_at, take_all, drop-drop}
 use Rattle.std.proofs.Common.{length-take-le, le-leb}
 use Rattle.std.proofs.Math.Bool.{cond}
 use mathlib.Core.List.{List, [], ◌∷◌, ◌++◌, append-nil, append_assoc}
-use Prim.Native.Nat.{ℕ, zero, suc, ◌+◌, ◌*◌, ◌-◌, ◌^◌, ◌/◌, ◌%◌, ◌≤◌, ◌<◌, zero-le}
+use Prim.Native.Nat.{ℕ, zero, suc, ◌+◌, ◌*◌, ◌-◌, ◌^◌, ◌/◌, ◌%◌, ◌≤◌, ◌<◌}
 use native.Mathlib.Omega.{arith}
 use Rattle.std.proofs.Math.Nat.{two-pow-succ, div-div-eq-div-mul}
 use Rattle.std.specs.Int.Count as Count
 use Rattle.std.proofs.Math.ListN.{length, length-append, get_or-eq_default}
-use Rattle.std.proofs.Math.Seq.{drop_at}
+use Rattle.std.proofs.Math.Numerals.{add-one}
+use Rattle.std.proofs.Math.Seq.{drop_at, drop-cons}
+use Rattle.std.proofs.lemmas.List.{get_or-replicate}
 use borrow.Rule.Slice.PartMut.{mid_of, put_mid}
 use Rattle.std.proofs.lemmas.Bool.{lt-leb}
 use Rattle.numbers.specs.Choice.{lt_or_le}
@@ -23,6 +25,7 @@ use Rattle.words.specs.Kinds.{kind, kinds, fill}
 use Rattle.words.proofs.KindLaws.{length-kinds}
 use Rattle.words.proofs.FillLaws.{length-fill}
 use Rattle.bit_rows.specs.EightKinds.{eight_kinds, Fillable}
+use Rattle.bit_rows.specs.FillLaws.{Filled, fill_kept, bit_left, fill_information, fill_ends}
 
 -- ---- the ones of an index, of which the lowest three digits are j
 digit_low : (p s j : ℕ) → p < 3 → s % 8 ≡ 0 → j < 8 → digit p (s + j) ≡ digit p s + digit p j
@@ -91,20 +94,10 @@ pub length-eight_kinds : (d : ℕ) → length (eight_kinds d) ≡ 8
 unfolding eight_kinds
 length-eight_kinds d = length-tabulate (λ j. cond (leb d (ones 3 j)) 1 0) 8
 
-pub same_kinds : (d k : ℕ) → d ≡ k → eight_kinds d ≡ eight_kinds k
-same_kinds d k e = ap eight_kinds e
-
 -- four ones are in none of them
 pub no_kinds : (d : ℕ) → 4 ≤ d → eight_kinds d ≡ eight_kinds 4
 unfolding eight_kinds tabulate ones digit
 no_kinds d h = rw (lt-leb d 0 (omega arith), lt-leb d 1 (omega arith), lt-leb d 2 (omega arith), lt-leb d 3 (omega arith))
-
--- ---- the bits in front, one by one
-pub first_of : (n : ℕ) (b : List ℕ) → n ≤ length b → b ≡ tabulate (λ i. get_or b i 0) n ++ drop n b
-unfolding tabulate
-first_of zero b h = refl
-first_of (suc n) [] h = absurd (not-suc-le-zero h)
-first_of (suc n) (a ∷ b) h = ap (λ (l : List ℕ). a ∷ l) (first_of n b (le_of_suc-le-suc h))
 
 -- ---- filling by parts
 pub fill-append : (p q b : List ℕ) → Bits p → sum p ≤ length b → fill (p ++ q) b ≡ fill p b ++ fill q (drop (sum p) b)
@@ -131,6 +124,59 @@ bits_eight_kinds d i =
     (λ h. rw (get_or-eq_default (tabulate f 8) 0 {n = i} (rw (length-tabulate f 8) h)) (omega arith))
     (lt_or_le i 8)
 
+-- ---- a loop that fills eight indices one by one: those before j are filled and took `used` bits
+pub record OfEight (d : ℕ) (bits row : List ℕ) (j used : ℕ) : Type 0 where
+  pub filled : Filled (eight_kinds d) bits (replicate 8 0) row j used
+  pub left : used + sum (drop j (eight_kinds d)) ≡ sum (eight_kinds d)
+
+same_length : (d : ℕ) → length {A = ℕ} (replicate 8 0) ≡ length (eight_kinds d)
+same_length d = sym (length-eight_kinds d)
+
+module _ (d : ℕ) (bits row : List ℕ) (j used : ℕ) (w : OfEight d bits row j used) where
+  within : j < 8 → j < length (eight_kinds d)
+  within h = rw (length-eight_kinds d) h
+
+  kind-counted : j < 8 → get_or (eight_kinds d) j 0 ≡ cond (leb d (Count.ones j)) 1 0
+  unfolding eight_kinds
+  kind-counted h =
+      get_d_tabulate (λ i. cond (leb d (ones 3 i)) 1 0) 8 j 0 h ∙ ap (λ (n : ℕ). cond (leb d n) 1 0) (sym (ones-counted 3 j h))
+
+  kinds-left : j < 8 → drop j (eight_kinds d) ≡ get_or (eight_kinds d) j 0 ∷ drop (j + 1) (eight_kinds d)
+  kinds-left h = drop-cons (eight_kinds d) j 0 (within h) ∙ rw add-one refl
+
+  pub eight_frozen : j < 8 → Count.ones j < d → OfEight d bits row (j + 1) used
+  unfolding sum
+  eight_frozen h few =
+      let none : get_or (eight_kinds d) j 0 ≡ 0 = kind-counted h ∙ rw (lt-leb d (Count.ones j) few) refl in
+      record {
+        filled =
+            fill_kept (eight_kinds d) bits (replicate 8 0) (same_length d) row j used w.filled (within h) none
+            (get_or-replicate 8 j 0 0 h);
+        left = omega (arith, ap sum (kinds-left h), none, w.left);
+      }
+
+  module _ (h : j < 8) (enough : d ≤ Count.ones j) where
+    one : get_or (eight_kinds d) j 0 ≡ 1
+    one = kind-counted h ∙ rw (le-leb d (Count.ones j) enough) refl
+
+    pub eight_bit_left : used < length bits
+    eight_bit_left = bit_left (eight_kinds d) bits (replicate 8 0) (same_length d) row j used w.filled (within h) (λ z. absurd (omega (arith, one)))
+
+    pub eight_information : OfEight d bits (set row j (get_or bits used 0)) (j + 1) (used + 1)
+    unfolding sum
+    eight_information = record {
+      filled = fill_information (eight_kinds d) bits (replicate 8 0) (same_length d) row j used w.filled (within h) (λ z. absurd (omega (arith, one)));
+      left = omega (arith, ap sum (kinds-left h), one, w.left);
+    }
+
+  pub eight_ends : 8 ≤ j → (row ≡ fill (eight_kinds d) bits) × (used ≡ sum (eight_kinds d))
+  unfolding sum
+  eight_ends h =
+      let all : length (eight_kinds d) ≤ j = omega (arith, length-eight_kinds d) in (
+        fill_ends (eight_kinds d) bits (replicate 8 0) (same_length d) row j used w.filled all,
+        omega (arith, ap sum (drop_of_length-le (eight_kinds d) {i = j} all), w.left),
+      )
+
 -- ---- a loop that fills eight indices per pass: those before s are filled and took `used` bits
 pub record ByEights (r m : ℕ) (bits row : List ℕ) (s used : ℕ) : Type 0 where
   pub whole : s % 8 ≡ 0
@@ -139,28 +185,32 @@ pub record ByEights (r m : ℕ) (bits row : List ℕ) (s used : ℕ) : Type 0 wh
   pub is : take s row ++ fill (drop s (kinds r m)) (drop used bits) ≡ fill (kinds r m) bits
   pub room : used + sum (drop s (kinds r m)) ≤ length bits
 
-pub eights_start : (r m : ℕ) (bits row : List ℕ) → Fillable r m bits row → ByEights r m bits row 0 0
-eights_start r m bits row f = record { whole = refl; within = zero-le; long = f.long_row; is = refl; room = omega (arith, f.enough) }
+module _ (r m : ℕ) (bits row₀ : List ℕ) (f : Fillable r m bits row₀) (row : List ℕ) (s used : ℕ) (w : ByEights r m bits row s used) where
+  -- the row is whole blocks of eight
+  blocks : 2 ^ m ≡ 8 * 2 ^ (m - 3)
+  blocks =
+      let q : 3 + (m - 3) ≡ m = omega (arith, f.eight) in
+      ap (λ (n : ℕ). 2 ^ n) (sym q) ∙ pow-add 2 3 (m - 3)
 
-module _ (r m : ℕ) (bits row : List ℕ) (s used : ℕ) (w : ByEights r m bits row s used) where
-  pub eights_end : 2 ^ m ≤ s → row ≡ fill (kinds r m) bits
+  pub eights_end : length row₀ / 8 * 8 ≤ s → row ≡ fill (kinds r m) bits
   eights_end h =
+      let past : 2 ^ m ≤ s = omega (arith, f.long_row, blocks) in
       let none = drop_of_length-le (kinds r m) {i = s} (omega (arith, length-kinds r m)) in
       sym (append-nil row)
       ∙ ap₂ ◌++◌ (sym (take_all s row (omega (arith, w.long)))) (sym (ap (λ (ks : List ℕ). fill ks (drop used bits)) none))
       ∙ w.is
 
-  module _ (eight : 3 ≤ m) (more : s < 2 ^ m) where
+  module _ (left : s < length row₀) where
+    more : s < 2 ^ m
+    more = omega (arith, f.long_row)
+
     -- a whole block is there
     pub block_within : s + 8 ≤ 2 ^ m
-    block_within =
-        let q : 3 + (m - 3) ≡ m = omega arith in
-        let p : 2 ^ m ≡ 8 * 2 ^ (m - 3) = ap (λ (n : ℕ). 2 ^ n) (sym q) ∙ pow-add 2 3 (m - 3) in
-        omega (arith, w.whole)
+    block_within = omega (arith, w.whole, more, blocks)
 
     -- its kinds, and those that are left
     cut : drop s (kinds r m) ≡ eight_kinds (m - r - ones m s) ++ drop (s + 8) (kinds r m)
-    cut = eight_kinds_lem r m s eight w.whole block_within
+    cut = eight_kinds_lem r m s f.eight w.whole block_within
 
     sums : sum (drop s (kinds r m)) ≡ sum (eight_kinds (m - r - ones m s)) + sum (drop (s + 8) (kinds r m))
     sums = ap sum cut ∙ sum-append (eight_kinds (m - r - ones m s)) (drop (s + 8) (kinds r m))

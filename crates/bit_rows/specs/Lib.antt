@@ -10,3 +10,4 @@ pub mod PickLaws
 pub mod EightKinds
 pub mod EightKindsLaws
 pub mod Takeable
+pub mod FrozenOne

@@ -1,8 +1,10 @@
 // On lent bytes: fold, the in-place transform, filling a row with information bits and taking
 // them back.
+// stays: slices of bits beside an m or their kinds, as C lends them: a struct of them would be
+// built and taken apart at each call.
 #![tactic(auto)]
 
-ghost use Rattle.std.specs.Prelude.{◌≡◌, ◌+◌, ◌*◌, ◌-◌, ◌^◌, ◌%◌, ◌≤◌, ◌<◌, ◌++◌, ltb, length};
+ghost use Rattle.std.specs.Prelude.{◌≡◌, ◌+◌, ◌*◌, ◌-◌, ◌^◌, ◌/◌, ◌%◌, ◌≤◌, ◌<◌, ◌++◌, ltb, length};
 ghost use Rattle.std.specs.Prelude.{take, drop};
 ghost use Rattle.numbers.specs.Sums.{sum};
 ghost use Rattle.words.specs.Bits.{Bits};
@@ -16,91 +18,65 @@ ghost use Rattle.bit_rows.specs.Eight.{packed, unpacked, bytes_added, pairs_adde
 ghost use Rattle.bit_rows.specs.EightKinds.{eight_kinds, Fillable};
 ghost use Rattle.bit_rows.specs.Pick.{Pickable, pick_front};
 ghost use Rattle.bit_rows.specs.Takeable.{Takeable};
+ghost use Rattle.bit_rows.specs.FrozenOne.{found_frozen_one};
 
 // Adds the second h bits of a word into its first h, modulo 2; the word may be longer.
-fn fold_front(word: &mut [u8], h: usize)
+pub fn fold(word: &mut [u8], h: usize)
     requires { (h + h ≤ length word.old) × Bits word.old }
-    ensures { word.new ≡ on_front (folded h) (h + h) word.old }
+    ensures { word.new ≡ folded h word.old }
 {
-    let mut j = 0;
-    while j < h {
+    for j in 0..h {
         word[j] = (word[j] + word[h + j]) % 2;
-        j += 1;
     }
 }
 
-// Adds the second half of a word of 2h bits into the first, modulo 2.
-pub fn fold(word: &mut [u8], h: usize)
-    requires { (length word.old ≡ h + h) × Bits word.old }
-    ensures { word.new ≡ folded h word.old }
-{
-    fold_front(word, h);
-}
-
-// Folds each whole block of 2h bits: the word from the block's start on is lent to be folded.
-fn fold_blocks(word: &mut [u8], h: usize)
-    requires { Steps h word.old }
+// Folds each block of 2h bits: the word from the block's start on is lent to be folded.
+fn fold_blocks(word: &mut [u8], h: usize, blocks: usize)
+    requires { Steps h word.old × (blocks ≡ length word.old / (h + h)) }
     ensures { word.new ≡ layer h word.old }
 {
-    let n = word.len();
-    let b = h + h;
-    let mut start = 0;
-    while b <= n - start {
-        fold_front(&mut word[start..], h);
-        start += b;
+    for k in 0..blocks {
+        fold(&mut word[(h + h) * k..], h);
     }
 }
 
 // One layer. The compiler unrolls the fold of a block where its step is a constant; only words of
 // fewer than eight bits have other steps.
-fn layer(word: &mut [u8], h: usize)
-    requires { Steps h word.old }
+// stays: a const parameter needs the same arms, and a second function for the other steps
+fn layer(word: &mut [u8], h: usize, blocks: usize)
+    requires { Steps h word.old × (blocks ≡ length word.old / (h + h)) }
     ensures { word.new ≡ layer h word.old }
 {
     match h {
-        8 => fold_blocks(word, 8),
-        16 => fold_blocks(word, 16),
-        32 => fold_blocks(word, 32),
-        64 => fold_blocks(word, 64),
-        128 => fold_blocks(word, 128),
-        _ => fold_blocks(word, h),
+        8 => fold_blocks(word, 8, blocks),
+        16 => fold_blocks(word, 16, blocks),
+        32 => fold_blocks(word, 32, blocks),
+        64 => fold_blocks(word, 64, blocks),
+        128 => fold_blocks(word, 128, blocks),
+        _ => fold_blocks(word, h, blocks),
     }
 }
 
-// This many layers, of which the first has step `first`; each step is twice the one before.
-fn layers(word: &mut [u8], first: usize, count: usize)
-    requires { (0 < first) × (first * 2 ^ count ≤ length word.old) × Bits word.old }
-    ensures { word.new ≡ layers count first word.old }
+// The layers of steps 2^from, .., 2^(m - 1), one after the other.
+fn layers(word: &mut [u8], from: usize, m: usize)
+    requires { (from ≤ m) × (length word.old ≡ 2 ^ m) × Bits word.old }
+    ensures { word.new
+        ≡ layers (m - from) (2 ^ from) word.old }
 {
-    let mut h = first;
-    let mut left = count;
-    while 0 < left {
-        layer(word, h);
-        h = h + h;
-        left -= 1;
+    for t in from..m {
+        layer(word, 1 << t, 1 << (m - 1 - t));
     }
 }
 
-fn wide(x: u8) -> u64
-    ensures { (result ≡ x) × (result < 256) }
-{
-    x as u64
-}
-
-// The first eight bytes as one number, the first byte lowest. The compiler makes one load of bytes
-// that are joined by `|`, and vector code of a loop over such loads; it does not for their sum.
+// The first eight bytes as one number, the first byte lowest. The compiler makes one load of it,
+// and vector code of a loop over such loads that has one end (`0..n / 8`; a `step_by` has two).
 fn load(word: &[u8]) -> u64
     requires { 8 ≤ length word.now }
     ensures { result ≡ packed word.now }
 {
-    wide(word[0])
-        | wide(word[1]) * 0x100
-        | wide(word[2]) * 0x10000
-        | wide(word[3]) * 0x1000000
-        | wide(word[4]) * 0x100000000
-        | wide(word[5]) * 0x10000000000
-        | wide(word[6]) * 0x1000000000000
-        | wide(word[7]) * 0x100000000000000
+    u64::from_le_bytes([
+        word[0], word[1], word[2], word[3], word[4], word[5], word[6], word[7],
+    ])
 }
 
 // Puts the eight bytes of a number in front. The compiler makes one store of it.
@@ -108,14 +84,7 @@ fn store(word: &mut [u8], x: u64)
     requires { 8 ≤ length word.old }
     ensures { word.new ≡ unpacked x ++ drop 8 word.old }
 {
-    word[0] = (x % 256) as u8;
-    word[1] = (x / 0x100 % 256) as u8;
-    word[2] = (x / 0x10000 % 256) as u8;
-    word[3] = (x / 0x1000000 % 256) as u8;
-    word[4] = (x / 0x100000000 % 256) as u8;
-    word[5] = (x / 0x10000000000 % 256) as u8;
-    word[6] = (x / 0x1000000000000 % 256) as u8;
-    word[7] = (x / 0x100000000000000 % 256) as u8;
+    copy(&x.to_le_bytes(), &mut word[0..8]);
 }
 
 // Eight bits, one in each byte of a number: the first three layers, by bytes, pairs and fours.
@@ -141,11 +110,8 @@ fn eights(word: &mut [u8])
     requires { Bits word.old }
     ensures { word.new ≡ blocks (transform 3) 8 word.old }
 {
-    let n = word.len();
-    let mut at = 0;
-    while 8 <= n - at {
-        eight(&mut word[at..]);
-        at += 8;
+    for k in 0..word.len() / 8 {
+        eight(&mut word[8 * k..]);
     }
 }
 
@@ -156,13 +122,15 @@ pub fn transform(word: &mut [u8], m: usize)
     ensures { word.new ≡ transform m word.old }
 {
     if m < 3 {
-        layers(word, 1, m);
+        layers(word, 0, m);
         return;
     }
     eights(word);
-    layers(word, 8, m - 3);
+    layers(word, 3, m);
 }
 
+// One slice into another.
+// stays: `copy_from_slice` compares addresses, which the build for 32 bits (tools/portable) refuses
 pub fn copy<T: Copy>(from: &[T], to: &mut [T])
     requires { length to.old ≡ length from.now }
     ensures { to.new ≡ from.now }
@@ -177,96 +145,51 @@ pub fn fill(kinds: &[u8], bits: &[u8], row: &mut [u8])
     requires { (length row.old ≡ length kinds.now) × (sum kinds.now ≤ length bits.now) }
     ensures { row.new ≡ fill kinds.now bits.now }
 {
-    let mut i = 0;
     let mut used = 0;
-    while i < kinds.len() {
-        if kinds[i] == 0 {
+    for (i, kind) in kinds.iter().enumerate() {
+        if *kind == 0 {
             row[i] = 0;
         } else {
             row[i] = bits[used];
             used += 1;
         }
-        i += 1;
     }
 }
 
-// Eight information indices in a row. All bits are read before one is written, so that the
-// compiler makes few loads and stores of them.
-fn put_eight(bits: &[u8], row: &mut [u8])
-    requires { (8 ≤ length bits.now) × (length row.old ≡ 8) }
-    ensures { row.new ≡ fill (eight_kinds 0) bits.now }
+// Eight indices of which those with D ones or more carry information; how many bits they take.
+// They are read into an array before one is written, and D is a constant, so that the compiler
+// makes few loads and stores of them and leaves no loop.
+fn put_eight<const D: u32>(bits: &[u8], row: &mut [u8]) -> usize
+    requires { (length row.old ≡ 8) × (sum (eight_kinds D) ≤ length bits.now) }
+    ensures { (row.new ≡ fill (eight_kinds D) bits.now)
+        × (result ≡ sum (eight_kinds D)) }
 {
-    copy(
-        &[
-            bits[0], bits[1], bits[2], bits[3], bits[4], bits[5], bits[6], bits[7],
-        ],
-        row,
-    );
+    let mut eight = [0u8; 8];
+    let mut used = 0;
+    for j in 0..8usize {
+        if D <= j.count_ones() {
+            eight[j] = bits[used];
+            used += 1;
+        }
+    }
+    copy(&eight, row);
+    used
 }
 
-// Eight indices of which all but the first carry information.
-fn put_seven(bits: &[u8], row: &mut [u8])
-    requires { (7 ≤ length bits.now) × (length row.old ≡ 8) }
-    ensures { row.new ≡ fill (eight_kinds 1) bits.now }
-{
-    copy(
-        &[
-            0, bits[0], bits[1], bits[2], bits[3], bits[4], bits[5], bits[6],
-        ],
-        row,
-    );
-}
-
-// Eight indices of which those with two ones or more carry information.
-fn put_four(bits: &[u8], row: &mut [u8])
-    requires { (4 ≤ length bits.now) × (length row.old ≡ 8) }
-    ensures { row.new ≡ fill (eight_kinds 2) bits.now }
-{
-    copy(&[0, 0, 0, bits[0], 0, bits[1], bits[2], bits[3]], row);
-}
-
-// Eight indices of which the last carries information.
-fn put_one(bits: &[u8], row: &mut [u8])
-    requires { (1 ≤ length bits.now) × (length row.old ≡ 8) }
-    ensures { row.new ≡ fill (eight_kinds 3) bits.now }
-{
-    copy(&[0, 0, 0, 0, 0, 0, 0, bits[0]], row);
-}
-
-// Eight indices of which those with d ones or more carry information; how many bits they take.
+// The same for a d that is not constant: four ones or more are in none of them.
+// stays: a closure needs the same arms, since only a constant leaves no loop
 fn fill_eight(d: u32, bits: &[u8], row: &mut [u8]) -> usize
     requires { (length row.old ≡ 8) × (sum (eight_kinds d) ≤ length bits.now) }
     ensures { (row.new ≡ fill (eight_kinds d) bits.now)
         × (result ≡ sum (eight_kinds d)) }
 {
     match d {
-        0 => {
-            put_eight(bits, row);
-            8
-        }
-        1 => {
-            put_seven(bits, row);
-            7
-        }
-        2 => {
-            put_four(bits, row);
-            4
-        }
-        3 => {
-            put_one(bits, row);
-            1
-        }
-        _ => {
-            copy(&[0, 0, 0, 0, 0, 0, 0, 0], row);
-            0
-        }
+        0 => put_eight::<0>(bits, row),
+        1 => put_eight::<1>(bits, row),
+        2 => put_eight::<2>(bits, row),
+        3 => put_eight::<3>(bits, row),
+        _ => put_eight::<4>(bits, row),
     }
-}
-
-fn still_needed(need: u32, ones: u32) -> u32
-    ensures { result ≡ need - ones }
-{
-    if need <= ones { 0 } else { need - ones }
 }
 
 // The row u of RM(r,m), eight indices at a time: only the ones of a block's start are counted.
@@ -274,14 +197,11 @@ pub fn fill_code(r: u32, m: u32, bits: &[u8], row: &mut [u8])
     requires { Fillable r m bits.now row.old }
     ensures { row.new ≡ fill (kinds r m) bits.now }
 {
-    let n = row.len();
-    let mut s = 0;
     let mut used = 0;
-    while s < n {
-        let d = still_needed(m - r, usize::count_ones(s));
-        let e = s + 8;
-        used += fill_eight(d, &bits[used..], &mut row[s..e]);
-        s = e;
+    for k in 0..row.len() / 8 {
+        let s = 8 * k;
+        let d = (m - r).saturating_sub(s.count_ones());
+        used += fill_eight(d, &bits[used..], &mut row[s..s + 8]);
     }
 }
 
@@ -293,20 +213,19 @@ fn pick_each(kinds: &[u8], row: &[u8], bits: &mut [u8]) -> usize
         ≡ pick_front kinds.now row.now bits.old)
         × (result ≡ sum kinds.now) }
 {
-    let mut i = 0;
     let mut taken = 0;
-    while i < kinds.len() {
-        if kinds[i] != 0 {
+    for (i, kind) in kinds.iter().enumerate() {
+        if *kind != 0 {
             bits[taken] = row[i];
             taken += 1;
         }
-        i += 1;
     }
     taken
 }
 
 // The same for the first eight kinds. The five rows of eight that codes are made of are constants
 // here, and the compiler leaves neither loop nor tests of them; any other eight keep both.
+// stays: a closure needs the same arms
 fn pick_eight(kinds: &[u8], row: &[u8], bits: &mut [u8]) -> usize
     requires { (8 ≤ length kinds.now) × Pickable kinds.now row.now bits.old }
     ensures { (bits.new
@@ -329,13 +248,13 @@ pub fn pick(kinds: &[u8], row: &[u8], bits: &mut [u8])
         × (length bits.old ≡ sum kinds.now) × Bits kinds.now }
     ensures { bits.new ≡ pick kinds.now row.now }
 {
-    let n = kinds.len();
-    let mut at = 0;
+    let eights = kinds.len() / 8;
     let mut taken = 0;
-    while 8 <= n - at {
+    for k in 0..eights {
+        let at = 8 * k;
         taken += pick_eight(&kinds[at..], &row[at..], &mut bits[taken..]);
-        at += 8;
     }
+    let at = 8 * eights;
     pick_each(&kinds[at..], &row[at..], &mut bits[taken..]);
 }
 
@@ -346,30 +265,26 @@ fn some_frozen_one(kinds: &[u8], row: &[u8]) -> bool
         (length kinds.now) }
 {
     let mut some = false;
-    let mut i = 0;
-    while i < kinds.len() {
-        some = some | ((kinds[i] == 0) & (row[i] != 0));
-        i += 1;
+    for (i, kind) in kinds.iter().enumerate() {
+        some = some | ((*kind == 0) & (row[i] != 0));
     }
     some
 }
 
-// The lowest frozen index where the row is 1, or the row's length if there is none.
-pub fn first_frozen_one(kinds: &[u8], row: &[u8]) -> usize
+// The lowest frozen index where the row is 1, if there is one.
+pub fn first_frozen_one(kinds: &[u8], row: &[u8]) -> Option<usize>
     requires { length row.now ≡ length kinds.now }
-    ensures { result ≡ first_frozen_one kinds.now row.now }
+    ensures { result ≡ found_frozen_one kinds.now row.now }
 {
     if !some_frozen_one(kinds, row) {
-        return kinds.len();
+        return None;
     }
-    let mut i = 0;
-    while i < kinds.len() {
-        if kinds[i] == 0 && row[i] != 0 {
-            return i;
+    for (i, kind) in kinds.iter().enumerate() {
+        if *kind == 0 && row[i] != 0 {
+            return Some(i);
         }
-        i += 1;
     }
-    i
+    None
 }
 
 // The transform of the first sixteen bits of a word, put in front of a row: eight bits in each of
@@ -385,17 +300,16 @@ fn put_sixteen(word: &[u8], row: &mut [u8])
     store(&mut row[8..], y);
 }
 
-// The transform of each block of sixteen bits of a word.
+// The transform of each block of sixteen bits of a word, in a row of its own.
+// stays: not `eights` of another size, since a word that is read can't be lent to be written
 fn put_sixteens(word: &[u8], row: &mut [u8])
     requires { (length row.old ≡ length word.now) × (length word.now % 16 ≡ 0)
         × Bits word.now }
     ensures { row.new ≡ blocks (transform 4) 16 word.now }
 {
-    let n = word.len();
-    let mut at = 0;
-    while 16 <= n - at {
+    for k in 0..word.len() / 16 {
+        let at = 16 * k;
         put_sixteen(&word[at..], &mut row[at..]);
-        at += 16;
     }
 }
 
@@ -415,7 +329,7 @@ pub fn put_row(word: &[u8], row: &mut [u8], m: usize)
         return;
     }
     put_sixteens(word, row);
-    layers(row, 16, m - 4);
+    layers(row, 4, m);
 }
 
 // The information bits of a word of at most 256 bits.
@@ -424,8 +338,8 @@ pub fn take_bits(kinds: &[u8], word: &[u8], bits: &mut [u8], m: usize)
     ensures { bits.new
         ≡ pick kinds.now (transform m word.now) }
 {
-    let mut row = [0u8; 256];
-    let n = word.len();
-    put_row(word, &mut row[0..n], m);
-    pick(kinds, &row[0..n], bits);
+    let mut array = [0u8; 256];
+    let row = &mut array[..word.len()];
+    put_row(word, row, m);
+    pick(kinds, row, bits);
 }

@@ -112,8 +112,7 @@ pub fn take_row(kinds: &[u8], row: &[u8], bits: &mut [u8]) -> Result<(), Refusal
     ensures { outcome_of result bits.new
         ≡ taking_row kinds.now row.now bits.old }
 {
-    let index = bit_rows::first_frozen_one(kinds, row);
-    if index < kinds.len() {
+    if let Some(index) = bit_rows::first_frozen_one(kinds, row) {
         return Err(Refusal::NotAWord(index));
     }
     bit_rows::pick(kinds, row, bits);

@@ -1,11 +1,6 @@
 -- The loop's invariant is `Filled`: what is filled comes first, then what the row held.
-use Prim.Native.Nat.{◌-◌}
-use lib.ListN.{length}
 use Rattle.bit_rows.specs.FillLaws.{Filled}
 use Rattle.bit_rows.proofs.fill.Given as goal
 
 abbrev pub invariant-loop-i : goal.invariant-loop-i
 invariant-loop-i l = Filled l.kinds l.bits l.initial.row l.row l.i l.used
-
-abbrev pub decreases-loop-i : goal.decreases-loop-i
-decreases-loop-i l = length l.kinds - l.i

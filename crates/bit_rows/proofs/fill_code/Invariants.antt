@@ -1,10 +1,7 @@
--- The loop's invariant is `ByEights`: the indices before s are filled.
-use Prim.Native.Nat.{◌-◌}
+-- The loop's invariant is `ByEights`: the indices of the first k eights are filled.
+use Rattle.std.proofs.Common.{◌*◌}
 use Rattle.bit_rows.specs.EightKindsLaws.{ByEights}
 use Rattle.bit_rows.proofs.fill_code.Given as goal
 
-abbrev pub invariant-loop-s : goal.invariant-loop-s
-invariant-loop-s l = ByEights l.r l.m l.bits l.row l.s l.used
-
-abbrev pub decreases-loop-s : goal.decreases-loop-s
-decreases-loop-s l = l.n - l.s
+abbrev pub invariant-loop-k : goal.invariant-loop-k
+invariant-loop-k l = ByEights l.r l.m l.bits l.row (8 * l.k) l.used

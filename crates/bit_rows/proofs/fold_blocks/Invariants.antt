@@ -1,11 +1,8 @@
--- The loop's invariant is `Blockwise`: the blocks before start are folded.
-use Prim.Native.Nat.{◌-◌, ◌+◌}
+-- The loop's invariant is `Blockwise`: the first k blocks are folded.
+use Rattle.std.proofs.Common.{◌+◌}
 use Rattle.bit_rows.specs.Fold.{folded}
 use Rattle.bit_rows.specs.BlockLaws.{Blockwise}
 use Rattle.bit_rows.proofs.fold_blocks.Given as goal
 
-abbrev pub invariant-loop-start : goal.invariant-loop-start
-invariant-loop-start l = Blockwise (folded l.h) (l.h + l.h) l.initial.word l.word l.start
-
-abbrev pub decreases-loop-start : goal.decreases-loop-start
-decreases-loop-start l = l.n - l.start
+abbrev pub invariant-loop-k : goal.invariant-loop-k
+invariant-loop-k l = Blockwise (folded l.h) (l.h + l.h) l.initial.word l.word l.k

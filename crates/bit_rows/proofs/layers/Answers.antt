@@ -1,34 +1,25 @@
 -- The loop's invariant is `Layering`: what the layers that are left give is what all give.
-use mathlib.Core.Path.{refl}
-use native.Mathlib.Omega.{arith}
-use Rattle.bit_rows.proofs.LayerLaws.{layer_asked, next-layer, last-layer}
+use Rattle.std.proofs.Common.{arith}
+use Rattle.bit_rows.proofs.LayerLaws.{layer_asked, the-step, the-count, next-layer, last-layer}
 use Rattle.bit_rows.proofs.layers.Goals as goal
 
-pub loop-left-init : goal.loop-left-init
-loop-left-init c = let g = c in record { some = g.requires.0; room = g.requires.1; same = refl; is = refl; bits = g.requires.2 }
+pub overflow_shl-t : goal.overflow_shl-t
+overflow_shl-t c = (the-step _ _ _ _ _ c.loop-t.invariant c.loop-t-test.true (omega arith)).0
+
+pub overflow_shl-m : goal.overflow_shl-m
+overflow_shl-m c = (the-count _ _ _ _ _ c.loop-t.invariant c.loop-t-test.true (omega arith)).0
 
 pub layer-requires : goal.layer-requires
 layer-requires c =
-    let g = c in
-    let l = c.loop-left in
-    layer_asked g.args.first g.args.count g.args.word.now l.word l.h l.left l.invariant (omega arith)
+    let w = c.loop-t.invariant in
+    let t = c.loop-t-test.true in
+    rw ((the-step _ _ _ _ _ w t (omega arith)).1) (layer_asked _ _ _ _ _ w t, (the-count _ _ _ _ _ w t (omega arith)).1)
 
-pub overflow_add-h : goal.overflow_add-h
-overflow_add-h c =
-    let g = c in
-    let l = c.loop-left in
-    let asked = layer_asked g.args.first g.args.count g.args.word.now l.word l.h l.left l.invariant (omega arith) in
-    omega (arith, asked.within)
-
-pub loop-left-preserved : goal.loop-left-preserved
-loop-left-preserved c =
-    let g = c in
-    let l = c.loop-left in
-    let made = c.layer.ensures in
-    next-layer g.args.first g.args.count g.args.word.now l.word l.h l.left l.invariant (omega arith) _ made
+pub loop-t-preserved : goal.loop-t-preserved
+loop-t-preserved c =
+    let w = c.loop-t.invariant in
+    let t = c.loop-t-test.true in
+    next-layer _ _ _ _ _ w t _ (rw (← (the-step _ _ _ _ _ w t (omega arith)).1) c.layer.ensures)
 
 pub returns : goal.returns
-returns c =
-    let g = c in
-    let l = c.loop-left in
-    last-layer g.args.first g.args.count g.args.word.now l.word l.h l.left l.invariant (omega arith)
+returns c = last-layer _ _ _ _ _ c.loop-t.invariant c.loop-t-test.false

@@ -1,38 +1,23 @@
 -- The loop's invariant is `Picked`; a pass takes a part of one kind.
-use mathlib.Core.Path.{◌≡◌}
-use Prim.Native.Nat.{◌<◌}
-use native.Mathlib.Omega.{arith}
-use lib.ListN.{length, get_or}
-use Rattle.bit_rows.specs.PickLaws.{pick-starts, pick_frozen, place_left, pick_information, pick_ends}
+use Rattle.std.proofs.Common.{◌≡◌, arith, get_or}
+use Rattle.bit_rows.specs.PickLaws.{pick_frozen, place_left, pick_information, pick_ends}
 use Rattle.bit_rows.proofs.pick_each.Goals as goal
-use Rattle.bit_rows.proofs.pick_each.Goals.{else-kinds-i-ne0, then-kinds-i-ne0}
-
-pub loop-i-init : goal.loop-i-init
-loop-i-init c = pick-starts c.args.kinds.now c.args.row.now c.args.bits.now c.requires
+use Rattle.bit_rows.proofs.pick_each.Goals.{else-kind-ne0, then-kind-ne0}
 
 pub bounds-bits-taken : goal.bounds-bits-taken
 bounds-bits-taken c =
-    let s = c in
-    let l = c.loop-i in
-    let one : get_or s.args.kinds.now l.i 0 ≡ 1 = omega (arith, s.requires.bits_kinds l.i) in
-    place_left s.args.kinds.now s.args.row.now s.args.bits.now s.requires l.bits l.i l.taken l.invariant (omega arith) one
+    let one : get_or c.args.kinds.now c.loop-i.i 0 ≡ 1 = omega (arith, c.requires.bits_kinds c.loop-i.i) in
+    place_left _ _ _ c.requires _ _ _ c.loop-i.invariant c.loop-i-test.true one
 
 pub loop-i-preserved : goal.loop-i-preserved
 loop-i-preserved c =
-    let s = c in
-    let l = c.loop-i in
-    let k = s.args.kinds.now in
-    let u = s.args.row.now in
-    let b = s.args.bits.now in
-    let h : l.i < length k = omega arith in
-    elim c.if-kinds-i-ne0.branch [
-      | then-kinds-i-ne0 w ↦ rw (w.bits-is, w.taken-is)
-          (pick_information k u b s.requires l.bits l.i l.taken l.invariant h (omega (arith, s.requires.bits_kinds l.i)))
-      | else-kinds-i-ne0 w ↦ rw (w.bits-is, w.taken-is) (pick_frozen k u b s.requires l.bits l.i l.taken l.invariant h (omega arith))
+    let p = c.loop-i.invariant in
+    let h = c.loop-i-test.true in
+    elim c.if-kind-ne0.branch [
+      | then-kind-ne0 w ↦ rw (w.bits-is, w.taken-is)
+          (pick_information _ _ _ c.requires _ _ _ p h (omega (arith, c.requires.bits_kinds c.loop-i.i)))
+      | else-kind-ne0 w ↦ rw (w.bits-is, w.taken-is) (pick_frozen _ _ _ c.requires _ _ _ p h (omega arith))
     ]
 
 pub returns : goal.returns
-returns c =
-    let s = c in
-    let l = c.loop-i in
-    pick_ends s.args.kinds.now s.args.row.now s.args.bits.now s.requires l.bits l.i l.taken l.invariant (omega arith)
+returns c = pick_ends _ _ _ c.requires _ _ _ c.loop-i.invariant c.loop-i-test.false

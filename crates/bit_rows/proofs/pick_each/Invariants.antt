@@ -1,11 +1,6 @@
 -- The loop's invariant is `Picked`; a pass takes a part of one kind.
-use Prim.Native.Nat.{◌-◌}
-use lib.ListN.{length}
 use Rattle.bit_rows.specs.PickLaws.{Picked}
 use Rattle.bit_rows.proofs.pick_each.Given as goal
 
 abbrev pub invariant-loop-i : goal.invariant-loop-i
 invariant-loop-i l = Picked l.kinds l.row l.initial.bits l.bits l.i l.taken
-
-abbrev pub decreases-loop-i : goal.decreases-loop-i
-decreases-loop-i l = length l.kinds - l.i

@@ -24,65 +24,43 @@ module _ (ks u b : List ℕ) (pre : (8 ≤ length ks) × Pickable ks u b) (n : �
 
 pub pick_each-requires : goal.pick_each-requires
 unfolding unpacked tabulate
-pick_each-requires c =
-    let g = c in
-    asked g.args.kinds.now g.args.row.now g.args.bits.now g.requires 72340172838076673 (omega arith)
+pick_each-requires c = asked _ _ _ c.requires 72340172838076673 (omega arith)
 
 pub pick_each-requires-in-72340172838076672 : goal.pick_each-requires-in-72340172838076672
 unfolding unpacked tabulate
-pick_each-requires-in-72340172838076672 c =
-    let g = c in
-    asked g.args.kinds.now g.args.row.now g.args.bits.now g.requires 72340172838076672 (omega arith)
+pick_each-requires-in-72340172838076672 c = asked _ _ _ c.requires 72340172838076672 (omega arith)
 
 pub pick_each-requires-in-72340168543043584 : goal.pick_each-requires-in-72340168543043584
 unfolding unpacked tabulate
-pick_each-requires-in-72340168543043584 c =
-    let g = c in
-    asked g.args.kinds.now g.args.row.now g.args.bits.now g.requires 72340168543043584 (omega arith)
+pick_each-requires-in-72340168543043584 c = asked _ _ _ c.requires 72340168543043584 (omega arith)
 
 pub pick_each-requires-in-72057594037927936 : goal.pick_each-requires-in-72057594037927936
 unfolding unpacked tabulate
-pick_each-requires-in-72057594037927936 c =
-    let g = c in
-    asked g.args.kinds.now g.args.row.now g.args.bits.now g.requires 72057594037927936 (omega arith)
+pick_each-requires-in-72057594037927936 c = asked _ _ _ c.requires 72057594037927936 (omega arith)
 
 pub pick_each-requires-in-0 : goal.pick_each-requires-in-0
 unfolding unpacked tabulate
-pick_each-requires-in-0 c =
-    let g = c in
-    asked g.args.kinds.now g.args.row.now g.args.bits.now g.requires 0 (omega arith)
+pick_each-requires-in-0 c = asked _ _ _ c.requires 0 (omega arith)
 
 pub pick_each-requires-in_default : goal.pick_each-requires-in_default
-pick_each-requires-in_default c =
-    let g = c in
-    first_pickable g.args.kinds.now g.args.row.now g.args.bits.now g.requires.1 8 g.requires.0
+pick_each-requires-in_default c = first_pickable _ _ _ c.requires.1 8 c.requires.0
 
 pub returns-in-72340172838076673 : goal.returns-in-72340172838076673
 unfolding unpacked tabulate
-returns-in-72340172838076673 c =
-    let g = c in
-    back g.args.kinds.now g.args.row.now g.args.bits.now g.requires 72340172838076673 (omega arith) _ _ c.pick_each.ensures
+returns-in-72340172838076673 c = back _ _ _ c.requires 72340172838076673 (omega arith) _ _ c.pick_each.ensures
 
 pub returns-in-72340172838076672 : goal.returns-in-72340172838076672
 unfolding unpacked tabulate
-returns-in-72340172838076672 c =
-    let g = c in
-    back g.args.kinds.now g.args.row.now g.args.bits.now g.requires 72340172838076672 (omega arith) _ _ c.pick_each-in-72340172838076672.ensures
+returns-in-72340172838076672 c = back _ _ _ c.requires 72340172838076672 (omega arith) _ _ c.pick_each-in-72340172838076672.ensures
 
 pub returns-in-72340168543043584 : goal.returns-in-72340168543043584
 unfolding unpacked tabulate
-returns-in-72340168543043584 c =
-    let g = c in
-    back g.args.kinds.now g.args.row.now g.args.bits.now g.requires 72340168543043584 (omega arith) _ _ c.pick_each-in-72340168543043584.ensures
+returns-in-72340168543043584 c = back _ _ _ c.requires 72340168543043584 (omega arith) _ _ c.pick_each-in-72340168543043584.ensures
 
 pub returns-in-72057594037927936 : goal.returns-in-72057594037927936
 unfolding unpacked tabulate
-returns-in-72057594037927936 c =
-    let g = c in
-    back g.args.kinds.now g.args.row.now g.args.bits.now g.requires 72057594037927936 (omega arith) _ _ c.pick_each-in-72057594037927936.ensures
+returns-in-72057594037927936 c = back _ _ _ c.requires 72057594037927936 (omega arith) _ _ c.pick_each-in-72057594037927936.ensures
 
 pub returns-in-0 : goal.returns-in-0
 unfolding unpacked tabulate
-returns-in-0 c =
-    let g = c in
-    back g.args.kinds.now g.args.row.now g.args.bits.now g.requires 0 (omega arith) _ _ c.pick_each-in-0.ensures
+returns-in-0 c = back _ _ _ c.requires 0 (omega arith) _ _ c.pick_each-in-0.ensures

@@ -1,29 +1,9 @@
--- A run of eight stores.
-use native.Mathlib.Omega.{arith}
-use lib.ListN.{length-set}
-use Rattle.bit_rows.specs.EightLaws.{eight_stored}
+-- The library's bytes of a number are `unpacked`.
+use Rattle.std.proofs.Common.{div-one}
+use Rattle.numbers.specs.Sums.{tabulate}
+use Rattle.bit_rows.specs.Eight.{unpacked}
 use Rattle.bit_rows.proofs.store.Goals as goal
 
-pub bounds-word-1 : goal.bounds-word-1
-bounds-word-1 c = simp length-set (omega arith)
-
-pub bounds-word-2 : goal.bounds-word-2
-bounds-word-2 c = simp length-set (omega arith)
-
-pub bounds-word-3 : goal.bounds-word-3
-bounds-word-3 c = simp length-set (omega arith)
-
-pub bounds-word-4 : goal.bounds-word-4
-bounds-word-4 c = simp length-set (omega arith)
-
-pub bounds-word-5 : goal.bounds-word-5
-bounds-word-5 c = simp length-set (omega arith)
-
-pub bounds-word-6 : goal.bounds-word-6
-bounds-word-6 c = simp length-set (omega arith)
-
-pub bounds-word-7 : goal.bounds-word-7
-bounds-word-7 c = simp length-set (omega arith)
-
 pub returns : goal.returns
-returns c = eight_stored c.args.x c.args.word.now c.requires
+unfolding unpacked tabulate
+returns c = rw (c.copy.ensures, c.to_le_bytes.ensures, div-one c.args.x)

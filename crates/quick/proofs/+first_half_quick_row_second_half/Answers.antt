@@ -101,7 +101,7 @@ quick_row-fold-requires t c =
     let second : Foldable m kinds word (row_of (2 ^ m) rows) c.second_half.new.word =
     second-read m rows kinds word c.requires c.if-m-eq0.false _ _ first c.upper_row.new.rows c.upper_row.ensures c.second_half.new.word
     c.second_half.ensures in
-    (second.long, second.bits)
+    (omega (arith, second.long), second.bits)
 
 pub quick_row-returns : goal.quick_row-returns
 quick_row-returns t c =

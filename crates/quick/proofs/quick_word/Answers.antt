@@ -93,7 +93,7 @@ fold-requires c =
     let second : Foldable m kinds word l c.second_half.new.word =
     upper-back m kinds word l c.requires.1 c.if-m-eq0.false c.first_half.new.word c.first_half.auto.word first
     c.first_half.new.rows room c.upper_top.new.rows c.upper_top.ensures c.second_half.new.word c.second_half.ensures in
-    (second.long, second.bits)
+    (omega (arith, second.long), second.bits)
 
 pub returns : goal.returns
 returns c =
