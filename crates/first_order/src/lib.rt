@@ -173,7 +173,7 @@ fn top_key(row: &[i32]) -> u32
     let mut most = 0u32;
     let n = row.len() as u32;
     for j in 0..n {
-        most = most.max(row[j as usize].unsigned_abs() * 256 + j);
+        most = (row[j as usize].unsigned_abs() * 256 + j).max(most);
     }
     most
 }
@@ -185,7 +185,7 @@ fn top_size(row: &[i32]) -> u32
 {
     let mut most = 0u32;
     for entry in row {
-        most = most.max(entry.unsigned_abs());
+        most = entry.unsigned_abs().max(most);
     }
     most
 }

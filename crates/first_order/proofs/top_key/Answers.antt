@@ -13,5 +13,5 @@ loop-j-preserved c =
     let f = key_at l in
     let read = to_z-of_z {w = w32} {z = get_or l o.j (pos 0)} (record { sfits = omega arith }) in
     let e : c.max-most.result ≡ max o.most (f o.j) =
-    c.max-most.ensures ∙ ap (λ (s : ℕ). max o.most (s * 256 + o.j)) (c.unsigned_abs.ensures.value ∙ ap nat_abs read) in
+    c.max-most.ensures ∙ ap (λ (s : ℕ). max (s * 256 + o.j) o.most) (c.unsigned_abs.ensures.value ∙ ap nat_abs read) ∙ omega arith in
     rw e (top_more f o.j o.most o.invariant)

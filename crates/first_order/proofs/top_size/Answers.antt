@@ -1,5 +1,5 @@
 -- The largest of the sizes that are passed is held.
-use Rattle.std.specs.Prelude.{◌≡◌, max, pos, nat_abs, get_or}
+use Rattle.std.specs.Prelude.{ℕ, ◌≡◌, max, pos, nat_abs, get_or}
 use Rattle.std.proofs.Common.{ap, ◌∙◌, arith, to_z-of_z}
 use Rattle.std.specs.Int.{w32}
 use Rattle.first_order.specs.Work.{size_at}
@@ -13,5 +13,6 @@ loop-entry-preserved c =
     let f = size_at l in
     let j = o.entry-index in
     let read = to_z-of_z {w = w32} {z = get_or l j (pos 0)} (record { sfits = omega arith }) in
-    let e : c.max-most.result ≡ max o.most (f j) = c.max-most.ensures ∙ ap (max o.most) (c.unsigned_abs.ensures.value ∙ ap nat_abs read) in
+    let e : c.max-most.result ≡ max o.most (f j) =
+    c.max-most.ensures ∙ ap (λ (s : ℕ). max s o.most) (c.unsigned_abs.ensures.value ∙ ap nat_abs read) ∙ omega arith in
     rw e (top_more f j o.most o.invariant)
