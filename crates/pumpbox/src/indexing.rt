@@ -49,9 +49,8 @@ pub extern "C" fn cinorbis_index_find(
         (part_start capture.now table.now w)
         (part_in capture.now table.now w) }
 {
-    let found = index::locate(capture, table, w);
-    let header = found.header;
-    put_entry(header, found.start, found.length, out)
+    let answer = index::locate(capture, table, w);
+    put_entry(answer, out)
 }
 
 // The index that was passed.

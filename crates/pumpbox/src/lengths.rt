@@ -40,8 +40,8 @@ pub extern "C" fn cinorbis_dimension(r: u32, m: u32) -> usize
 pub extern "C" fn cinorbis_record_length(first: u32) -> usize
     ensures { result ≡ record_length first }
 {
-    if 255 < first {
-        return 0;
+    match u8::try_from(first) {
+        Ok(first) => record::record_length(first).unwrap_or(0),
+        Err(_) => 0,
     }
-    record::record_length(first as u8)
 }
