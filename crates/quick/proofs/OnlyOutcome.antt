@@ -46,6 +46,7 @@ module _ (r m : ℕ) (l : List ℤ) (bits word : List ℕ) where
         | refuses why e h ↦ rw (← reading-refused r m l bits word why e) h
       ]
 
-  pub quick_only : (a b : Result ℕ Refusal) (x y v w : List ℕ) → outcome_of a x y ≡ quick_reading r m l bits word → outcome_of b v w ≡ quick_reading r m l bits word
+  pub quick_only : (a b : Result ℕ Refusal) (x y v w : List ℕ)
+      → outcome_of a x y ≡ quick_reading r m l bits word → outcome_of b v w ≡ quick_reading r m l bits word
       → (a ≡ b) × (x ≡ v) × (y ≡ w)
   quick_only = outcome_only (quick_reading r m l bits word) (λ k. omega (arith, number_small)) (λ k. omega (arith, number_small))
