@@ -22,7 +22,7 @@ Place = collections.namedtuple("Place", "path line owner")  # the owner of a fie
 # an item at the start of a line of specs/, a field or a constructor below it; an item of code, a variant of an enum
 SPEC = re.compile(r"(?:(?:abbrev|unfoldable|pub|record|data) )*([^\s(){}:-][^\s(){}:]*)(?= |:|$)")
 FIELD = re.compile(r" +(?:pub )?([^\s(){}:]+) :")
-ITEM = re.compile(r"\s*(?:pub(?:\(crate\))? )?(?:extern \"C\" )?(?:fn|struct|enum|const|type) (\w+)")
+ITEM = re.compile(r"\s*(?:pub(?:\(crate\))? )?(?:extern \"C\" )?(?:fn|struct|enum|trait|const|type) (\w+)")
 VARIANT = re.compile(r"    (\w+)(?:\(| \{|,)")
 
 

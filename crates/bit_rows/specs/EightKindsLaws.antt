@@ -149,9 +149,7 @@ module _ (d : ℕ) (bits row : List ℕ) (j used : ℕ) (w : OfEight d bits row 
   eight_frozen h few =
       let none : get_or (eight_kinds d) j 0 ≡ 0 = kind-counted h ∙ rw (lt-leb d (Count.ones j) few) refl in
       record {
-        filled =
-            fill_kept (eight_kinds d) bits (replicate 8 0) (same_length d) row j used w.filled (within h) none
-            (get_or-replicate 8 j 0 0 h);
+        filled = fill_kept _ _ _ (same_length d) _ _ _ w.filled (within h) none (get_or-replicate 8 j 0 0 h);
         left = omega (arith, ap sum (kinds-left h), none, w.left);
       }
 
@@ -160,12 +158,12 @@ module _ (d : ℕ) (bits row : List ℕ) (j used : ℕ) (w : OfEight d bits row 
     one = kind-counted h ∙ rw (le-leb d (Count.ones j) enough) refl
 
     pub eight_bit_left : used < length bits
-    eight_bit_left = bit_left (eight_kinds d) bits (replicate 8 0) (same_length d) row j used w.filled (within h) (λ z. absurd (omega (arith, one)))
+    eight_bit_left = bit_left _ _ _ (same_length d) _ _ _ w.filled (within h) (λ z. absurd (omega (arith, one)))
 
     pub eight_information : OfEight d bits (set row j (get_or bits used 0)) (j + 1) (used + 1)
     unfolding sum
     eight_information = record {
-      filled = fill_information (eight_kinds d) bits (replicate 8 0) (same_length d) row j used w.filled (within h) (λ z. absurd (omega (arith, one)));
+      filled = fill_information _ _ _ (same_length d) _ _ _ w.filled (within h) (λ z. absurd (omega (arith, one)));
       left = omega (arith, ap sum (kinds-left h), one, w.left);
     }
 
@@ -173,7 +171,7 @@ module _ (d : ℕ) (bits row : List ℕ) (j used : ℕ) (w : OfEight d bits row 
   unfolding sum
   eight_ends h =
       let all : length (eight_kinds d) ≤ j = omega (arith, length-eight_kinds d) in (
-        fill_ends (eight_kinds d) bits (replicate 8 0) (same_length d) row j used w.filled all,
+        fill_ends _ _ _ (same_length d) _ _ _ w.filled all,
         omega (arith, ap sum (drop_of_length-le (eight_kinds d) {i = j} all), w.left),
       )
 

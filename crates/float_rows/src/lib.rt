@@ -9,7 +9,7 @@ ghost use Rattle.rows.specs.Order.{lesser, greater};
 ghost use Rattle.float_rows.specs.FloatRowLaws.{each_float, small_pair};
 ghost use Rattle.float_numbers.specs.Whole.{whole_of, wholes};
 
-// stays: the library's f32::min and max ask for a NaN first, which makes the row of four sums slower.
+// stays: f32::min and f32::max ask for a NaN, too: eight instructions more for a row of four sums.
 fn lesser(x: f32, y: f32) -> f32
     requires { (nat_abs (whole_of x) < sum_limit) × (nat_abs (whole_of y) < sum_limit) }
     ensures { whole_of result ≡ lesser (whole_of x) (whole_of y) }
@@ -50,6 +50,8 @@ impl rows::Arithmetic for Float {
 
     ghost small = { small_pair };
 
+    ghost enough = { λ l h. h };
+
     fn of_reading(reading: f32) -> f32 {
         reading
     }
@@ -65,6 +67,7 @@ impl rows::Arithmetic for Float {
 }
 
 // The size of a value that the bit contradicts, else 0.
+// stays: beside rows::loss: one is a float, the other a count, and each walk calls its own.
 pub fn loss(value: f32, bit: u8) -> f32
     requires { nat_abs (whole_of value) < sum_limit }
     ensures { whole_of result ≡ pos (loss (whole_of value) bit) }

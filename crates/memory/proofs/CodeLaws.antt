@@ -1,40 +1,20 @@
 -- Laws of the memory's functions in the words of the code, where h is 2^t.
-use Rattle.std.specs.Prelude.{◌≡◌, List, ◌++◌, ℕ, suc, ◌+◌, ◌-◌, ◌*◌, ◌^◌, ◌/◌, ◌%◌, ◌≤◌, ◌<◌, ℤ, pos, length, get_or, take, drop}
-use Rattle.std.proofs.Common.{ap, sym, ◌∙◌, subst, ⊎_elim, arith, div-mul-le_self, length-drop, take_at, take-take, length-take-le, get_or-take, pow_mono}
-use Rattle.std.proofs.Common.{SFits, to_z, of_z}
+use Rattle.std.specs.Prelude.{◌≡◌, List, ℕ, suc, ◌+◌, ◌-◌, ◌*◌, ◌^◌, ◌/◌, ◌%◌, ◌≤◌, ◌<◌, ℤ, pos, length, get_or, take, drop}
+use Rattle.std.proofs.Common.{refl, ap, sym, ◌∙◌, subst, arith, length-drop, take-take, get_or-take, pow_mono}
 use Rattle.std.proofs.Math.Nat.{two-pow-succ}
+use Rattle.std.proofs.Common.{to_z, of_z}
 use borrow.Rule.Slice.PartMut.{mid_of}
-use Rattle.std.specs.Int.{w16, w32}
+use Rattle.std.specs.Int.{w32}
 use Rattle.numbers.specs.Lowest.{LowestOne}
-use Rattle.words.specs.Bits.{Bits}
 use Rattle.words.specs.Word.{transform}
-use Rattle.words.specs.TransformLaws.{length-transform, bits_take, bits_drop}
 use Rattle.decoding.specs.Readings.{sizes, sum_limit}
 use Rattle.decoding.specs.Quick.{lower_row, upper_row}
 use Rattle.decoding.specs.Walk.{value}
 use Rattle.rows.specs.Rows.{row_of, with_row}
-use Rattle.rows.specs.RowLaws.{reading-read}
 use Rattle.memory.specs.Memory.{below, new_row, remade, Arrays, Made, RowsFor, Top, ValueReady, RowsReady, LowReady}
-use Rattle.memory.proofs.RowLaws.{digit_cases, below-upper, below-lower, start_odd}
-use Rattle.memory.proofs.LowLaws.{lower-new}
+use Rattle.memory.proofs.RowLaws.{below-upper}
+use Rattle.memory.proofs.LowLaws.{whole_pair, start_odd, start-here, lower-new}
 use Rattle.memory.proofs.MadeLaws.{above_small, made_top, made_row, made-remade, made_all, last_entry, last_row_lem, still_made}
-
--- ---- the word of the block before
-module _ (e h t : ℕ) (y : List ℕ) (some : h ≤ e) (room : e ≤ length y) (is : h ≡ 2 ^ t) where
-  abbrev lent : List ℕ
-  lent = mid_of (e - h) (e - (e - h)) y
-
-  lent_is : lent ≡ take h (drop (e - h) y)
-  lent_is = let n : e - (e - h) ≡ h = omega arith in ap (λ (k : ℕ). take k (drop (e - h) y)) n
-
-  pub lent_long : length lent ≡ 2 ^ t
-  lent_long = ap length lent_is ∙ length-take-le h (drop (e - h) y) (simp length-drop (omega arith)) ∙ is
-
-  pub lent_bits : Bits y → Bits lent
-  lent_bits bits = subst Bits (sym lent_is) (bits_take h (drop (e - h) y) (bits_drop (e - h) y bits))
-
-  pub word_made : (b more : List ℕ) → b ≡ transform t lent → take h (b ++ more) ≡ transform t (take h (drop (e - h) y))
-  word_made b more f = take_at b more h (ap length f ∙ length-transform t lent lent_long ∙ sym is) ∙ f ∙ ap (transform t) lent_is
 
 -- a word of one bit is that bit
 pub bit_word : (y : List ℕ) (i : ℕ) → 0 < i → take 1 (mid_of (i - 1) (i - (i - 1)) y) ≡ transform 0 (take 1 (drop (i - 1) y))
@@ -43,12 +23,6 @@ bit_word y i h = let n : i - (i - 1) ≡ 1 = omega arith in ap (λ (k : ℕ). ta
 
 -- ---- one row, of all readings or of a row above it, r
 module _ (t h i : ℕ) (y : List ℕ) (r s : List ℤ) (is : h ≡ 2 ^ t) where
-  pub start_inside : i / h * h ≤ i
-  start_inside = div-mul-le_self i h
-
-  pub left_some : i / h % 2 ≡ 1 → h ≤ i / h * h
-  left_some o = rw is (omega (arith, start_odd t i (rw is at o)))
-
   pub upper-made : {s' : List ℤ} (w : List ℕ) → i / h % 2 ≡ 1 → take h w ≡ transform t (take h (drop (i / h * h - h) y))
       → s' ≡ with_row h s (upper_row h r (take h w)) → s' ≡ with_row (2 ^ t) s (below t i y r)
   upper-made w o e f =
@@ -61,11 +35,16 @@ module _ (t h i : ℕ) (y : List ℕ) (r s : List ℤ) (is : h ≡ 2 ^ t) where
   upper-here w o here e f =
       upper-made w o (e ∙ ap (λ (k : ℕ). transform t (take h (drop (k - h) y))) (sym here)) f
 
-  pub lower-made : {s' : List ℤ} → (i / h % 2 ≡ 1 → ⊥) → s' ≡ with_row h s (lower_row h r) → s' ≡ with_row (2 ^ t) s (below t i y r)
-  lower-made o f =
-      let z : i / h % 2 ≡ 0 = ⊎_elim (λ (k : i / h % 2 ≡ 1). absurd (o k)) (λ (k : i / h % 2 ≡ 0). k) (digit_cases (i / h)) in
-      let o2 : i / 2 ^ t % 2 ≡ 0 = rw is at z in
-      f ∙ rw is (ap (with_row (2 ^ t) s) (sym (below-lower t i y r o2)))
+-- ---- where i starts a block of two or of four and none of twice as many
+pub pair-here : {i : ℕ} {y p : List ℕ} {s s' : List ℤ} → i % 4 ≡ 2 → LowReady 2 i y s → p ≡ transform 1 (take 2 (drop (i - 2) y))
+    → s' ≡ with_row 2 s (upper_row 2 (row_of 4 s) (take 2 p)) → s' ≡ new_row 1 i y s
+pair-here {i} {y} {p} {s} o r e f =
+    let word = whole_pair (drop (i - 2) y) (simp length-drop (omega (arith, o, r.short, r.arrays.long_path))) e in
+    upper-here 1 2 i y (row_of 4 s) s refl p (start_odd 1 i o) (start-here 1 i o) word f
+
+pub four-here : {i : ℕ} {y : List ℕ} {s s' : List ℤ} (w : List ℕ) → i % 8 ≡ 4 → LowReady 3 i y s → take 4 w ≡ transform 2 (take 4 (drop (i - 4) y))
+    → s' ≡ with_row 4 s (upper_row 4 (row_of 8 s) (take 4 w)) → s' ≡ new_row 2 i y s
+four-here {i} {y} {s} w o r e f = upper-here 2 4 i y (row_of 8 s) s refl w (start_odd 2 i o) (start-here 2 i o) e f
 
 -- ---- the first row that is made, and the next ones
 module _ {m i t : ℕ} {y : List ℕ} {l s : List ℤ} (r : RowsReady m l y i t s) (a : Arrays s y) where
@@ -168,8 +147,3 @@ single_value {i = i} {y = y} l₀ z = (
   sym (ap (λ (k : ℕ). value k (take (2 ^ k) l₀) (take i y)) z ∙ get_or-take 1 l₀ 0 (pos 0) (omega arith)),
   record { rows = λ t h k. absurd (omega arith) },
 )
-
--- as the machine reads it
-pub single : {m i : ℕ} {y : List ℕ} (l₀ : List ℤ) {s : List ℤ} → m ≡ 0 → SFits w16 (get_or l₀ 0 (pos 0))
-    → (to_z w32 (of_z w32 (to_z w16 (of_z w16 (get_or l₀ 0 (pos 0))))) ≡ value m (take (2 ^ m) l₀) (take i y)) × RowsFor m (take (2 ^ m) l₀) y i i s
-single {i = i} {y = y} l₀ {s = s} z fits = let e = single_value {i = i} {y = y} l₀ {s = s} z in (reading-read fits ∙ e.0, e.1)

@@ -4,3 +4,4 @@ pub mod RowsForLaws
 pub mod LowLaws
 pub mod MadeLaws
 pub mod CodeLaws
+pub mod ArrayLaws

@@ -31,11 +31,6 @@ word_4 (a ∷ b ∷ []) h = absurd (omega arith)
 word_4 (a ∷ b ∷ c ∷ []) h = absurd (omega arith)
 word_4 (a ∷ b ∷ c ∷ d ∷ x) h = refl
 
-set_2 : (w : List ℕ) (a b : ℕ) → 2 ≤ length w → take 2 (set (set w 0 a) 1 b) ≡ a ∷ b ∷ []
-set_2 [] a b h = absurd (omega arith)
-set_2 (x ∷ []) a b h = absurd (omega arith)
-set_2 (x ∷ y ∷ w) a b h = refl
-
 set_4 : (w : List ℕ) (a b c d : ℕ) → 4 ≤ length w → take 4 (set (set (set (set w 0 a) 1 b) 2 c) 3 d) ≡ a ∷ b ∷ c ∷ d ∷ []
 set_4 [] a b c d h = absurd (omega arith)
 set_4 (x ∷ []) a b c d h = absurd (omega arith)
@@ -43,14 +38,10 @@ set_4 (x ∷ y ∷ []) a b c d h = absurd (omega arith)
 set_4 (x ∷ y ∷ z ∷ []) a b c d h = absurd (omega arith)
 set_4 (x ∷ y ∷ z ∷ v ∷ w) a b c d h = refl
 
--- a word of two bits is all of itself, and put in front it is there
+-- a word of two bits is all of itself
 module _ {p : List ℕ} (y : List ℕ) (long : 2 ≤ length y) (e : p ≡ transform 1 (take 2 y)) where
   pub whole_pair : take 2 p ≡ transform 1 (take 2 y)
   whole_pair = ap (take 2) (e ∙ word_2 y long) ∙ sym (word_2 y long)
-
-  pub put_pair : (w : List ℕ) → 2 ≤ length w → take 2 (set (set w 0 (get_or p 0 0)) 1 (get_or p 1 0)) ≡ transform 1 (take 2 y)
-  put_pair w h =
-      set_2 w (get_or p 0 0) (get_or p 1 0) h ∙ ap (λ (x : List ℕ). get_or x 0 0 ∷ get_or x 1 0 ∷ []) (e ∙ word_2 y long) ∙ sym (word_2 y long)
 
 module _ (y : List ℕ) (e : ℕ) (room : e ≤ length y) where
   -- bit k of the last n before e

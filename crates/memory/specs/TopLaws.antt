@@ -4,35 +4,26 @@ use Rattle.std.proofs.Common.{ap, sym, ◌∙◌, subst, true≢false, ⊎_elim,
 use Rattle.std.proofs.Math.Nat.{two-pow-succ, div-eq_of_lt, div-eq_of_lt-le, mod-le, mul-mod_left}
 use Rattle.std.proofs.Math.Pow.{pow-lt, mod-mod-pow, split}
 use Rattle.std.specs.Int.Bits.{bit_or, bit_xor, xor_self, xor_add_and, or_add_and, or_zero_r}
-use Rattle.std.proofs.lemmas.Nat.{and_le_l, and_le_r, xor_shr, xor_lt, or_mod, or_lt, leading_top}
-use Rattle.std.specs.Int.Count.{count_leading_zeros}
+use Rattle.std.proofs.lemmas.Nat.{and_le_l, and_le_r, xor_shr, xor_lt, or_mod, or_lt}
 use Rattle.numbers.specs.Choice.{lt_or_le}
 use Rattle.numbers.specs.Lowest.{LowestOne}
 use Rattle.numbers.specs.LowestLaws.{lowest_within}
 use Rattle.memory.specs.Memory.{follows, Top, Highest}
 
--- ---- the highest one, as the machine counts leading zeros
-module _ (x : ℕ) (fits : x < 2 ^ 64) where
-  or-one : 0 < bit_or x 1
-  or-one = omega (arith, or_add_and x 1, and_le_l x 1)
+-- ---- the highest one, by a logarithm that is cut to a whole number
+module _ (x : ℕ) where
+  pub some_bit : 0 < bit_or x 1
+  some_bit = omega (arith, or_add_and x 1, and_le_l x 1)
 
-  or_fits : bit_or x 1 < 2 ^ 64
-  or_fits = or_lt 64 x 1 fits (omega arith)
-
-  pub leading_most : count_leading_zeros 64 (bit_or x 1) ≤ 63
-  leading_most = let q = leading_top 64 (bit_or x 1) or-one or_fits in omega (arith, q.1)
-
-  pub is_highest : Highest x (63 - count_leading_zeros 64 (bit_or x 1))
-  is_highest =
-      let q = leading_top 64 (bit_or x 1) or-one or_fits in
-      let e : q.0 ≡ 63 - count_leading_zeros 64 (bit_or x 1) = omega (arith, q.1) in
-      subst (Highest x) e (record {
-        above = omega (arith, q.3, or_add_and x 1, and_le_r x 1);
-        inside = λ m h k. ⊎_elim (λ (j : q.0 < m). j)
-            (λ (j : m ≤ q.0). let most = or_lt m x 1 k (omega (arith, pow-lt {i = 0} {j = m} h)) in
-            absurd (omega (arith, q.2, most, pow_mono {i = m} {j = q.0} j)))
-            (lt_or_le q.0 m);
-      })
+  pub is_highest : (t : ℕ) → 2 ^ t ≤ bit_or x 1 → bit_or x 1 < 2 * 2 ^ t → Highest x t
+  is_highest t low high =
+      record {
+        above = omega (arith, two-pow-succ t, or_add_and x 1, and_le_r x 1);
+        inside = λ m h k. ⊎_elim (λ (j : t < m). j)
+            (λ (j : m ≤ t). let most = or_lt m x 1 k (omega (arith, pow-lt {i = 0} {j = m} h)) in
+            absurd (omega (arith, low, most, pow_mono {i = m} {j = t} j)))
+            (lt_or_le t m);
+      }
 
 same_of_xor : (a b : ℕ) → bit_xor a b ≡ 0 → a ≡ b
 same_of_xor a b e = omega (arith, xor_add_and a b, and_le_l a b, and_le_r a b)

@@ -1,9 +1,9 @@
 // The walk's memory: the value at the next index of the path. The path's bits are in path, and
-// one scratch array holds the rows of the blocks that lead to an index. The word of the block
-// before a row is made where the row needs it.
+// one scratch array holds the rows of the blocks that lead to an index, in either arithmetic. The
+// word of the block before a row is made where the row needs it.
 #![tactic(auto)]
 
-ghost use Rattle.std.specs.Prelude.{◌≡◌, ◌+◌, ◌-◌, ◌^◌, ◌%◌, ◌≤◌, ◌<◌, max, length, take, drop};
+ghost use Rattle.std.specs.Prelude.{◌≡◌, ◌+◌, ◌-◌, ◌^◌, ◌%◌, ◌≤◌, ◌<◌, length, take, drop};
 ghost use Rattle.numbers.specs.Lowest.{LowestOne};
 ghost use Rattle.words.specs.Bits.{Bits};
 ghost use Rattle.words.specs.Word.{transform};
@@ -12,6 +12,8 @@ ghost use Rattle.decoding.specs.Walk.{value};
 ghost use Rattle.rows.specs.Rows.{row_of, with_row};
 ghost use Rattle.memory.specs.Memory.{below, new_row, remade, follows, Arrays, Made, RowsFor};
 ghost use Rattle.memory.specs.Memory.{Highest, LowReady, RowsReady, Top, ValueReady};
+
+use rows::{Arithmetic, Whole};
 
 // 2^m, the length of a row.
 pub fn power(m: usize) -> usize
@@ -26,20 +28,14 @@ fn lowest_one(i: usize) -> usize
     requires { 0 < i }
     ensures { LowestOne result i }
 {
-    usize::trailing_zeros(i) as usize
+    i.trailing_zeros() as usize
 }
 
 // The place of the highest one of x, or 0.
 fn highest_one(x: usize) -> usize
     ensures { Highest x result }
 {
-    63 - usize::leading_zeros(x | 1) as usize
-}
-
-fn greater(a: usize, b: usize) -> usize
-    ensures { result ≡ max a b }
-{
-    if a < b { b } else { a }
+    (x | 1).ilog2() as usize
 }
 
 // Of the rows for index was, the highest that has to be made again for index i: of a
@@ -48,7 +44,7 @@ pub fn top(m: usize, was: usize, i: usize) -> usize
     requires { (0 < m) × (2 ^ m ≤ 256) × (was < 2 ^ m) × (i < 2 ^ m) }
     ensures { Top m was i result }
 {
-    greater(highest_one(was ^ i), lowest_one(i | power(m - 1)))
+    highest_one(was ^ i).max(lowest_one(i | power(m - 1)))
 }
 
 // The word of the h bits that end before e.
@@ -71,19 +67,7 @@ fn pair(path: &[u8], e: usize) -> [u8; 2]
     [a, b]
 }
 
-// Put into the scratch array, as the float board takes it.
-pub fn word_of_2(path: &[u8], word: &mut [u8], e: usize)
-    requires { (2 ≤ e) × (e ≤ length path.now) × (2 ≤ length word.old)
-        × Bits path.now }
-    ensures { take 2 word.new
-        ≡ transform 1 (take 2 (drop (e - 2) path.now)) }
-{
-    let both = pair(path, e);
-    word[0] = both[0];
-    word[1] = both[1];
-}
-
-// And of four.
+// The same of four, put into the scratch array.
 pub fn word_of_4(path: &[u8], word: &mut [u8], e: usize)
     requires { (4 ≤ e) × (e ≤ length path.now) × (4 ≤ length word.old)
         × Bits path.now }
@@ -102,264 +86,279 @@ pub fn word_of_4(path: &[u8], word: &mut [u8], e: usize)
 }
 
 // The row of 2^t sums for index i, from the row of twice as many.
-fn row(rows: &mut [i32], path: &[u8], word: &mut [u8], t: usize, i: usize)
+// stays: rows are a slice here: the length of an array of sums is not known any more after a call.
+fn row<A: Arithmetic>(
+    rows: &mut [A::Sum],
+    path: &[u8; 256],
+    word: &mut [u8; 256],
+    t: usize,
+    i: usize,
+)
     requires { (2 ^ t + 2 ^ t + (2 ^ t + 2 ^ t) ≤ 256) × (i < 256)
-        × Arrays rows.old path.now × (length word.old ≡ 256)
-        × (sizes (row_of (2 ^ t + 2 ^ t) rows.old) < sum_limit) }
-    ensures { rows.new ≡ new_row t i path.now rows.old }
+        × Arrays (A.wholes rows.old) path.now
+        × (sizes (row_of (2 ^ t + 2 ^ t) (A.wholes rows.old)) < sum_limit) }
+    ensures { A.wholes rows.new ≡ new_row t i path.now (A.wholes rows.old) }
 {
     let h = power(t);
     let b = i / h;
     if b % 2 == 1 {
         left_word(path, word, b * h, h, t);
-        rows::upper_row::<rows::Whole>(rows, h, word);
+        rows::upper_row::<A>(rows, h, word);
         return;
     }
-    rows::lower_row::<rows::Whole>(rows, h);
+    rows::lower_row::<A>(rows, h);
 }
 
 // The same from all readings.
-fn top_row(readings: &[i16], rows: &mut [i32], path: &[u8], word: &mut [u8], t: usize, i: usize)
-    requires { (2 ^ t + 2 ^ t ≤ 256) × (i < 256)
-        × Arrays rows.old path.now × (length word.old ≡ 256)
-        × (length readings.now ≡ 2 ^ t + 2 ^ t) }
-    ensures { rows.new ≡ with_row (2 ^ t) rows.old
-        (below t i path.now readings.now) }
+fn top_row<A: Arithmetic>(
+    readings: &[A::Reading],
+    rows: &mut [A::Sum],
+    path: &[u8; 256],
+    word: &mut [u8; 256],
+    t: usize,
+    i: usize,
+)
+    requires { (2 ^ t + 2 ^ t ≤ 256) × (i < 256) × Arrays (A.wholes rows.old) path.now
+        × (length readings.now ≡ 2 ^ t + 2 ^ t) × (sizes (A.reads readings.now) < sum_limit) }
+    ensures { A.wholes rows.new ≡ with_row (2 ^ t) (A.wholes rows.old)
+        (below t i path.now (A.reads readings.now)) }
 {
     let h = power(t);
     let b = i / h;
     if b % 2 == 1 {
         left_word(path, word, b * h, h, t);
-        rows::upper_top::<rows::Whole>(readings, rows, h, word);
+        rows::upper_top::<A>(readings, rows, h, word);
         return;
     }
-    rows::lower_top::<rows::Whole>(readings, rows, h);
+    rows::lower_top::<A>(readings, rows, h);
 }
 
 // The highest row that is made.
-fn first_row(
-    readings: &[i16],
-    rows: &mut [i32],
-    path: &[u8],
-    word: &mut [u8],
+// stays: readings, rows, path and word are no struct: value would store all four at each call, and
+// take 32 bytes more of the stack.
+fn first_row<A: Arithmetic>(
+    readings: &[A::Reading; 256],
+    rows: &mut [A::Sum],
+    path: &[u8; 256],
+    word: &mut [u8; 256],
     m: usize,
     t: usize,
     i: usize,
 )
-    requires { (length readings.now ≡ 256)
-        × Arrays rows.old path.now × (length word.old ≡ 256)
-        × RowsReady m (take (2 ^ m) readings.now) path.now i t rows.old }
-    ensures { Made m (take (2 ^ m) readings.now) path.now i t
-        rows.new }
+    requires { Arrays (A.wholes rows.old) path.now
+        × RowsReady m (take (2 ^ m) (A.reads readings.now)) path.now i t (A.wholes rows.old) }
+    ensures { Made m (take (2 ^ m) (A.reads readings.now)) path.now i t (A.wholes rows.new) }
 {
     if t + 1 == m {
         let n = power(m);
-        top_row(&readings[0..n], rows, path, word, t, i);
+        let all = &readings[..];
+        top_row::<A>(&all[0..n], rows, path, word, t, i);
         return;
     }
-    row(rows, path, word, t, i);
+    row::<A>(rows, path, word, t, i);
 }
 
 // The row of 2^high sums and those below it down to eight sums, by loops.
-fn make_rows(
-    readings: &[i16],
-    rows: &mut [i32],
-    path: &[u8],
-    word: &mut [u8],
+fn make_rows<A: Arithmetic>(
+    readings: &[A::Reading; 256],
+    rows: &mut [A::Sum],
+    path: &[u8; 256],
+    word: &mut [u8; 256],
     m: usize,
     high: usize,
     i: usize,
 )
-    requires { (length readings.now ≡ 256)
-        × Arrays rows.old path.now × (length word.old ≡ 256)
-        × RowsReady m (take (2 ^ m) readings.now) path.now i high rows.old }
-    ensures { Made m (take (2 ^ m) readings.now) path.now i 3
-        rows.new }
+    requires { Arrays (A.wholes rows.old) path.now
+        × RowsReady m (take (2 ^ m) (A.reads readings.now)) path.now i high (A.wholes rows.old) }
+    ensures { Made m (take (2 ^ m) (A.reads readings.now)) path.now i 3 (A.wholes rows.new) }
 {
-    first_row(readings, rows, path, word, m, high, i);
-    let mut t = high;
-    while 3 < t {
-        t -= 1;
-        row(rows, path, word, t, i);
+    first_row::<A>(readings, rows, path, word, m, high, i);
+    for t in (3..high).rev() {
+        row::<A>(rows, path, word, t, i);
     }
 }
 
 // The row of four sums for index i, from the row of eight. Here and below rows of up to four sums
 // are made with their length as a constant, so that the compiler writes the loops out.
-fn row_of_4(rows: &mut [i32], path: &[u8], word: &mut [u8], i: usize)
-    requires { LowReady 3 i path.now rows.old × (length word.old ≡ 256) }
-    ensures { rows.new ≡ new_row 2 i path.now rows.old }
+// stays: a function for each length, since each makes its word in its own way.
+fn row_of_4<A: Arithmetic>(rows: &mut [A::Sum], path: &[u8; 256], word: &mut [u8; 256], i: usize)
+    requires { LowReady 3 i path.now (A.wholes rows.old) }
+    ensures { A.wholes rows.new ≡ new_row 2 i path.now (A.wholes rows.old) }
 {
     let b = i / 4;
     if b % 2 == 1 {
         word_of_4(path, word, b * 4);
-        rows::upper_row::<rows::Whole>(rows, 4, word);
+        rows::upper_row::<A>(rows, 4, word);
         return;
     }
-    rows::lower_row::<rows::Whole>(rows, 4);
+    rows::lower_row::<A>(rows, 4);
 }
 
 // The row of two sums, from the row of four.
-fn row_of_2(rows: &mut [i32], path: &[u8], i: usize)
-    requires { LowReady 2 i path.now rows.old }
-    ensures { rows.new ≡ new_row 1 i path.now rows.old }
+fn row_of_2<A: Arithmetic>(rows: &mut [A::Sum], path: &[u8; 256], i: usize)
+    requires { LowReady 2 i path.now (A.wholes rows.old) }
+    ensures { A.wholes rows.new ≡ new_row 1 i path.now (A.wholes rows.old) }
 {
     let b = i / 2;
     if b % 2 == 1 {
         let word = pair(path, b * 2);
-        rows::upper_row::<rows::Whole>(rows, 2, &word);
+        rows::upper_row::<A>(rows, 2, &word);
         return;
     }
-    rows::lower_row::<rows::Whole>(rows, 2);
+    rows::lower_row::<A>(rows, 2);
 }
 
 // The row of one sum, from the row of two; a word of one bit is that bit.
-fn row_of_1(rows: &mut [i32], path: &[u8], i: usize)
-    requires { LowReady 1 i path.now rows.old }
-    ensures { rows.new ≡ new_row 0 i path.now rows.old }
+fn row_of_1<A: Arithmetic>(rows: &mut [A::Sum], path: &[u8; 256], i: usize)
+    requires { LowReady 1 i path.now (A.wholes rows.old) }
+    ensures { A.wholes rows.new ≡ new_row 0 i path.now (A.wholes rows.old) }
 {
     if i % 2 == 1 {
-        rows::upper_row::<rows::Whole>(rows, 1, &path[i - 1..i]);
+        rows::upper_row::<A>(rows, 1, &path[i - 1..i]);
         return;
     }
-    rows::lower_row::<rows::Whole>(rows, 1);
+    rows::lower_row::<A>(rows, 1);
 }
 
 // The rows of less than 2^k sums, at most three of them, for any index.
-fn low_rows(rows: &mut [i32], path: &[u8], word: &mut [u8], k: usize, i: usize)
-    requires { (0 < k) × LowReady k i path.now rows.old × (length word.old ≡ 256) }
-    ensures { rows.new ≡ remade k i path.now rows.old }
+fn low_rows<A: Arithmetic>(
+    rows: &mut [A::Sum],
+    path: &[u8; 256],
+    word: &mut [u8; 256],
+    k: usize,
+    i: usize,
+)
+    requires { (0 < k) × LowReady k i path.now (A.wholes rows.old) }
+    ensures { A.wholes rows.new ≡ remade k i path.now (A.wholes rows.old) }
 {
     if k == 3 {
-        row_of_4(rows, path, word, i);
-        row_of_2(rows, path, i);
-        row_of_1(rows, path, i);
+        row_of_4::<A>(rows, path, word, i);
+        row_of_2::<A>(rows, path, i);
+        row_of_1::<A>(rows, path, i);
         return;
     }
     if k == 2 {
-        row_of_2(rows, path, i);
-        row_of_1(rows, path, i);
+        row_of_2::<A>(rows, path, i);
+        row_of_1::<A>(rows, path, i);
         return;
     }
-    row_of_1(rows, path, i);
+    row_of_1::<A>(rows, path, i);
 }
 
 // The same where i starts a block of one index and none of two: one row.
-fn start_of_1(rows: &mut [i32], path: &[u8], i: usize)
-    requires { (i % 2 ≡ 1) × LowReady 1 i path.now rows.old }
-    ensures { rows.new ≡ remade 1 i path.now rows.old }
+pub fn start_of_1<A: Arithmetic>(rows: &mut [A::Sum], path: &[u8; 256], i: usize)
+    requires { (i % 2 ≡ 1) × LowReady 1 i path.now (A.wholes rows.old) }
+    ensures { A.wholes rows.new ≡ remade 1 i path.now (A.wholes rows.old) }
 {
-    rows::upper_row::<rows::Whole>(rows, 1, &path[i - 1..i]);
+    rows::upper_row::<A>(rows, 1, &path[i - 1..i]);
 }
 
 // Of two and none of four: two rows.
-fn start_of_2(rows: &mut [i32], path: &[u8], i: usize)
-    requires { (i % 4 ≡ 2) × LowReady 2 i path.now rows.old }
-    ensures { rows.new ≡ remade 2 i path.now rows.old }
+pub fn start_of_2<A: Arithmetic>(rows: &mut [A::Sum], path: &[u8; 256], i: usize)
+    requires { (i % 4 ≡ 2) × LowReady 2 i path.now (A.wholes rows.old) }
+    ensures { A.wholes rows.new ≡ remade 2 i path.now (A.wholes rows.old) }
 {
-    let word = pair(path, i);
-    rows::upper_row::<rows::Whole>(rows, 2, &word);
-    rows::lower_row::<rows::Whole>(rows, 1);
+    let both = pair(path, i);
+    rows::upper_row::<A>(rows, 2, &both);
+    rows::lower_row::<A>(rows, 1);
 }
 
 // Of four and none of eight: three rows.
-fn start_of_4(rows: &mut [i32], path: &[u8], word: &mut [u8], i: usize)
-    requires { (i % 8 ≡ 4) × LowReady 3 i path.now rows.old
-        × (length word.old ≡ 256) }
-    ensures { rows.new ≡ remade 3 i path.now rows.old }
+pub fn start_of_4<A: Arithmetic>(
+    rows: &mut [A::Sum],
+    path: &[u8; 256],
+    word: &mut [u8; 256],
+    i: usize,
+)
+    requires { (i % 8 ≡ 4) × LowReady 3 i path.now (A.wholes rows.old) }
+    ensures { A.wholes rows.new ≡ remade 3 i path.now (A.wholes rows.old) }
 {
     word_of_4(path, word, i);
-    rows::upper_row::<rows::Whole>(rows, 4, word);
-    rows::lower_row::<rows::Whole>(rows, 2);
-    rows::lower_row::<rows::Whole>(rows, 1);
+    rows::upper_row::<A>(rows, 4, word);
+    rows::lower_row::<A>(rows, 2);
+    rows::lower_row::<A>(rows, 1);
 }
 
 // Of 2^t and none of twice as many, t at least 3: the row of 2^t sums, and all below it. These are
 // lower rows, as no lower digit of i is 1.
-fn start_of_more(
-    readings: &[i16],
-    rows: &mut [i32],
-    path: &[u8],
-    word: &mut [u8],
+fn start_of_more<A: Arithmetic>(
+    readings: &[A::Reading; 256],
+    rows: &mut [A::Sum],
+    path: &[u8; 256],
+    word: &mut [u8; 256],
     m: usize,
     t: usize,
     i: usize,
 )
-    requires { (3 ≤ t) × LowestOne t i × (length readings.now ≡ 256)
-        × Arrays rows.old path.now × (length word.old ≡ 256)
-        × RowsReady m (take (2 ^ m) readings.now) path.now i t rows.old }
-    ensures { Made m (take (2 ^ m) readings.now) path.now i 0
-        rows.new }
+    requires { (3 ≤ t) × LowestOne t i × Arrays (A.wholes rows.old) path.now
+        × RowsReady m (take (2 ^ m) (A.reads readings.now)) path.now i t (A.wholes rows.old) }
+    ensures { Made m (take (2 ^ m) (A.reads readings.now)) path.now i 0 (A.wholes rows.new) }
 {
-    first_row(readings, rows, path, word, m, t, i);
-    let mut u = t;
-    while 3 < u {
-        u -= 1;
-        rows::lower_row::<rows::Whole>(rows, power(u));
+    first_row::<A>(readings, rows, path, word, m, t, i);
+    for u in (3..t).rev() {
+        rows::lower_row::<A>(rows, power(u));
     }
-    rows::lower_row::<rows::Whole>(rows, 4);
-    rows::lower_row::<rows::Whole>(rows, 2);
-    rows::lower_row::<rows::Whole>(rows, 1);
+    rows::lower_row::<A>(rows, 4);
+    rows::lower_row::<A>(rows, 2);
+    rows::lower_row::<A>(rows, 1);
 }
 
 // The row of 2^high sums and all below it, where m is below 4: straight code makes them, save the
 // highest of all, which is made from the readings.
-fn few_rows(
-    readings: &[i16],
-    rows: &mut [i32],
-    path: &[u8],
-    word: &mut [u8],
+fn few_rows<A: Arithmetic>(
+    readings: &[A::Reading; 256],
+    rows: &mut [A::Sum],
+    path: &[u8; 256],
+    word: &mut [u8; 256],
     m: usize,
     high: usize,
     i: usize,
 )
-    requires { (m < 4) × (length readings.now ≡ 256)
-        × Arrays rows.old path.now × (length word.old ≡ 256)
-        × RowsReady m (take (2 ^ m) readings.now) path.now i high rows.old }
-    ensures { Made m (take (2 ^ m) readings.now) path.now i 0
-        rows.new }
+    requires { (m < 4) × Arrays (A.wholes rows.old) path.now
+        × RowsReady m (take (2 ^ m) (A.reads readings.now)) path.now i high (A.wholes rows.old) }
+    ensures { Made m (take (2 ^ m) (A.reads readings.now)) path.now i 0 (A.wholes rows.new) }
 {
     let k = high + 1;
     if k < m {
-        low_rows(rows, path, word, k, i);
+        low_rows::<A>(rows, path, word, k, i);
         return;
     }
-    first_row(readings, rows, path, word, m, high, i);
+    first_row::<A>(readings, rows, path, word, m, high, i);
     if 0 < high {
-        low_rows(rows, path, word, high, i);
+        low_rows::<A>(rows, path, word, high, i);
     }
 }
 
 // The value at index i of the path, whichever index the rows are for. Rows of up to four sums are
 // made by straight code.
-fn any_value(
-    readings: &[i16; 256],
-    rows: &mut [i32; 256],
+pub fn any_value<A: Arithmetic>(
+    readings: &[A::Reading; 256],
+    rows: &mut [A::Sum; 256],
     path: &[u8; 256],
     word: &mut [u8; 256],
     m: usize,
     was: usize,
     i: usize,
-) -> i32
-    requires { ValueReady m (take (2 ^ m) readings.now) path.now was i rows.old }
-    ensures { (result ≡ value m (take (2 ^ m) readings.now) (take i path.now))
-        × RowsFor m (take (2 ^ m) readings.now) path.now i i
-        rows.new }
+) -> A::Sum
+    requires { ValueReady m (take (2 ^ m) (A.reads readings.now)) path.now was i
+        (A.wholes rows.old) }
+    ensures { (A.whole result ≡ value m (take (2 ^ m) (A.reads readings.now)) (take i path.now))
+        × RowsFor m (take (2 ^ m) (A.reads readings.now)) path.now i i (A.wholes rows.new) }
 {
     if m == 0 {
-        return readings[0] as i32;
+        return A::of_reading(readings[0]);
     }
     let high = top(m, was, i);
     if m < 4 {
-        few_rows(readings, rows, path, word, m, high, i);
+        few_rows::<A>(readings, rows, path, word, m, high, i);
         return rows[1];
     }
     if high < 3 {
-        low_rows(rows, path, word, high + 1, i);
+        low_rows::<A>(rows, path, word, high + 1, i);
         return rows[1];
     }
-    make_rows(readings, rows, path, word, m, high, i);
-    low_rows(rows, path, word, 3, i);
+    make_rows::<A>(readings, rows, path, word, m, high, i);
+    low_rows::<A>(rows, path, word, 3, i);
     rows[1]
 }
 
@@ -369,10 +368,7 @@ fn any_value(
 fn follows(was: usize, i: usize) -> bool
     ensures { result ≡ follows was i }
 {
-    if i == 0 {
-        return false;
-    }
-    was ^ i <= i ^ (i - 1)
+    0 < i && was ^ i <= i ^ (i - 1)
 }
 
 // The value at index i of the path. The rows are for index was, and then for i. Most often only the
@@ -393,23 +389,23 @@ pub fn value(
         rows.new }
 {
     if m < 4 {
-        return any_value(readings, rows, path, word, m, was, i);
+        return any_value::<Whole>(readings, rows, path, word, m, was, i);
     }
     if follows(was, i) {
         if i % 2 == 1 {
-            start_of_1(rows, path, i);
+            start_of_1::<Whole>(rows, path, i);
             return rows[1];
         }
         if i % 4 == 2 {
-            start_of_2(rows, path, i);
+            start_of_2::<Whole>(rows, path, i);
             return rows[1];
         }
         if i % 8 == 4 {
-            start_of_4(rows, path, word, i);
+            start_of_4::<Whole>(rows, path, word, i);
             return rows[1];
         }
-        start_of_more(readings, rows, path, word, m, lowest_one(i), i);
+        start_of_more::<Whole>(readings, rows, path, word, m, lowest_one(i), i);
         return rows[1];
     }
-    any_value(readings, rows, path, word, m, was, i)
+    any_value::<Whole>(readings, rows, path, word, m, was, i)
 }

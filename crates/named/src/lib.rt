@@ -41,6 +41,7 @@ fn names_frozen(code: Code, named: &[u8]) -> bool
 }
 
 // How many information indices the row leaves.
+// stays: code and named apart: a struct of both would be made in each call, for two calls on it
 pub fn count_left(code: Code, named: &[u8]) -> usize
     requires { Sound code × (length named.now ≡ 2 ^ code.m) }
     ensures { result ≡ sum (left named.now (kinds code.r code.m)) }

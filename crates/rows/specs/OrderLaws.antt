@@ -77,7 +77,8 @@ lower_by_order (negsuc x) (negsuc y) =
 -- ---- as the library's words for them have it
 min_lesser : (x y : ℤ) → int_min x y ≡ lesser x y
 min_lesser (pos x) (pos y) =
-    cond_by (λ (z : ℤ). z ≡ pos (min x y)) (ltb y x) (pos y) (pos x) (λ e. ap pos (omega (arith, ltb-true y x e))) (λ e. ap pos (omega (arith, ltb-false y x e)))
+    cond_by (λ (z : ℤ). z ≡ pos (min x y)) (ltb y x) (pos y) (pos x)
+    (λ e. ap pos (omega (arith, ltb-true y x e))) (λ e. ap pos (omega (arith, ltb-false y x e)))
 min_lesser (pos x) (negsuc y) = refl
 min_lesser (negsuc x) (pos y) = refl
 min_lesser (negsuc x) (negsuc y) =
@@ -86,7 +87,8 @@ min_lesser (negsuc x) (negsuc y) =
 
 max_greater : (x y : ℤ) → int_max x y ≡ greater x y
 max_greater (pos x) (pos y) =
-    cond_by (λ (z : ℤ). z ≡ pos (max x y)) (ltb y x) (pos x) (pos y) (λ e. ap pos (omega (arith, ltb-true y x e))) (λ e. ap pos (omega (arith, ltb-false y x e)))
+    cond_by (λ (z : ℤ). z ≡ pos (max x y)) (ltb y x) (pos x) (pos y)
+    (λ e. ap pos (omega (arith, ltb-true y x e))) (λ e. ap pos (omega (arith, ltb-false y x e)))
 max_greater (pos x) (negsuc y) = refl
 max_greater (negsuc x) (pos y) = refl
 max_greater (negsuc x) (negsuc y) =

@@ -53,6 +53,8 @@ pub trait Arithmetic {
 
     ghost small: { (l : List ℤ) (x y : ℤ) → asked l → known x → known y
         → nat_abs x + nat_abs y ≤ sizes l → nat_abs x + nat_abs y < sum_limit };
+    // A row of readings whose sizes sum to less is all right.
+    ghost enough: { (l : List ℤ) → sizes l < sum_limit → asked l };
 }
 
 // Sums of 32 bits, of readings of 16: whole numbers as they are, so that any reading will do.
@@ -80,6 +82,8 @@ impl Arithmetic for Whole {
     ghost each_reading = { same_numbers };
 
     ghost small = { short_pair };
+
+    ghost enough = { λ l h. tt };
 
     fn of_reading(reading: i16) -> i32 {
         i32::from(reading)

@@ -28,7 +28,7 @@ start_of_2-requires c =
     let next = c in
     let start = next in
     let top : Top start.args.m start.args.was start.args.i 1 = top_next 1 (omega arith) next.if-was-i.true o in
-    (o, short_asked start.args.rows.now start.requires top (omega arith) (omega arith) (omega arith) (omega arith), omega arith)
+    (o, short_asked start.args.rows.now start.requires top (omega arith) (omega arith) (omega arith) (omega arith))
 
 pub returns-then-i-eq2 : goal.returns-then-i-eq2
 returns-then-i-eq2 c =
@@ -45,7 +45,7 @@ start_of_4-requires c =
     let next = c in
     let start = next in
     let top : Top start.args.m start.args.was start.args.i 2 = top_next 2 (omega arith) next.if-was-i.true o in
-    (o, short_asked start.args.rows.now start.requires top (omega arith) (omega arith) (omega arith) (omega arith), omega arith)
+    (o, short_asked start.args.rows.now start.requires top (omega arith) (omega arith) (omega arith) (omega arith))
 
 pub returns-then-i-eq4 : goal.returns-then-i-eq4
 returns-then-i-eq4 c =

@@ -1,13 +1,9 @@
--- `highest_one`: by the machine's count of leading zeros.
-use native.Mathlib.Omega.{arith}
-use Rattle.memory.specs.TopLaws.{leading_most, is_highest}
+-- `highest_one`: the machine's logarithm, of a number that is not 0.
+use Rattle.memory.specs.TopLaws.{some_bit, is_highest}
 use Rattle.memory.proofs.highest_one.Goals as goal
 
-pub overflow_cast-result : goal.overflow_cast-result
-overflow_cast-result c = omega (arith, leading_most c.args.x (omega arith))
-
-pub overflow_sub-result : goal.overflow_sub-result
-overflow_sub-result c = leading_most c.args.x (omega arith)
+pub ilog2-requires : goal.ilog2-requires
+ilog2-requires c = some_bit c.args.x
 
 pub returns : goal.returns
-returns c = is_highest c.args.x (omega arith)
+returns c = is_highest c.args.x c.ilog2.result c.ilog2.ensures.power_le c.ilog2.ensures.next_power_gt

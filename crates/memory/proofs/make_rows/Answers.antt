@@ -1,41 +1,28 @@
 -- `make_rows`: from the row of 2^t sums on the rows are made for i.
-use Rattle.memory.proofs.CodeLaws.{short, row_fits, row_small, row_made, pass_ready, made_above, same_arrays}
-use native.Mathlib.Omega.{arith}
-use Prim.Native.Nat.{◌-◌, ◌<◌, suc}
-use mathlib.Core.Path.{sym, ◌∙◌}
+use Rattle.std.proofs.Common.{suc, ◌-◌, ◌<◌, arith}
+use Rattle.memory.proofs.CodeLaws.{short, row_fits, row_small, row_made, pass_ready, made_above}
+use Rattle.memory.proofs.ArrayLaws.{same_rows}
 use Rattle.memory.proofs.make_rows.Goals as goal
 
-pub first_row-requires : goal.first_row-requires
-first_row-requires c = c.requires
-
 pub loop-t-init : goal.loop-t-init
-loop-t-init c =
-    let g = c in
-    let a = c.first_row in
-    (omega arith, same_arrays g.requires.1 a.auto.rows, omega (arith, g.requires.2, a.auto), a.ensures)
+loop-t-init g c =
+    let a = g.A.Arithmetic in
+    (same_rows a.whole a.wholes g.met.A.Arithmetic.each_sum c.args.rows.now c.first_row.new.rows c.requires.0 c.first_row.auto.rows, c.first_row.ensures)
 
 pub row-requires : goal.row-requires
-row-requires c =
-    let g = c in
-    let o = c.loop-t in
-    let r = pass_ready g.requires.3 o.invariant.0 (omega arith) o.invariant.3 in
-    let more : suc (o.t - 1) < g.args.m = omega (arith, g.requires.3.some, o.invariant.0) in
-    (row_fits r o.invariant.1 more, short r o.invariant.1, o.invariant.1, o.invariant.2, row_small r o.invariant.1 more)
+row-requires g c =
+    let s = c.loop-t.invariant.0 in
+    let r = pass_ready c.requires.1 c.loop-t.auto.t (omega arith) c.loop-t.invariant.1 in
+    let more : suc (c.loop-t.t - 1) < c.args.m = omega (arith, c.requires.1.some, c.loop-t.auto.t) in
+    (row_fits r s more, short r s, s, row_small r s more)
 
 pub loop-t-preserved : goal.loop-t-preserved
-loop-t-preserved c =
-    let g = c in
-    let o = c.loop-t in
-    let a = c.row in
-    let r = pass_ready g.requires.3 o.invariant.0 (omega arith) o.invariant.3 in
-    let more : suc (o.t - 1) < g.args.m = omega (arith, g.requires.3.some, o.invariant.0) in
-    (omega (arith, o.invariant.0), same_arrays o.invariant.1 a.auto.rows, omega (arith, o.invariant.2, a.auto), row_made r o.invariant.1 more a.ensures)
-
-pub shape_of-rows : goal.shape_of-rows
-shape_of-rows c = c.loop-t.invariant.1.long_rows ∙ sym c.requires.1.long_rows
-
-pub shape_of-word : goal.shape_of-word
-shape_of-word c = c.loop-t.invariant.2 ∙ sym c.requires.2
+loop-t-preserved g c =
+    let a = g.A.Arithmetic in
+    let s = c.loop-t.invariant.0 in
+    let r = pass_ready c.requires.1 c.loop-t.auto.t (omega arith) c.loop-t.invariant.1 in
+    let more : suc (c.loop-t.t - 1) < c.args.m = omega (arith, c.requires.1.some, c.loop-t.auto.t) in
+    (same_rows a.whole a.wholes g.met.A.Arithmetic.each_sum c.loop-t.rows c.row.new.rows s c.row.auto.rows, row_made r s more c.row.ensures)
 
 pub returns : goal.returns
-returns c = made_above (omega arith) c.loop-t.invariant.3
+returns g c = made_above (omega arith) c.loop-t.invariant.1

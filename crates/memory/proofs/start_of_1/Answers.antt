@@ -1,18 +1,16 @@
--- `start_of_1`: the upper row alone.
+-- `start_of_1`: only the upper row.
+use Rattle.std.proofs.Common.{◌-◌, refl, arith}
+use borrow.Rule.Slice.PartMut.{mid_of}
+use Rattle.rows.specs.Rows.{row_of}
 use Rattle.memory.proofs.LowLaws.{remade-one, start_odd, start-here}
 use Rattle.memory.proofs.CodeLaws.{bit_word, upper-here}
-use Rattle.rows.specs.Rows.{row_of}
-use borrow.Rule.Slice.PartMut.{mid_of}
-use native.Mathlib.Omega.{arith}
-use Prim.Native.Nat.{◌-◌}
-use mathlib.Core.Path.{refl}
 use Rattle.memory.proofs.start_of_1.Goals as goal
 
 pub returns : goal.returns
-returns c =
-    let start = c in
-    let s = start.args in
-    let o = start.requires.0 in
-    remade-one s.i s.path.now s.rows.now
-    (upper-here 0 1 s.i s.path.now (row_of 2 s.rows.now) s.rows.now refl (mid_of (s.i - 1) (s.i - (s.i - 1)) s.path.now)
-    (start_odd 0 s.i o) (start-here 0 s.i o) (bit_word s.path.now s.i (omega (arith, o))) c.upper_row.ensures)
+returns g c =
+    let i = c.args.i in
+    let y = c.args.path.now in
+    let d = g.A.Arithmetic.wholes c.args.rows.now in
+    let o = c.requires.0 in
+    remade-one i y d (upper-here 0 1 i y (row_of 2 d) d refl (mid_of (i - 1) (i - (i - 1)) y) (start_odd 0 i o) (start-here 0 i o)
+    (bit_word y i (omega (arith, o))) c.upper_row.ensures)

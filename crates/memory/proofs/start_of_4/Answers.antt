@@ -1,53 +1,31 @@
 -- `start_of_4`: the upper row of four sums, and the lower ones of two and one.
-use Rattle.memory.proofs.LowLaws.{low-room, low_small, low-next, remade-one, remade-more, start_odd, start-here, lower-new}
-use Rattle.memory.proofs.CodeLaws.{upper-here}
-use Rattle.memory.specs.Memory.{new_row}
-use Rattle.rows.specs.Rows.{row_of}
-use native.Mathlib.Omega.{arith}
-use mathlib.Core.Path.{◌≡◌, refl}
+use Rattle.std.proofs.Common.{refl, arith}
+use Rattle.memory.proofs.LowLaws.{low-next, remade-one, remade-more, lower-new}
+use Rattle.memory.proofs.CodeLaws.{four-here}
+use Rattle.memory.proofs.ArrayLaws.{low_asks}
 use Rattle.memory.proofs.start_of_4.Goals as goal
-use Rattle.memory.proofs.start_of_4.Goals.{After-lower_row, After-upper_row}
-
-upper : (c : After-upper_row) → let s = c.args in
-    c.upper_row.new.rows ≡ new_row 2 s.i s.path.now s.rows.now
-upper c =
-    let start = c in
-    let s = start.args in
-    let w = c.word_of_4 in
-    upper-here 2 4 s.i s.path.now (row_of 8 s.rows.now) s.rows.now refl w.new.word
-    (start_odd 2 s.i start.requires.0) (start-here 2 s.i start.requires.0) w.ensures c.upper_row.ensures
-
-two : (c : After-lower_row) → let upper-made = c in
-    let s = upper-made.args in
-    c.lower_row.new.rows ≡ new_row 1 s.i s.path.now upper-made.upper_row.new.rows
-two c =
-    let upper-made = c in
-    let start = upper-made in
-    let s = start.args in
-    lower-new 2 s.i start.requires.0 1 2 s.path.now upper-made.upper_row.new.rows (omega arith) refl c.lower_row.ensures
 
 pub lower_row-requires : goal.lower_row-requires
-lower_row-requires c =
-    let made = (goal.at.lower_row-requires c).After-upper_row in
-    let start = made in
-    let r = low-next start.requires.1 (upper made) in
-    (low-room r, low_small r)
+lower_row-requires g c =
+    let upper = four-here c.word_of_4.new.word c.requires.0 c.requires.1 c.word_of_4.ensures c.upper_row.ensures in
+    let a = g.A.Arithmetic in
+    low_asks a.whole a.wholes g.met.A.Arithmetic.each_sum c.upper_row.new.rows (low-next c.requires.1 upper)
 
 pub lower_row-requires-2 : goal.lower_row-requires-2
-lower_row-requires-2 c =
-    let made = (goal.at.lower_row-requires-2 c).After-lower_row in
-    let above = (goal.at.lower_row-requires-2 c).After-upper_row in
-    let start = above in
-    let r = low-next (low-next start.requires.1 (upper above)) (two made) in
-    (low-room r, low_small r)
+lower_row-requires-2 g c =
+    let a = g.A.Arithmetic in
+    let x = a.wholes c.upper_row.new.rows in
+    let upper = four-here c.word_of_4.new.word c.requires.0 c.requires.1 c.word_of_4.ensures c.upper_row.ensures in
+    let two = lower-new 2 c.args.i c.requires.0 1 2 c.args.path.now x (omega arith) refl c.lower_row.ensures in
+    low_asks a.whole a.wholes g.met.A.Arithmetic.each_sum c.lower_row.new.rows (low-next (low-next c.requires.1 upper) two)
 
 pub returns : goal.returns
-returns c =
-    let made = (goal.at.returns c).After-lower_row in
-    let above = (goal.at.returns c).After-upper_row in
-    let start = above in
-    let s = start.args in
-    let x = made.lower_row.new.rows in
-    remade-more 2 s.i s.path.now s.rows.now (upper above)
-    (remade-more 1 s.i s.path.now above.upper_row.new.rows (two made) (remade-one s.i s.path.now x
-    (lower-new 2 s.i start.requires.0 0 1 s.path.now x (omega arith) refl c.lower_row-2.ensures)))
+returns g c =
+    let i = c.args.i in
+    let y = c.args.path.now in
+    let x = g.A.Arithmetic.wholes c.upper_row.new.rows in
+    let z = g.A.Arithmetic.wholes c.lower_row.new.rows in
+    let upper = four-here c.word_of_4.new.word c.requires.0 c.requires.1 c.word_of_4.ensures c.upper_row.ensures in
+    let two = lower-new 2 i c.requires.0 1 2 y x (omega arith) refl c.lower_row.ensures in
+    remade-more 2 i y (g.A.Arithmetic.wholes c.args.rows.now) upper
+    (remade-more 1 i y x two (remade-one i y z (lower-new 2 i c.requires.0 0 1 y z (omega arith) refl c.lower_row-2.ensures)))
