@@ -24,7 +24,9 @@ reported-written answer word o returned out e f g =
 
 -- the two answers of a telegram's reader
 module _ (answer : Result Heard Fault) where
-  pub reported-shown : (t : Telegram) (p g v : ℕ) (out telegram : List ℕ) → answer ≡ Ok (record { telegram = t; found = record { penalty = p; gap = g; visits = v } }) → out ≡ numbers p g v 0 → telegram ≡ fields t
+  pub reported-shown : (t : Telegram) (p g v : ℕ) (out telegram : List ℕ)
+      → answer ≡ Ok (record { telegram = t; found = record { penalty = p; gap = g; visits = v } })
+      → out ≡ numbers p g v 0 → telegram ≡ fields t
       → reported 0 out (telegram ∷ []) ≡ shown_read (Tilt.outcome_of answer)
   reported-shown t p g v out telegram e f h = rw (e, f, h)
 

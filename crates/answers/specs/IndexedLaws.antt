@@ -12,7 +12,8 @@ use Rattle.answers.specs.Reported.{reported}
 use Rattle.record.specs.Reader.{header_of, part_by}
 use Rattle.index.specs.Finding.{start_in, header_at, part_at, header_in, part_in, part_after, part_start_at, part_start}
 use Rattle.index.specs.Finding.{located_by, located_at, located_in}
-use Rattle.answers.specs.Indexed.{shown_made, found_number, found_numbers, shown_entry, shown_appended, indexed_number, made_numbers, appended_numbers, pair_after}
+use Rattle.answers.specs.Indexed.{shown_made, found_number, found_numbers, shown_entry, shown_appended}
+use Rattle.answers.specs.Indexed.{indexed_number, made_numbers, appended_numbers, pair_after}
 use Rattle.answers.specs.Indexed.{shown_front, fronted_number, fronted_numbers}
 use Rattle.code.specs.declared.Code.{Code}
 use Rattle.code.specs.declared.Refusal.{Refusal}

@@ -71,7 +71,8 @@ reported-runner_up answer bits word shown o returned out e f g h =
     ∙ ap shown_with_runner_up (ap (beside (Search.outcome_of answer.result bits word)) h ∙ e)
 
 -- a header that reports what the bytes' header does, and their packed part
-pub reported-part : (answer header : Result Code Refusal) (given part out : List ℕ) (returned : ℕ) → Reader.outcome_of answer ≡ Reader.outcome_of header → given ≡ part
+pub reported-part : (answer header : Result Code Refusal) (given part out : List ℕ) (returned : ℕ) → Reader.outcome_of answer ≡ Reader.outcome_of header
+    → given ≡ part
     → returned ≡ header_number answer → out ≡ header_numbers answer (length given) → reported returned out [] ≡ shown_part header part
 reported-part answer header given part out returned e f n o =
     cc (

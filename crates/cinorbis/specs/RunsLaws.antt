@@ -1,5 +1,6 @@
 -- The theorem of the program: whatever pieces the bytes arrive in, what it hands over is the output of all of them.
-use Rattle.std.specs.Prelude.{◌≡◌, refl, List, [], ◌++◌, Bool, true, false, cond, ℕ, zero, suc, ◌+◌, ◌-◌, ◌≤◌, ◌<◌, min, Option, None, Some, length, get_or, take}
+use Rattle.std.specs.Prelude.{◌≡◌, refl, List, [], ◌++◌, Bool, true, false, cond, ℕ, zero, suc}
+use Rattle.std.specs.Prelude.{◌+◌, ◌-◌, ◌≤◌, ◌<◌, min, Option, None, Some, length, get_or, take}
 use Rattle.std.specs.Prelude.{drop}
 use Rattle.std.proofs.Common.{ap, sym, ◌∙◌, subst, append_assoc, append-nil, ⊎_elim, arith, add-one, length-append, length-drop, length-take-le, take_at}
 use Rattle.std.proofs.Common.{take-add, take_all, drop-drop, get_or-take, get_or-drop}

@@ -188,7 +188,8 @@ fn undo_columns(m: usize, places: &[u8; 256], columns: &mut [u8; 8])
 }
 
 // The undo map, by the places: its row is the position whose image is the row.
-// stays: out and outrow, since clauses on a struct of both would have to say that it still lends them
+// stays: out and outrow, since clauses on a struct of both would have to say that it still
+// lends them
 pub fn put_undo(m: usize, places: &[u8; 256], row: &[u8], out: &mut [u8], outrow: &mut [u8])
     requires { Mapped m out.old outrow.old × (length row.now ≡ m) × Bits row.now }
     ensures { UndoPut m places.now row.now
@@ -205,7 +206,8 @@ pub fn put_undo(m: usize, places: &[u8; 256], row: &[u8], out: &mut [u8], outrow
 fn product_columns(images: &[u8; 256], second: &Map<'_>, columns: &mut [u8; 8])
     requires { Bits second.now.table.now }
     ensures { let second = second.now in Shows (λ q. get_or images.now
-        (number second.m (λ p. get_or second.table.now (p * second.m + q) 0)) 0) second.m columns.new }
+        (number second.m (λ p. get_or second.table.now (p * second.m + q) 0)) 0) second.m
+        columns.new }
 {
     for q in 0..second.m {
         columns[q] = images[usize::from(column(second.table, second.m, q, second.m))];

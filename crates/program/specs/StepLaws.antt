@@ -33,7 +33,8 @@ result_in (Err why) bits = refused why
 reported_result : (a : std.Result Found Refusal) (bits word bits₀ word₀ : List ℕ) (x : Answer)
     → Outcome.outcome_of a bits word ≡ Outcome.by_answer allowance bits₀ word₀ x → result_in a bits ≡ program.searched x
 reported_result a bits word bits₀ word₀ (found b y p g v) e =
-    let o = search_only (Outcome.outcome_of (Ok (record { penalty = p; gap = g; visits = v })) b y) a (Ok (record { penalty = p; gap = g; visits = v })) bits word b y e refl in
+    let best : std.Result Found Refusal = Ok (record { penalty = p; gap = g; visits = v }) in
+    let o = search_only (Outcome.outcome_of best b y) a best bits word b y e refl in
     ap (λ (a : std.Result Found Refusal). result_in a bits) o.0 ∙ ap (λ (c : List ℕ). answered c p g v) o.1
 reported_result a bits word bits₀ word₀ (tied p v) e =
     let why = Err (Tied p v) in
@@ -57,7 +58,8 @@ module _ (s : List ℕ) (c : Code) (bits word bits₀ word₀ : List ℕ) (h : h
       }
 
   -- the search of an accepted record says what becomes of it
-  pub searched_result : (a : std.Result Found Refusal) → Outcome.outcome_of a bits word ≡ searching_by (Ok c) allowance s bits₀ word₀ → result_in a bits ≡ result_of s
+  pub searched_result : (a : std.Result Found Refusal) → Outcome.outcome_of a bits word ≡ searching_by (Ok c) allowance s bits₀ word₀
+      → result_in a bits ≡ result_of s
   unfolding result_of
   searched_result a e =
       reported_result a bits word bits₀ word₀ (answer c.m (kinds c.r c.m) (readings_of c s) allowance)

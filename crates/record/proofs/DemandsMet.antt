@@ -69,7 +69,8 @@ header_decides s =
     (λ why e. ap (λ (h : Result Code Refusal). header_view (outcome_of h)) e)
     (λ sound whole e. rw e (refl, refl))
 
-header_said : (s : List ℕ) (h : Result Code Refusal) → header_of s ≡ h → (outcome_of h).carry.number ≡ 0 → ((outcome_of h).r ≡ said_r s) × ((outcome_of h).m ≡ said_m s)
+header_said : (s : List ℕ) (h : Result Code Refusal) → header_of s ≡ h → (outcome_of h).carry.number ≡ 0
+    → ((outcome_of h).r ≡ said_r s) × ((outcome_of h).m ≡ said_m s)
 header_said s (Err why) is e = absurd (omega (arith, number_above why))
 header_said s (Ok c) is e =
     let same = (made_of (said_r s) (said_m s) c (framed_record s c is).said).same in

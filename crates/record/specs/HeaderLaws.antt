@@ -49,7 +49,8 @@ part-before : (c : Code) (s rest : List ℕ) → suc (part_length c.m) ≤ lengt
 part-before c [] rest h = absurd (omega arith)
 part-before c (first ∷ s) rest h = take-append-le (part_length c.m) s rest (omega arith)
 
-framed_before : (first : ℕ) (s rest : List ℕ) (k : Result Code Refusal) → length_by k ≤ suc (length s) → headed_by k (first ∷ (s ++ rest)) ≡ headed_by k (first ∷ s)
+framed_before : (first : ℕ) (s rest : List ℕ) (k : Result Code Refusal) → length_by k ≤ suc (length s)
+    → headed_by k (first ∷ (s ++ rest)) ≡ headed_by k (first ∷ s)
 framed_before first s rest (Err _) h = refl
 framed_before first s rest (Ok c) h =
     let n = part_length c.m in

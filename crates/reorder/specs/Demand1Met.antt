@@ -22,7 +22,8 @@ use Rattle.maps.proofs.UndoLaws.{undoable_apart, undo_before, undo_after}
 use Rattle.maps.proofs.TestLaws.{can_undo_lem}
 use Rattle.images.specs.Images.{is_map, Mapped}
 use Rattle.images.specs.WorkLaws.{both_good, bits_map}
-use Rattle.reorder.specs.Outcome.{Outcome, done, refused, is_long, sized, map_tested, entry_tested, reordering_entries, reordering, reordering_word, undoing, multiplying}
+use Rattle.reorder.specs.Outcome.{Outcome, done, refused, is_long, sized, map_tested, entry_tested}
+use Rattle.reorder.specs.Outcome.{reordering_entries, reordering, reordering_word, undoing, multiplying}
 use Rattle.reorder.specs.Outcome.{undoing_long}
 use Rattle.reorder.specs.OutcomeLaws.{both_true, AllRight, sized_right, map_allowed}
 use Rattle.reorder.specs.Demands.{Good, LongMap, map_checks, entries_checks, reorder_checks, reorder_word_checks, undo_checks, product_checks, reorder_view}

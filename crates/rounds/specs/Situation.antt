@@ -1,5 +1,6 @@
 -- The program's state between two rounds, and what each kind of round does to it. The functions of the code are equal to these.
-use Rattle.std.specs.Prelude.{◌≡◌, List, [], Bool, true, false, cond, not, ℕ, zero, suc, ◌+◌, ◌-◌, ◌≤◌, min, Option, None, Some, length, get_or, take, drop, ltb}
+use Rattle.std.specs.Prelude.{◌≡◌, List, [], Bool, true, false, cond, not, ℕ, zero, suc, ◌+◌}
+use Rattle.std.specs.Prelude.{◌-◌, ◌≤◌, min, Option, None, Some, length, get_or, take, drop, ltb}
 use Rattle.std.specs.Prelude.{leb, eqb}
 use Rattle.record.specs.Reader.{code_of, length_by}
 use Rattle.rounds.specs.declared.Situation.{Situation}

@@ -195,6 +195,7 @@ fn frozen_step(
 {
     let mut i = from;
     let mut sum = penalty;
+    // stays: i goes on by one or by a whole block, so no range has the indices
     while !state.count.full(i) {
         if kinds[i] != 0 {
             info_step(

@@ -26,7 +26,8 @@ says r =
     v.0 v.1 v.2 r.search_framed-answer.result.result (ap (λ (o : RunnerUpOutcome). o.outcome) r.search_framed-answer.ensures)
 
 -- and if it is an answer
-found : (c : In-Ok) → answered c.search_framed-answer.new.bits c.in-Ok.found.penalty c.in-Ok.found.gap c.in-Ok.found.visits ≡ result_of c.args.self.now.bytes.now
+found : (c : In-Ok) → answered c.search_framed-answer.new.bits c.in-Ok.found.penalty c.in-Ok.found.gap c.in-Ok.found.visits
+    ≡ result_of c.args.self.now.bytes.now
 found c =
     let v = c.requires.s_value in
     let bits = c.search_framed-answer.new.bits in
