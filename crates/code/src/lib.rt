@@ -12,6 +12,8 @@ ghost use Rattle.code.specs.Entries.{some_bad_bit, some_bad_reading};
 ghost use Rattle.code.specs.Admitted.{bits_tested, readings_tested, admitted_by, admitted};
 
 // The parameters of RM(r,m).
+// stays: Sound is a clause, no invariant: docs/PROMISES.md names what takes a Code, and a narrower
+// type would ask more of its callers.
 #[derive(Clone, Copy)]
 pub struct Code {
     pub r: u32,

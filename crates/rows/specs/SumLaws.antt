@@ -46,10 +46,10 @@ module _ {X : Type 0} (whole : X → ℤ) (wholes : List X → List ℤ) (each :
   -- ---- x and y, read at h + h + j and h + h + (h + j) of the array s, which is d with j sums of a row made
   module _ (d s : List X) (h j : ℕ) (x y : X) (room : h + h + (h + h) ≤ length d) (same : length s ≡ length d) (more : j < h)
       (first : x ≡ get_or s (h + h + j) x) (second : y ≡ get_or s (h + h + (h + j)) y) where
-    abbrev above : List ℤ
+    abbrev pub above : List ℤ
     above = row_of (h + h) (wholes d)
 
-    above_long : length above ≡ h + h
+    pub above_long : length above ≡ h + h
     above_long = length-row_of (h + h) (wholes d) (rw (length-wholes d) room)
 
     entry : (r : List ℤ) → length r ≡ h → wholes s ≡ paste (wholes d) h r j → (i : ℕ) (z : X) → z ≡ get_or s (h + h + i) z → i < h + h
@@ -58,7 +58,7 @@ module _ {X : Type 0} (whole : X → ℤ) (wholes : List X → List ℤ) (each :
         wholes-entry s (h + h + i) z e (omega arith)
         ∙ row-entry (wholes d) r (wholes s) h j i (rw (length-wholes d) room) long is more below
 
-    pair : (r : List ℤ) → length r ≡ h → wholes s ≡ paste (wholes d) h r j → Pair h j above (whole x) (whole y)
+    pub pair : (r : List ℤ) → length r ≡ h → wholes s ≡ paste (wholes d) h r j → Pair h j above (whole x) (whole y)
     pair r long is = record { first = entry r long is j x first (omega arith); second = entry r long is (h + j) y second (omega arith) }
 
     lower-pair : wholes s ≡ paste (wholes d) h (lower_row h above) j → Pair h j above (whole x) (whole y)
