@@ -249,7 +249,8 @@ module _ {l₀ : List ℤ} {k₀ : List ℕ} {s : List ℤ} {y best second y₀ 
     module _ (some : t.length ≡ 0 → ⊥) where
       took : takes n q σ₂ ≡ true
       took =
-          cond_by (λ (u : Unit {0}). takes n q σ₂ ≡ true) (takes n q σ₂) tt tt (λ b. b) (λ b. let all : t ≡ record { length = 0; adds = 0 } = z.answers ∙ rw b refl in
+          cond_by (λ (u : Unit {0}). takes n q σ₂ ≡ true) (takes n q σ₂) tt tt (λ b. b)
+          (λ b. let all : t ≡ record { length = 0; adds = 0 } = z.answers ∙ rw b refl in
           absurd (some (ap (λ (x : Block). x.length) all)))
 
       size : (n ≡ 15) ⊎ (n ≡ 16)

@@ -63,8 +63,8 @@ pub struct Block {
 
 // A block of 16 starts at i, for which the rows are made and a visit is counted. Where all are
 // frozen, or all but the last, and no zero is dropped, and the visits are allowed, the frozen ones
-// are taken at once. Otherwise none is, and nothing changes. Kept out of the frozen step, whose frame
-// stays as small as it is without it.
+// are taken at once. Otherwise none is, and nothing changes. Kept out of the frozen step, whose
+// frame stays as small as it is without it.
 #[inline(never)]
 fn zeros(
     kinds: &[u8; 256],
