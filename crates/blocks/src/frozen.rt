@@ -68,7 +68,5 @@ pub fn put_zeros(path: &mut [u8; 256], i: usize)
     requires { (i + 16 ≤ 256) × (i + 16 ≤ length path.old) }
     ensures { path.new ≡ paste path.old i (zeros 16) 16 }
 {
-    for j in 0..16 {
-        path[i + j] = 0;
-    }
+    path[i..i + 16].fill(0);
 }

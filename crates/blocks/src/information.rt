@@ -10,10 +10,8 @@ pub fn all_chosen(kinds: &[u8], i: usize, n: usize) -> bool
     ensures { result ≡ all_chosen kinds.now i n }
 {
     let mut all = true;
-    let mut j = 0;
-    while j < n {
-        all = all & (kinds[i + j] != 0);
-        j += 1;
+    for kind in &kinds[i..i + n] {
+        all = all & (*kind != 0);
     }
     all
 }

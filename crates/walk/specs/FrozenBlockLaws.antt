@@ -1,5 +1,5 @@
 -- Laws of frozen indices taken at once: what the call that takes them gives, what it is asked, and where the frozen step is after it.
-use Rattle.std.specs.Prelude.{◌≡◌, refl, Bool, true, false, ◌&&◌, List, ◌++◌, ◌⊎◌, ℕ, ◌+◌, ◌-◌, ◌*◌, ◌^◌, ◌/◌, ◌%◌, ◌≤◌, ◌<◌, ℤ, length, get_or, take, drop}
+use Rattle.std.specs.Prelude.{◌≡◌, refl, Bool, true, false, ◌&&◌, List, ◌++◌, ◌⊎◌, ℕ, ◌+◌, ◌-◌, ◌*◌, ◌^◌, ◌%◌, ◌≤◌, ◌<◌, ℤ, length, get_or, take, drop}
 use Rattle.std.specs.Prelude.{eqb, ltb}
 use Rattle.std.proofs.Common.{ap, sym, ◌∙◌, subst, append_assoc, ⊎_elim, arith, mul-le-mul_right, length-append, length-take, length-drop, length-take-le}
 use Rattle.std.proofs.Common.{take_all, take_at, take-take, get_or-take, get_or-drop, pow-add, eq-eqb, ne_eqb, eqb-true, ltb-true, leb-true}
@@ -20,6 +20,7 @@ use Rattle.memory.proofs.RowsForLaws.{rows_for_path}
 use Rattle.blocks.specs.Frozen.{frozen_run, run_adds}
 use Rattle.blocks.specs.InformationLaws.{and_both}
 use Rattle.blocks.specs.FrozenLaws.{run-sizes, run_frozen, run_added, adds_size}
+use Rattle.walk.specs.declared.Block.{Block}
 use Rattle.walk.specs.declared.progress.Count.{Count}
 use Rattle.walk.specs.declared.progress.Progress.{Progress}
 use Rattle.walk.specs.Progress.{front, more, made_for, visiting, with_count, drops, Visited, Kept, Ready, Onward, StepGiven, Reached, ValueGiven}
@@ -65,14 +66,14 @@ module _ (n q : ℕ) (w : Progress) where
 
 -- ---- what the call gives, as its code goes: n is the run's length, and a what its zeros add
 module _ (k₀ : List ℕ) (s : List ℤ) (y : List ℕ) (w : Progress) (i p : ℕ) where
-  left_alone : taken_at k₀ s w i p ≡ false → ZerosGiven k₀ s y w i p 0 y w
+  left_alone : taken_at k₀ s w i p ≡ false → ZerosGiven k₀ s y w i p (record { length = 0; adds = 0 }) y w
   left_alone e = record { answers = rw e refl; path = rw e refl; counts = rw e refl }
 
   module _ {n : ℕ} (run : n ≡ frozen_run (drop i k₀)) where
     same_run : run_at k₀ i ≡ n
     same_run = sym run
 
-    pub given-none : n ≡ 0 → ZerosGiven k₀ s y w i p 0 y w
+    pub given-none : n ≡ 0 → ZerosGiven k₀ s y w i p (record { length = 0; adds = 0 }) y w
     given-none e = left_alone (takes_none (run_at k₀ i) (run_penalty s (run_at k₀ i) p) w (same_run ∙ e))
 
     module _ (some : n ≡ 0 → ⊥) {a : ℕ} (adds : a ≡ run_adds n (row_of 16 s)) where
@@ -82,21 +83,21 @@ module _ (k₀ : List ℕ) (s : List ℤ) (y : List ℕ) (w : Progress) (i p : �
       same_taken : taken_at k₀ s w i p ≡ takes n (p + a) w
       same_taken = ap (λ (k : ℕ). takes k (run_penalty s (run_at k₀ i) p) w) same_run ∙ ap (λ (q : ℕ). takes n q w) same_penalty
 
-      pub given-dropped : drops w (p + a) ≡ true → ZerosGiven k₀ s y w i p 0 y w
+      pub given-dropped : drops w (p + a) ≡ true → ZerosGiven k₀ s y w i p (record { length = 0; adds = 0 }) y w
       given-dropped d = left_alone (same_taken ∙ takes-dropped n (p + a) w some d)
 
       module _ (undropped : drops w (p + a) ≡ false) where
         taken_by : taken_at k₀ s w i p ≡ allows_more (n - 1) w.count
         taken_by = same_taken ∙ takes_allowed n (p + a) w some undropped
 
-        pub given_unvisited : allows_more (n - 1) w.count ≡ false → ZerosGiven k₀ s y w i p 0 y w
+        pub given_unvisited : allows_more (n - 1) w.count ≡ false → ZerosGiven k₀ s y w i p (record { length = 0; adds = 0 }) y w
         given_unvisited e = left_alone (taken_by ∙ e)
 
         pub given_taken : allows_more (n - 1) w.count ≡ true → {y' : List ℕ} {w' : Progress} → y' ≡ paste y i (zeros 16) 16
-            → w' ≡ with_count w (counted_more (n - 1) w.count) → ZerosGiven k₀ s y w i p ((p + a) * 256 + n) y' w'
+            → w' ≡ with_count w (counted_more (n - 1) w.count) → ZerosGiven k₀ s y w i p (record { length = n; adds = a }) y' w'
         given_taken e put counts =
             record {
-              answers = rw (taken_by, e, same_penalty, same_run) refl;
+              answers = rw (taken_by, e, same_run, adds) refl;
               path = rw (taken_by, e) put;
               counts = rw (taken_by, e, same_run) counts;
             }
@@ -229,7 +230,7 @@ module _ {l₀ : List ℤ} {k₀ : List ℕ} {s : List ℤ} {y best second y₀ 
   abbrev σ₂ : Progress
   σ₂ = with_count σ c₂
 
-  module _ {t : ℕ} {y' : List ℕ} {σ' : Progress} (z : ZerosGiven k₀ s₂ y σ₂ i p t y' σ') where
+  module _ {t : Block} {y' : List ℕ} {σ' : Progress} (z : ZerosGiven k₀ s₂ y σ₂ i p t y' σ') where
     abbrev n : ℕ
     n = run_at k₀ i
 
@@ -237,17 +238,20 @@ module _ {l₀ : List ℤ} {k₀ : List ℕ} {s : List ℤ} {y best second y₀ 
     q = run_penalty s₂ n p
 
     -- none is taken
-    pub zeros-left : t ≡ 0 → (y' ≡ y) × (σ' ≡ σ₂)
+    pub zeros-left : t.length ≡ 0 → (y' ≡ y) × (σ' ≡ σ₂)
     zeros-left e =
         cond_by (λ (u : Unit {0}). (y' ≡ y) × (σ' ≡ σ₂)) (taken_at k₀ s₂ σ₂ i p) tt tt
-        (λ b. let all : t ≡ q * 256 + n = z.answers ∙ rw b refl in absurd (took_some n q σ₂ b (omega arith)))
+        (λ b. let all : t ≡ record { length = n; adds = run_adds n (row_of 16 s₂) } = z.answers ∙ rw b refl in
+        absurd (took_some n q σ₂ b (sym (ap (λ (x : Block). x.length) all) ∙ e)))
         (λ b. (z.path ∙ rw b refl, z.counts ∙ rw b refl))
 
     -- n are taken
-    module _ (some : t ≡ 0 → ⊥) where
+    module _ (some : t.length ≡ 0 → ⊥) where
       took : takes n q σ₂ ≡ true
       took =
-          cond_by (λ (u : Unit {0}). takes n q σ₂ ≡ true) (takes n q σ₂) tt tt (λ b. b) (λ b. absurd (some (z.answers ∙ rw b refl)))
+          cond_by (λ (u : Unit {0}). takes n q σ₂ ≡ true) (takes n q σ₂) tt tt (λ b. b)
+          (λ b. let all : t ≡ record { length = 0; adds = 0 } = z.answers ∙ rw b refl in
+          absurd (some (ap (λ (x : Block). x.length) all)))
 
       size : (n ≡ 15) ⊎ (n ≡ 16)
       size = run-sizes (drop i k₀) (took_some n q σ₂ took)
@@ -255,7 +259,7 @@ module _ {l₀ : List ℤ} {k₀ : List ℕ} {s : List ℤ} {y best second y₀ 
       few : n ≤ 16
       few = ⊎_elim (λ (e : n ≡ 15). omega arith) (λ (e : n ≡ 16). omega arith) size
 
-      answers : t ≡ q * 256 + n
+      answers : t ≡ record { length = n; adds = run_adds n (row_of 16 s₂) }
       answers = z.answers ∙ rw took refl
 
       counted : σ' ≡ with_count σ (counted_more (n - 1) c₂)
@@ -324,21 +328,13 @@ module _ {l₀ : List ℤ} {k₀ : List ℕ} {s : List ℤ} {y best second y₀ 
                 (omega (arith, took_allowed n q σ₂ took, one_more, same_allowed, took_some n q σ₂ took)) there));
           }
 
-      many : n ≡ t % 256
-      many = omega (arith, answers, few)
-
-      sum : q ≡ t / 256
-      sum = omega (arith, answers, few)
-
       -- as the code reads them from the answer
-      pub zeros_reached : Reached l₀ k₀ y₀ best₀ second₀ σ₀ from p₀ s₂ y' best second σ' (i + t % 256) (t / 256)
-      zeros_reached =
-          subst (λ (k : ℕ). Reached l₀ k₀ y₀ best₀ second₀ σ₀ from p₀ s₂ y' best second σ' (i + k) (t / 256)) many
-          (subst (Reached l₀ k₀ y₀ best₀ second₀ σ₀ from p₀ s₂ y' best second σ' (i + n)) sum reached)
+      pub zeros_reached : Reached l₀ k₀ y₀ best₀ second₀ σ₀ from p₀ s₂ y' best second σ' (i + t.length) (p + t.adds)
+      zeros_reached = subst (λ (x : Block). Reached l₀ k₀ y₀ best₀ second₀ σ₀ from p₀ s₂ y' best second σ' (i + x.length) (p + x.adds)) (sym answers) reached
 
-      pub zeros-more : 0 < t % 256
-      zeros-more = omega (arith, many, took_some n q σ₂ took)
+      pub zeros-more : 0 < t.length
+      zeros-more = omega (arith, some)
 
-      pub zeros-low : t / 256 < 2 ^ 32
+      pub zeros-low : p + t.adds < 2 ^ 32
       zeros-low =
-          omega (arith, sum, adds_size n (row_of 16 s₂), room.small, zeros_asked.low)
+          omega (arith, ap (λ (x : Block). x.adds) answers, adds_size n (row_of 16 s₂), room.small, zeros_asked.low)

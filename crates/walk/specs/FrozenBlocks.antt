@@ -1,10 +1,11 @@
 -- Frozen indices that the frozen step takes at once at i, where a block of 16 starts: whether and how many, and what that leaves in the walk's arrays.
-use Rattle.std.specs.Prelude.{◌≡◌, Bool, false, ◌&&◌, cond, List, ℕ, ◌+◌, ◌-◌, ◌*◌, ◌%◌, ◌≤◌, ◌<◌, ℤ, length, drop, eqb, ltb}
+use Rattle.std.specs.Prelude.{◌≡◌, Bool, false, ◌&&◌, cond, List, ℕ, ◌+◌, ◌-◌, ◌%◌, ◌≤◌, ◌<◌, ℤ, length, drop, eqb, ltb}
 use Rattle.std.proofs.Math.Seq.{paste}
 use Rattle.decoding.specs.Readings.{sizes, sum_limit}
 use Rattle.decoding.specs.Blocks.{zeros}
 use Rattle.rows.specs.Rows.{row_of}
 use Rattle.blocks.specs.Frozen.{frozen_run, run_adds}
+use Rattle.walk.specs.declared.Block.{Block}
 use Rattle.walk.specs.declared.progress.Count.{Count}
 use Rattle.walk.specs.declared.progress.Progress.{Progress}
 use Rattle.walk.specs.Progress.{drops, allows_more, counted_more, with_count}
@@ -41,8 +42,8 @@ pub record ZerosAsked (k₀ : List ℕ) (s : List ℤ) (y : List ℕ) (i p : ℕ
 abbrev pub taken_at : List ℕ → List ℤ → Progress → ℕ → ℕ → Bool
 taken_at k₀ s w i p = takes (run_at k₀ i) (run_penalty s (run_at k₀ i) p) w
 
--- the answer: the penalty after them times 256, and how many; 0 where none is taken, and then nothing changes
-pub record ZerosGiven (k₀ : List ℕ) (s : List ℤ) (y : List ℕ) (w : Progress) (i p r : ℕ) (y' : List ℕ) (w' : Progress) : Type 0 where
-  pub answers : r ≡ cond (taken_at k₀ s w i p) (run_penalty s (run_at k₀ i) p * 256 + run_at k₀ i) 0
+-- the answer: how many, and what they add; 0 where none is taken, and then nothing changes
+pub record ZerosGiven (k₀ : List ℕ) (s : List ℤ) (y : List ℕ) (w : Progress) (i p : ℕ) (r : Block) (y' : List ℕ) (w' : Progress) : Type 0 where
+  pub answers : r ≡ cond (taken_at k₀ s w i p) (record { length = run_at k₀ i; adds = run_adds (run_at k₀ i) (row_of 16 s) }) (record { length = 0; adds = 0 })
   pub path : y' ≡ cond (taken_at k₀ s w i p) (paste y i (zeros 16) 16) y
   pub counts : w' ≡ cond (taken_at k₀ s w i p) (with_count w (counted_more (run_at k₀ i - 1) w.count)) w

@@ -29,19 +29,12 @@ pub fn put(path: &mut [u8; 256], i: usize, bit: u8)
     path[i] = bit;
 }
 
-fn copy_front(from: &[u8], to: &mut [u8], n: usize)
-    requires { (n ≤ length from.now) × (n ≤ length to.old) }
-    ensures { take n to.new ≡ take n from.now }
-{
-    bit_rows::copy(&from[0..n], &mut to[0..n]);
-}
-
 // The first n bytes.
 pub fn copy(from: &[u8; 256], to: &mut [u8; 256], n: usize)
     requires { n ≤ 256 }
     ensures { take n to.new ≡ take n from.now }
 {
-    copy_front(from, to, n);
+    bit_rows::copy(&from[0..n], &mut to[0..n]);
 }
 
 // The value at index i of the path.
@@ -61,10 +54,18 @@ fn value_at(
     memory::value(readings, rows, path, word, count.m as usize, was, i)
 }
 
-// Such a block starts at i, for which the rows are made and a visit is counted. Where all are
+// Indices that are taken at once: how many, and what they add to the penalty.
+#[derive(Clone, Copy)]
+pub struct Block {
+    pub length: usize,
+    pub adds: u32,
+}
+
+// A block of 16 starts at i, for which the rows are made and a visit is counted. Where all are
 // frozen, or all but the last, and no zero is dropped, and the visits are allowed, the frozen ones
-// are taken at once: the penalty after them times 256, and how many. Otherwise 0, and nothing
-// changes.
+// are taken at once. Otherwise none is, and nothing changes. Kept out of the frozen step, whose
+// frame stays as small as it is without it.
+#[inline(never)]
 fn zeros(
     kinds: &[u8; 256],
     rows: &[i32; 256],
@@ -72,58 +73,59 @@ fn zeros(
     state: &mut Progress,
     i: usize,
     penalty: u32,
-) -> u64
+) -> Block
     requires { ZerosAsked kinds.now rows.now path.old i penalty }
     ensures { ZerosGiven kinds.now rows.now path.old
         state.old i penalty result path.new state.new }
 {
+    let none = Block { length: 0, adds: 0 };
     let n = blocks::frozen::run(kinds, i);
     if n == 0 {
-        return 0;
+        return none;
     }
-    let reached = penalty + blocks::frozen::added(rows, n);
-    if state.dropped(reached) {
-        return 0;
+    let adds = blocks::frozen::added(rows, n);
+    if state.dropped(penalty + adds) {
+        return none;
     }
     let more = (n - 1) as u32;
     if !state.count.allows(more) {
-        return 0;
+        return none;
     }
     state.count.add(more);
     // zeros are there already, as in frozen_step
     blocks::frozen::put_zeros(path, i);
-    (reached as u64) * 256 + n as u64
+    Block { length: n, adds }
 }
 
-// Whether a block of n = 2^s indices that has a row starts at i, for which the rows are made, and
+// Whether a block of N = 2^S indices that has a row starts at i, for which the rows are made, and
 // all of them carry information; if so, each has the bit that its value speaks for.
-fn hard_block(
+fn hard_block<const N: usize, const S: usize>(
     kinds: &[u8; 256],
     rows: &[i32; 256],
     path: &mut [u8; 256],
     count: &Count,
     i: usize,
-    n: usize,
-    s: usize,
 ) -> bool
-    requires { HardAsked count.now i × (n ≡ 2 ^ s) }
+    requires { HardAsked count.now i × (N ≡ 2 ^ S) }
     ensures { HardGiven kinds.now rows.now count.now
-        path.old i n s result path.new }
+        path.old i N S result path.new }
 {
-    if i % n != 0 {
+    if i % N != 0 {
         return false;
     }
-    if !count.has_row(n) {
+    if !count.has_row(N) {
         return false;
     }
-    if !blocks::information::all_chosen(kinds, i, n) {
+    if !blocks::information::all_chosen(kinds, i, N) {
         return false;
     }
-    blocks::information::put_hard(rows, path, i, n, s);
+    blocks::information::put_hard(rows, path, i, N, S);
     true
 }
 
-// The largest such block of 16, 8, 4 or 2 indices: how many it has; or 1, and nothing changes.
+// How many indices the largest such block of 16, 8, 4 or 2 has; or 1, that at i, and nothing
+// changes. Kept out of the information step, as zeros is out of the frozen one.
+#[inline(never)]
 fn hard_blocks(
     kinds: &[u8; 256],
     rows: &[i32; 256],
@@ -135,68 +137,38 @@ fn hard_blocks(
     ensures { BlockGiven kinds.now rows.now count.now
         path.old i result path.new }
 {
-    if hard_block(kinds, rows, path, count, i, 16, 4) {
+    if hard_block::<16, 4>(kinds, rows, path, count, i) {
         return 16;
     }
-    if hard_block(kinds, rows, path, count, i, 8, 3) {
+    if hard_block::<8, 3>(kinds, rows, path, count, i) {
         return 8;
     }
-    if hard_block(kinds, rows, path, count, i, 4, 2) {
+    if hard_block::<4, 2>(kinds, rows, path, count, i) {
         return 4;
     }
-    if hard_block(kinds, rows, path, count, i, 2, 1) {
+    if hard_block::<2, 1>(kinds, rows, path, count, i) {
         return 2;
     }
     1
 }
 
-// What is taken at once at i, for which the rows are made and a visit is counted: of frozen indices
-// as zeros gives it, of information indices how many, and nothing is counted. It serves both steps,
-// so that the compiler keeps it out of them, and their frames stay as small as they are without it.
-fn taken(
-    kinds: &[u8; 256],
-    rows: &[i32; 256],
-    path: &mut [u8; 256],
-    state: &mut Progress,
-    i: usize,
-    penalty: u32,
-) -> u64
-    requires { (i < 256)
-        × (get_or kinds.now i 0 ≡ 0
-        → ZerosAsked kinds.now rows.now path.old i penalty)
-        × ((get_or kinds.now i 0 ≡ 0 → ⊥) → HardAsked state.old.count i) }
-    ensures { (get_or kinds.now i 0 ≡ 0
-        → ZerosGiven kinds.now rows.now path.old
-        state.old i penalty result path.new state.new)
-        × ((get_or kinds.now i 0 ≡ 0 → ⊥)
-        → (state.new ≡ state.old)
-        × BlockGiven kinds.now rows.now state.old.count
-        path.old i result path.new) }
-{
-    if kinds[i] == 0 {
-        return zeros(kinds, rows, path, state, i, penalty);
-    }
-    hard_blocks(kinds, rows, path, &state.count, i) as u64
-}
-
 // How many information indices from i on have the bits that their values speak for, where that at i
-// is put: those of the largest block that starts there, or i alone. Only zeros need a penalty.
+// is put: those of the largest block that starts there, or i alone.
 fn hard_here(
     kinds: &[u8; 256],
     rows: &[i32; 256],
     path: &mut [u8; 256],
-    state: &mut Progress,
+    count: &Count,
     i: usize,
 ) -> u32
-    requires { HardAsked state.old.count i × (get_or kinds.now i 0 ≡ 0 → ⊥) }
-    ensures { (state.new ≡ state.old)
-        × BlockGiven kinds.now rows.now state.old.count
+    requires { HardAsked count.now i }
+    ensures { BlockGiven kinds.now rows.now count.now
         path.old i result path.new }
 {
     if i % 2 != 0 {
         return 1;
     }
-    taken(kinds, rows, path, state, i, 0) as u32
+    hard_blocks(kinds, rows, path, count, i)
 }
 
 // The path of the first `from` bits, of this penalty, goes on with a 0 at each frozen index: up to
@@ -235,10 +207,10 @@ fn frozen_step(
         }
         let value = value_at(readings, rows, path, word, &mut state.count, i);
         if state.count.starts_block(i) {
-            let block = taken(kinds, rows, path, state, i, sum);
-            if block != 0 {
-                i += (block % 256) as usize;
-                sum = (block / 256) as u32;
+            let block = zeros(kinds, rows, path, state, i, sum);
+            if block.length != 0 {
+                i += block.length;
+                sum += block.adds;
                 continue;
             }
         }
@@ -292,7 +264,7 @@ fn info_step(
     put(path, i, first);
     let gone = state.dropped(after);
     if gone {
-        let n = hard_here(kinds, rows, path, state, i);
+        let n = hard_here(kinds, rows, path, &state.count, i);
         if !state.count.visit_many(n + n - 1) {
             return;
         }

@@ -1,5 +1,5 @@
 -- The walk's two steps, which call each other in turn, meet their contracts.
-use Rattle.std.proofs.Common.{◌≡◌, refl, ℕ, ◌+◌, ◌-◌, ◌^◌, ◌<◌, List, Bool, true, false, not, set, take, ap, ap₂, sym, ◌∙◌, subst, arith, ℤ, to_z, of_z}
+use Rattle.std.proofs.Common.{◌≡◌, refl, ℕ, ◌+◌, ◌-◌, ◌^◌, ◌<◌, List, Bool, true, false, not, set, take, ap, ap₂, sym, ◌∙◌, arith, ℤ, to_z, of_z}
 use Rattle.std.proofs.Common.{to_z-of_z, w32}
 use Rattle.std.proofs.lemmas.Bool.{eqb-true}
 use Rattle.decoding.specs.Readings.{loss}
@@ -7,9 +7,9 @@ use Rattle.decoding.specs.Quick.{hard}
 use Rattle.decoding.specs.Walk.{value}
 use Rattle.decoding.specs.PathLaws.{hard_bit}
 use Rattle.walk.specs.declared.progress.Progress.{Progress}
-use Rattle.walk.specs.Progress.{front, drops, allows_more, counted_by, with_count, StepAsked, StepGiven}
+use Rattle.walk.specs.Progress.{front, drops, allows_more, with_count}
 use Rattle.walk.specs.StepLaws.{value_small, sum_small}
-use Rattle.walk.specs.GoingLaws.{may_visit, may_not, not_full, full_step, within, frozen_stop, info_stop}
+use Rattle.walk.specs.GoingLaws.{may_visit, may_not, not_full, full_step, frozen_stop, info_stop}
 use Rattle.walk.specs.GoingLaws.{value-is, value_going, reached_given, frozen_dropped, reached_more}
 use Rattle.walk.specs.GoingLaws.{deeper_m, deeper_asked, deeper_given, deeper_kept, first_adds, first_undropped}
 use Rattle.walk.specs.GoingLaws.{second_stop, second_going, second-dropped, second-given}
@@ -39,25 +39,22 @@ frozen_step-returns-then-not-visit t c =
     reached_given r (frozen_stop r.asked inside c.if-kinds-i-ne0.false (may_not (ap not c.if-not-visit.true) c.visit.ensures))
 
 -- the start of a block: its frozen indices are taken at once, or nothing changes
-pub frozen_step-taken-block-requires : goal.frozen_step-taken-block-requires
-frozen_step-taken-block-requires t c =
+pub frozen_step-zeros-block-requires : goal.frozen_step-zeros-block-requires
+frozen_step-zeros-block-requires t c =
     let r = c.loop-rows.invariant in
     let inside = not_full r.asked (sym c.full.ensures ∙ c.loop-rows-test.true) in
     let visited = may_visit (ap not c.if-not-visit.false) c.visit.ensures in
-    let given = c.value_at-value.ensures in
-    let kind = c.if-kinds-i-ne0.false in
-    (within r.asked inside, λ e. zeros_asked r inside visited given (sym c.starts_block.ensures ∙ c.if-starts_block.true), λ h. absurd (h kind))
+    zeros_asked r inside visited c.value_at-value.ensures (sym c.starts_block.ensures ∙ c.if-starts_block.true)
 
-pub frozen_step-overflow_cast-sum : goal.frozen_step-overflow_cast-sum
-frozen_step-overflow_cast-sum t c =
+pub frozen_step-overflow_add-sum : goal.frozen_step-overflow_add-sum
+frozen_step-overflow_add-sum t c =
     let r = c.loop-rows.invariant in
     let inside = not_full r.asked (sym c.full.ensures ∙ c.loop-rows-test.true) in
     let visited = may_visit (ap not c.if-not-visit.false) c.visit.ensures in
     let given = c.value_at-value.ensures in
     let kind = c.if-kinds-i-ne0.false in
     let starts = sym c.starts_block.ensures ∙ c.if-starts_block.true in
-    let taken = c.taken-block.ensures.0 kind in
-    record { fits = zeros-low r inside visited given starts taken c.if-block-ne0.true }
+    record { fits = zeros-low r inside visited given starts c.zeros-block.ensures c.if-block-ne0.true }
 
 pub frozen_step-loop-rows-preserved-then-block-ne0 : goal.frozen_step-loop-rows-preserved-then-block-ne0
 frozen_step-loop-rows-preserved-then-block-ne0 t c =
@@ -67,7 +64,7 @@ frozen_step-loop-rows-preserved-then-block-ne0 t c =
     let given = c.value_at-value.ensures in
     let kind = c.if-kinds-i-ne0.false in
     let starts = sym c.starts_block.ensures ∙ c.if-starts_block.true in
-    let taken = c.taken-block.ensures.0 kind in
+    let taken = c.zeros-block.ensures in
     zeros_reached r inside visited given starts taken c.if-block-ne0.true
 
 -- one index
@@ -83,8 +80,8 @@ frozen_step-loss-sum-requires t c =
     ∙ value-is r.asked inside visited given in
     rw is (value_small r.asked.ready)
 
-pub frozen_step-overflow_add-sum : goal.frozen_step-overflow_add-sum
-frozen_step-overflow_add-sum t c =
+pub frozen_step-overflow_add-sum-in-loop-rows : goal.frozen_step-overflow_add-sum-in-loop-rows
+frozen_step-overflow_add-sum-in-loop-rows t c =
     let r = c.loop-rows.invariant in
     let inside = not_full r.asked (sym c.full.ensures ∙ c.loop-rows-test.true) in
     let visited = may_visit (ap not c.if-not-visit.false) c.visit.ensures in
@@ -113,7 +110,7 @@ frozen_step-returns-then-dropped t c =
     let untaken : (c.if-starts_block.path ≡ c.loop-rows.path) × (c.if-starts_block.state ≡ with_count c.loop-rows.state c.value_at-value.new.count) =
     elim c.if-starts_block.branch [
       | frozen_step-then-starts_block+else-block-ne0 w ↦ let z = zeros-left r inside visited given
-          (sym c.starts_block.ensures ∙ w.if-starts_block.true) (w.taken-block.ensures.0 kind) w.if-block-ne0.false in
+          (sym c.starts_block.ensures ∙ w.if-starts_block.true) w.zeros-block.ensures w.if-block-ne0.false in
           (w.path-is ∙ z.0, w.state-is ∙ z.1)
       | frozen_step-else-starts_block w ↦ (w.path-is, w.state-is)
     ] in
@@ -137,7 +134,7 @@ frozen_step-loop-rows-preserved t c =
     let untaken : (c.if-starts_block.path ≡ c.loop-rows.path) × (c.if-starts_block.state ≡ with_count c.loop-rows.state c.value_at-value.new.count) =
     elim c.if-starts_block.branch [
       | frozen_step-then-starts_block+else-block-ne0 w ↦ let z = zeros-left r inside visited given
-          (sym c.starts_block.ensures ∙ w.if-starts_block.true) (w.taken-block.ensures.0 kind) w.if-block-ne0.false in
+          (sym c.starts_block.ensures ∙ w.if-starts_block.true) w.zeros-block.ensures w.if-block-ne0.false in
           (w.path-is ∙ z.0, w.state-is ∙ z.1)
       | frozen_step-else-starts_block w ↦ (w.path-is, w.state-is)
     ] in
@@ -197,13 +194,9 @@ info_step-returns-then-not-visit_many t c =
     let put : c.put.new.path ≡ set c.args.path.now c.args.i (hard at) = c.put.ensures ∙ ap (set c.args.path.now c.args.i) first in
     let gone : drops c.args.state.now (c.args.penalty + c.loss.result) ≡ true = sym c.dropped-gone.ensures ∙ c.if-gone.true in
     let n = c.hard_here-n.result in
-    let block = c.hard_here-n.ensures.1 in
-    let counted = subst (λ (w : Progress). (c.visit_many.result ≡ allows_more (n + n - 1) w.count) × (c.visit_many.new.self ≡ counted_by (n + n - 1) w.count))
-    c.hard_here-n.ensures.0 c.visit_many.ensures in
-    let args = c.args in
-    subst (λ (w : Progress). StepGiven args.readings.now args.kinds.now args.path.now args.best.now args.second.now args.state.now args.i args.penalty
-    c.value_at-value.new.rows c.hard_here-n.new.path args.best.now args.second.now (with_count w c.visit_many.new.self)) (sym c.hard_here-n.ensures.0)
-    (behind_out a.0 a.1 visited given a.2 put block other gone counted.1 (sym counted.0 ∙ c.if-not-visit_many.true))
+    let block = c.hard_here-n.ensures in
+    let counted = c.visit_many.ensures in
+    behind_out a.0 a.1 visited given a.2 put block other gone counted.1 (sym counted.0 ∙ c.if-not-visit_many.true)
 
 pub info_step-frozen_step-requires : goal.info_step-frozen_step-requires
 info_step-frozen_step-requires t c =
@@ -219,17 +212,13 @@ info_step-frozen_step-requires t c =
     let put : c.put.new.path ≡ set c.args.path.now c.args.i (hard at) = c.put.ensures ∙ ap (set c.args.path.now c.args.i) first in
     let gone : drops c.args.state.now (c.args.penalty + c.loss.result) ≡ true = sym c.dropped-gone.ensures ∙ c.if-gone.true in
     let n = c.hard_here-n.result in
-    let block = c.hard_here-n.ensures.1 in
-    let counted = subst (λ (w : Progress). (c.visit_many.result ≡ allows_more (n + n - 1) w.count) × (c.visit_many.new.self ≡ counted_by (n + n - 1) w.count))
-    c.hard_here-n.ensures.0 c.visit_many.ensures in
+    let block = c.hard_here-n.ensures in
+    let counted = c.visit_many.ensures in
     let may : allows_more (n + n - 1) c.value_at-value.new.count ≡ true = sym counted.0 ∙ c.if-not-visit_many.false in
     let same = hard_m a.0 a.1 visited given a.2 put block other gone counted.1 may in
-    let later : c.args.i < c.args.i + n = omega (arith, (block-length block).0) in
-    let args = c.args in (
+    let later : c.args.i < c.args.i + n = omega (arith, (block-length block).0) in (
       omega (arith, c.decreases, information_call c.args.kinds.now same c.args.i _ a.0.ready.long_kinds a.1 a.2 later),
-      subst (λ (w : Progress). StepAsked args.readings.now args.kinds.now c.value_at-value.new.rows c.hard_here-n.new.path args.best.now args.second.now
-          (with_count w c.visit_many.new.self) (args.i + n) args.penalty) (sym c.hard_here-n.ensures.0)
-          (behind_asked a.0 a.1 visited given a.2 put block other gone counted.1 may refl),
+      behind_asked a.0 a.1 visited given a.2 put block other gone counted.1 may refl,
     )
 
 pub info_step-returns-then-gone : goal.info_step-returns-then-gone
@@ -246,15 +235,10 @@ info_step-returns-then-gone t c =
     let put : c.put.new.path ≡ set c.args.path.now c.args.i (hard at) = c.put.ensures ∙ ap (set c.args.path.now c.args.i) first in
     let gone : drops c.args.state.now (c.args.penalty + c.loss.result) ≡ true = sym c.dropped-gone.ensures ∙ c.if-gone.true in
     let n = c.hard_here-n.result in
-    let block = c.hard_here-n.ensures.1 in
-    let counted = subst (λ (w : Progress). (c.visit_many.result ≡ allows_more (n + n - 1) w.count) × (c.visit_many.new.self ≡ counted_by (n + n - 1) w.count))
-    c.hard_here-n.ensures.0 c.visit_many.ensures in
+    let block = c.hard_here-n.ensures in
+    let counted = c.visit_many.ensures in
     let may : allows_more (n + n - 1) c.value_at-value.new.count ≡ true = sym counted.0 ∙ c.if-not-visit_many.false in
-    let args = c.args in
-    let f = c.frozen_step in
-    behind_given a.0 a.1 visited given a.2 put block other gone counted.1 may refl
-    (subst (λ (w : Progress). StepGiven args.readings.now args.kinds.now c.hard_here-n.new.path args.best.now args.second.now
-    (with_count w c.visit_many.new.self) (args.i + n) args.penalty f.new.rows f.new.path f.new.best f.new.second f.new.state) c.hard_here-n.ensures.0 f.ensures)
+    behind_given a.0 a.1 visited given a.2 put block other gone counted.1 may refl c.frozen_step.ensures
 
 -- the other bit is not dropped yet: first the step below
 pub info_step-frozen_step-requires-2 : goal.info_step-frozen_step-requires-2

@@ -11,14 +11,14 @@ use Rattle.blocks.proofs.frozen.fifteen_frozen.Goals as goal
 
 pub loop-j-init : goal.loop-j-init
 unfolding sum
-loop-j-init c = (omega arith, refl)
+loop-j-init c = refl
 
 pub loop-j-preserved : goal.loop-j-preserved
 loop-j-preserved c =
     let g = c.args in
     let o = c.loop-j in
     let ks = drop g.i g.kinds.now in
-    (omega arith, some_more ks o.j _ (simp length-drop (omega arith)) (sym (get_or-drop g.i g.kinds.now o.j 0)) o.invariant.1)
+    some_more ks o.j _ (simp length-drop (omega arith)) (sym (get_or-drop g.i g.kinds.now o.j 0)) o.invariant
 
 pub returns : goal.returns
 returns c =
@@ -26,4 +26,4 @@ returns c =
     let o = c.loop-j in
     let ks = drop g.i g.kinds.now in
     let e : o.j ≡ 15 = omega arith in
-    all_frozen_lem (take 15 ks) (o.invariant.1 ∙ ap (λ (k : ℕ). ltb 0 (sum (take k ks))) e)
+    all_frozen_lem (take 15 ks) (o.invariant ∙ ap (λ (k : ℕ). ltb 0 (sum (take k ks))) e)

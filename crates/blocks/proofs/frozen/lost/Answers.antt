@@ -17,7 +17,7 @@ use Rattle.blocks.proofs.frozen.lost.Goals.{After-loss-p}
 
 pub loop-j-init : goal.loop-j-init
 unfolding penalty
-loop-j-init c = (omega arith, refl)
+loop-j-init c = refl
 
 pub loss-p-requires : goal.loss-p-requires
 loss-p-requires c =
@@ -35,7 +35,7 @@ more c =
     let s = g.rows.now in
     ap (λ (k : ℕ). o.p + k)
     (c.loss-p.ensures ∙ ap (λ (z : ℤ). loss z g.bit) (to_z-of_z {w = w32} {z = get_or s (16 + o.j) (pos 0)} (record { sfits = c.loss-arg-1.given })))
-    ∙ lost_more s 16 (omega arith) o.j (omega arith) g.bit o.invariant.1
+    ∙ lost_more s 16 (omega arith) o.j (omega arith) g.bit o.invariant
 
 pub overflow_add-p : goal.overflow_add-p
 overflow_add-p c =
@@ -46,11 +46,11 @@ overflow_add-p c =
     }
 
 pub loop-j-preserved : goal.loop-j-preserved
-loop-j-preserved c = (omega arith, more c)
+loop-j-preserved c = more c
 
 pub returns : goal.returns
 returns c =
     let g = c.args in
     let row = row_of 16 g.rows.now in
-    c.loop-j.invariant.1
+    c.loop-j.invariant
     ∙ ap (λ (k : List ℤ). penalty k (replicate 16 g.bit)) (take_all c.loop-j.j row (omega (arith, length-row_of 16 g.rows.now (omega arith))))

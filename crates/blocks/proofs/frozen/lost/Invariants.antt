@@ -1,13 +1,9 @@
 -- `frozen::lost` meets its contract: the sum is the penalty of the part that is read.
 use mathlib.Core.Path.{◌≡◌}
-use Prim.Native.Nat.{◌-◌, ◌≤◌}
 use lib.ListN.{take, replicate}
 use Rattle.decoding.specs.Readings.{penalty}
 use Rattle.rows.specs.Rows.{row_of}
 use Rattle.blocks.proofs.frozen.lost.Given as goal
 
 abbrev pub invariant-loop-j : goal.invariant-loop-j
-invariant-loop-j l = (l.j ≤ 16) × (l.p ≡ penalty (take l.j (row_of 16 l.rows)) (replicate 16 l.bit))
-
-abbrev pub decreases-loop-j : goal.decreases-loop-j
-decreases-loop-j l = 16 - l.j
+invariant-loop-j l = l.p ≡ penalty (take l.j (row_of 16 l.rows)) (replicate 16 l.bit)

@@ -1,23 +1,16 @@
--- `frozen::put_zeros` meets its contract: after j passes j zeros are put.
-use mathlib.Core.Path.{◌≡◌, ap, ◌∙◌}
-use native.Mathlib.Omega.{arith}
-use lib.Seq.{paste, paste-zero}
+-- `put_zeros`: the part that is filled has 16 zeros.
+use Rattle.std.proofs.Common.{◌≡◌, refl, ap, ◌∙◌, arith, ℕ, ◌+◌, ◌-◌, length, length-take, length-drop}
+use Rattle.std.specs.Prelude.{take, drop, replicate}
+use Rattle.std.proofs.lemmas.Slice.{put_mid-paste}
 use Rattle.decoding.specs.Blocks.{zeros}
-use Rattle.blocks.specs.FrozenLaws.{zero_put}
 use Rattle.blocks.proofs.frozen.put_zeros.Goals as goal
-
-pub loop-j-init : goal.loop-j-init
-loop-j-init c = (omega arith, paste-zero c.args.path.now c.args.i (zeros 16))
-
-pub loop-j-preserved : goal.loop-j-preserved
-loop-j-preserved c =
-    let g = c.args in
-    let o = c.loop-j in
-    (omega arith, zero_put g.path.now g.i 16 o.j (omega arith) (omega arith) o.invariant.1)
 
 pub returns : goal.returns
 returns c =
-    let g = c.args in
-    let o = c.loop-j in
-    let e : o.j ≡ 16 = omega arith in
-    o.invariant.1 ∙ ap (paste g.path.now g.i (zeros 16)) e
+    let y = c.args.path.now in
+    let i = c.args.i in
+    let k : i + 16 - i ≡ 16 = omega arith in
+    let long : length (take (i + 16 - i) (drop i y)) ≡ 16 =
+    omega (arith, length-take (i + 16 - i) (drop i y), length-drop i y) in
+    put_mid-paste i (i + 16 - i) y c.fill.new.self (zeros 16) 16
+    (c.fill.ensures.after (λ x h. h) ∙ ap (λ (n : ℕ). replicate n 0) long) (omega arith) refl

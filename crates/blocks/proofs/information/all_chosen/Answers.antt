@@ -1,29 +1,19 @@
--- `all_chosen`: after j passes, whether the first j carry information.
-use mathlib.Core.Path.{◌≡◌, refl, ap, ◌∙◌}
-use mathlib.Core.Bool.{Bool, ◌&&◌, not}
-use Prim.Native.Nat.{◌+◌, zero-le}
-use native.Mathlib.Omega.{arith}
-use native.Mathlib.Numerals.{add-one}
-use lib.ListN.{get_or}
-use lib.Dec.{eqb}
+-- `all_chosen`: a kind more.
+use Rattle.std.proofs.Common.{◌≡◌, refl, ◌∙◌, arith, add-one, get_or-take, get_or-drop, ◌-◌, ◌+◌, ◌<◌, get_or, take, drop, length-take}
 use Rattle.blocks.specs.Information.{all_chosen}
 use Rattle.blocks.proofs.information.all_chosen.Goals as goal
 
-pub loop-j-init : goal.loop-j-init
+pub loop-kind-init : goal.loop-kind-init
 unfolding all_chosen
-loop-j-init c = (zero-le, refl)
+loop-kind-init c = refl
 
-pub loop-j-preserved : goal.loop-j-preserved
+pub loop-kind-preserved : goal.loop-kind-preserved
 unfolding all_chosen
-loop-j-preserved c =
-    let g = c in
-    let l = c.loop-j in
-    let kind = not (eqb (get_or g.args.kinds.now (g.args.i + l.j) 0) 0) in
-    (omega arith, rw add-one (ap (λ (b : Bool). b && kind) l.invariant.1))
-
-pub returns : goal.returns
-returns c =
-    let g = c in
-    let l = c.loop-j in
-    let all : l.j ≡ g.args.n = omega arith in
-    l.invariant.1 ∙ ap (all_chosen g.args.kinds.now g.args.i) all
+loop-kind-preserved c =
+    let ks = c.args.kinds.now in
+    let i = c.args.i in
+    let j = c.loop-kind.kind-index in
+    let n = i + c.args.n - i in
+    let within : j < n = omega (arith, length-take n (drop i ks)) in
+    let is : get_or (take n (drop i ks)) j 0 ≡ get_or ks (i + j) 0 = get_or-take n (drop i ks) j 0 within ∙ get_or-drop i ks j 0 in
+    rw (add-one, is, c.loop-kind.invariant) refl

@@ -1,11 +1,7 @@
--- `all_chosen`: after j passes, whether the first j carry information.
-use mathlib.Core.Path.{◌≡◌}
-use Prim.Native.Nat.{◌-◌, ◌≤◌}
+-- `all_chosen`: whether the kinds so far carry information.
+use Rattle.std.proofs.Common.{◌≡◌}
 use Rattle.blocks.specs.Information.{all_chosen}
 use Rattle.blocks.proofs.information.all_chosen.Given as goal
 
-abbrev pub invariant-loop-j : goal.invariant-loop-j
-invariant-loop-j l = (l.j ≤ l.n) × (l.all ≡ all_chosen l.kinds l.i l.j)
-
-abbrev pub decreases-loop-j : goal.decreases-loop-j
-decreases-loop-j l = l.n - l.j
+abbrev pub invariant-loop-kind : goal.invariant-loop-kind
+invariant-loop-kind l = l.all ≡ all_chosen l.kinds l.i l.kind-index
