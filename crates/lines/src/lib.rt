@@ -22,10 +22,9 @@ impl Text<'_> {
         requires { self.old.at + length text.now ≤ length self.old.out.now }
         ensures { Puts self.old self.new text.now }
     {
-        for (i, byte) in text.iter().enumerate() {
-            self.out[self.at + i] = *byte;
-        }
-        self.at += text.len();
+        let end = self.at + text.len();
+        bit_rows::copy(text, &mut self.out[self.at..end]);
+        self.at = end;
     }
 
     fn put_bits(&mut self, bits: &[u8])
