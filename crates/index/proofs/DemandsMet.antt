@@ -76,7 +76,7 @@ module _ (s table : List ℕ) (w : ℕ) where
             (λ inside. inr (
               λ x. omega arith,
               subst (λ (p : Result ℕ Refusal). Decides [] (header_view (outcome_of (header_at s p))) (stepping_checks s led))
-              (sym (start_by s table w there inside))
+                  (sym (start_by s table w there inside))
                   (stepping_decides s led (passed_why s (w % block) entry)),
             ))
             (λ past. inl (past, ap (λ (p : Result ℕ Refusal). header_view (outcome_of (header_at s p))) (sym (start_past s table w there past))))
