@@ -22,7 +22,7 @@ use Rattle.maps.proofs.UndoLaws.{undoable_apart, undo_before, undo_after}
 use Rattle.maps.proofs.TestLaws.{can_undo_lem}
 use Rattle.images.specs.Images.{is_map, Mapped}
 use Rattle.images.specs.WorkLaws.{both_good, bits_map}
-use Rattle.reorder.specs.Outcome.{Outcome, done, refused, is_long, sized, map_tested, entry_tested}
+use Rattle.reorder.specs.Outcome.{Outcome, done, refused, is_long, sized, map_tested, entry_checked}
 use Rattle.reorder.specs.Outcome.{reordering_entries, reordering, reordering_word, undoing, multiplying}
 use Rattle.reorder.specs.Outcome.{undoing_long}
 use Rattle.reorder.specs.OutcomeLaws.{both_true, AllRight, sized_right, map_allowed}
@@ -68,7 +68,7 @@ pub map-zero : {B : Type 0} (lent : B) (rest : Outcome B) (maps : Bool) → (map
 map-zero lent rest true e = (refl, e)
 map-zero lent rest false e = absurd (omega arith)
 
-pub entry_zero : {B : Type 0} (lent : B) (rest : Outcome B) (place n : ℕ) → (entry_tested lent place n rest).carry.number ≡ 0 → n ≤ place
+pub entry_zero : {B : Type 0} (lent : B) (rest : Outcome B) (place n : ℕ) → (entry_checked lent place n rest).carry.number ≡ 0 → n ≤ place
 entry_zero lent rest place n e = ⊎_elim (λ h. absurd (omega (arith, rw (lt-ltb place n h) at e))) (λ h. h) (lt_or_le place n)
 
 -- ---- Demand 1: a test of the code decides a check
@@ -120,10 +120,10 @@ module _ {B : Type 0} (lent : B) where
 
   -- 4, by the lowest bad place
   entry_decides : {A : Type 0} (d : A) (size : A → ℕ) (limit : ℕ) (l : List A) (x : B)
-      → Decides [] (reorder_view (entry_tested lent (first_above size limit l) (length l) (done x))) (check_at Entry (LowestBad d size limit l) passed)
+      → Decides [] (reorder_view (entry_checked lent (first_above size limit l) (length l) (done x))) (check_at Entry (LowestBad d size limit l) passed)
   entry_decides d size limit l x =
       let place = first_above size limit l in
-      decides_entry d size limit l [] (reorder_view (entry_tested lent place (length l) (done x))) passed
+      decides_entry d size limit l [] (reorder_view (entry_checked lent place (length l) (done x))) passed
       (λ h. rw (lt-ltb place (length l) h))
       (λ h. rw (le-ltb place (length l) h) (refl, refl))
 
@@ -152,7 +152,7 @@ module _ {B : Type 0} (lent : B) where
   unfolding Kept
   kept_done x h = absurd (omega arith)
 
-  kept_entry : (place n : ℕ) (x : B) → Kept (entry_tested lent place n (done x))
+  kept_entry : (place n : ℕ) (x : B) → Kept (entry_checked lent place n (done x))
   kept_entry place n x = kept_either (ltb place n) (refused lent (Entry place)) (done x) (kept_refused (Entry place)) (kept_done x)
 
   -- both, for a call
@@ -184,7 +184,7 @@ module _ (m : ℕ) (A b : List ℕ) where
       let moved = reordered d m A b l in
       met out m (is_long m (length A) (length b) && eqb (length l) (2 ^ m)) (eqb (length out) (2 ^ m)) (is_map m A b) (LongMap m A b × (length l ≡ 2 ^ m))
       (length out ≡ 2 ^ m) (Good m A b) (with_entries (length l)) (equal_exactly (length out) (2 ^ m)) (λ h p. good_exactly h p.0)
-      (entry_tested out place (length l) (done moved)) (check_at Entry (LowestBad d size limit l) passed)
+      (entry_checked out place (length l) (done moved)) (check_at Entry (LowestBad d size limit l) passed)
       (entry_decides out d size limit l moved) (kept_entry out place (length l) moved)
 
   reorder_met : (l out : List ℤ) → ReorderDemand1 (reorder_checks m A b l out) out (reordering m A b l out)

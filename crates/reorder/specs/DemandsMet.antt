@@ -14,7 +14,7 @@ use Rattle.images.specs.Images.{is_map, Mapped}
 use Rattle.search.specs.Outcome as Search
 use Rattle.search.specs.Demands.{SoundSearch}
 use Rattle.search.specs.DemandsMet.{sound_answered}
-use Rattle.reorder.specs.Outcome.{Outcome, done, is_long, entry_tested, reordering_entries_long, reordering_entries, reordering, reordering_word}
+use Rattle.reorder.specs.Outcome.{Outcome, done, is_long, entry_checked, reordering_entries_long, reordering_entries, reordering, reordering_word}
 use Rattle.reorder.specs.OutcomeLaws.{both_true, sized_right, map_allowed, entry_allowed, mapped}
 use Rattle.reorder.specs.Demands.{Good, WordReordered, SearchReordered, Buffers}
 use Rattle.reorder.specs.Demand1Met.{map_exactly, sized-zero, map-zero, entry_zero}
@@ -36,7 +36,7 @@ module _ {T : Type 0} (d : T) (size : T → ℕ) (limit : ℕ) (Fine : List T �
   call_done e =
       let moved = done (reordered d m A b l) in
       let bad = first_above size limit l in
-      let entries = entry_tested out bad (length l) moved in
+      let entries = entry_checked out bad (length l) moved in
       let long_call = reordering_entries_long d size limit m A b l out in
       let sizes = sized-zero out long_call m (is_long m (length A) (length b) && eqb (length l) (2 ^ m)) (eqb (length out) (2 ^ m)) e in
       let tested = map-zero out entries (is_map m A b) sizes.1 in

@@ -39,14 +39,14 @@ abbrev pub map_tested : {B : Type 0} → B → Bool → Outcome B → Outcome B
 map_tested lent maps rest = cond (not maps) (refused lent Map) rest
 
 -- then 4, by the lowest bad place among n entries
-abbrev pub entry_tested : {B : Type 0} → B → ℕ → ℕ → Outcome B → Outcome B
-entry_tested lent place n rest = cond (ltb place n) (refused lent (Entry place)) rest
+abbrev pub entry_checked : {B : Type 0} → B → ℕ → ℕ → Outcome B → Outcome B
+entry_checked lent place n rest = cond (ltb place n) (refused lent (Entry place)) rest
 
 -- ---- the outcomes if all lengths are right
 -- from m, a table, a row, entries of which none may have a size above the limit, and the buffer for the reordered ones; d is any entry
 abbrev pub reordering_entries_long : {T : Type 0} → T → (T → ℕ) → ℕ → ℕ → List ℕ → List ℕ → List T → List T → Outcome (List T)
 reordering_entries_long d size limit m A b l out =
-    map_tested out (is_map m A b) (entry_tested out (first_above size limit l) (length l) (done (reordered d m A b l)))
+    map_tested out (is_map m A b) (entry_checked out (first_above size limit l) (length l) (done (reordered d m A b l)))
 
 -- from m, a table, a row, and the buffers for those of the undo map
 abbrev pub undoing_long : ℕ → List ℕ → List ℕ → List ℕ → List ℕ → Outcome (List ℕ × List ℕ)

@@ -5,7 +5,7 @@ use Rattle.code.specs.Sound.{largest_m}
 use Rattle.code.specs.Entries.{first_above}
 use Rattle.maps.specs.Maps.{reordered, product_table, product_row, undo_table, undo_row}
 use Rattle.images.specs.Images.{is_long, is_map, Mapped}
-use Rattle.reorder.specs.Outcome.{Outcome, done, sized, map_tested, entry_tested, reordering_entries, undoing, multiplying}
+use Rattle.reorder.specs.Outcome.{Outcome, done, sized, map_tested, entry_checked, reordering_entries, undoing, multiplying}
 
 pub both_true : (x y : Bool) → x && y ≡ true → (x ≡ true) × (y ≡ true)
 both_true true y e = (refl, e)
@@ -21,7 +21,7 @@ module _ {B : Type 0} (lent : B) (rest : Outcome B) where
   pub map_allowed : (maps : Bool) → maps ≡ true → rest ≡ map_tested lent maps rest
   map_allowed maps f = rw f
 
-  pub entry_allowed : (place n : ℕ) → n ≤ place → rest ≡ entry_tested lent place n rest
+  pub entry_allowed : (place n : ℕ) → n ≤ place → rest ≡ entry_checked lent place n rest
   entry_allowed place n h = rw (le-ltb place n h)
 
   pub sized_right : (m : ℕ) (inputs outputs : Bool) → AllRight m inputs outputs → rest ≡ sized lent m inputs outputs rest
