@@ -109,6 +109,7 @@ pub fn put_with_runner_up(
 }
 
 // An early answer's penalty, or its refusal, which may be the search's.
+// stays: beside put_read, by which a refusal shows no visits, as the quick reading promises
 pub fn put_answered(answer: Result<u32, Refusal>, out: &mut [u64; 4]) -> u32
     ensures { (result ≡ answered_number answer)
         × (out.new ≡ answered_numbers answer) }
