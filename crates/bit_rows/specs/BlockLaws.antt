@@ -96,6 +96,11 @@ pub record Blockwise (f : List ℕ → List ℕ) (b : ℕ) (x word : List ℕ) (
   pub bits : Bits word
 
 module _ (f : List ℕ → List ℕ) (b : ℕ) (x : List ℕ) where
+  pub first_pass : Bits x → Blockwise f b x x 0
+  first_pass h =
+      let none : b * 0 ≡ 0 = omega arith in
+      record { within = omega arith; same = refl; is = rw none refl; bits = h }
+
   module _ (word : List ℕ) (k : ℕ) (w : Blockwise f b x word k) where
     abbrev s : ℕ
     s = b * k
