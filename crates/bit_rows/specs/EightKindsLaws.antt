@@ -196,14 +196,11 @@ pub record ByEights (r m : ℕ) (bits row : List ℕ) (s used : ℕ) : Type 0 wh
 pub eights_start : (r m : ℕ) (bits row : List ℕ) → Fillable r m bits row → ByEights r m bits row 0 0
 eights_start r m bits row f = record { whole = refl; within = zero-le; long = f.long_row; is = refl; room = omega (arith, f.enough) }
 
--- such a row is whole blocks of eight
+-- from m = 3 on the row is whole blocks of eight
 whole_eights : (m : ℕ) → 3 ≤ m → 2 ^ m ≡ 8 * 2 ^ (m - 3)
 whole_eights m eight =
     let q : 3 + (m - 3) ≡ m = omega arith in
     ap (λ (n : ℕ). 2 ^ n) (sym q) ∙ pow-add 2 3 (m - 3)
-
-pub all_eights : {r m : ℕ} {bits row : List ℕ} → Fillable r m bits row → length row / 8 * 8 ≡ 2 ^ m
-all_eights {m = m} f = omega (arith, f.long_row, whole_eights m f.eight)
 
 module _ (r m : ℕ) (bits row : List ℕ) (s used : ℕ) (w : ByEights r m bits row s used) where
   pub eights_end : 2 ^ m ≤ s → row ≡ fill (kinds r m) bits
@@ -212,6 +209,10 @@ module _ (r m : ℕ) (bits row : List ℕ) (s used : ℕ) (w : ByEights r m bits
       sym (append-nil row)
       ∙ ap₂ ◌++◌ (sym (take_all s row (omega (arith, w.long)))) (sym (ap (λ (ks : List ℕ). fill ks (drop used bits)) none))
       ∙ w.is
+
+  -- by the length of the row that is to be filled
+  pub eights_end_row : {row₀ : List ℕ} → Fillable r m bits row₀ → length row₀ / 8 * 8 ≤ s → row ≡ fill (kinds r m) bits
+  eights_end_row f h = eights_end (omega (arith, f.long_row, whole_eights m f.eight))
 
   module _ (eight : 3 ≤ m) (more : s < 2 ^ m) where
     -- a whole block is there

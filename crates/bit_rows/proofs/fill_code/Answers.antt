@@ -1,6 +1,6 @@
 -- The loop's invariant is `ByEights`: the indices of the first k eights are filled.
 use Rattle.std.proofs.Common.{◌≡◌, ◌+◌, ◌*◌, arith}
-use Rattle.bit_rows.specs.EightKindsLaws.{all_eights, eight_asked, eight_back, eights_end}
+use Rattle.bit_rows.specs.EightKindsLaws.{eight_asked, eight_back, eights_end_row}
 use Rattle.bit_rows.proofs.fill_code.Goals as goal
 
 pub fill_eight-used-requires : goal.fill_eight-used-requires
@@ -22,4 +22,4 @@ loop-k-preserved c =
     rw next (eight_back _ _ _ _ _ _ c.loop-k.invariant f.eight (omega (arith, f.long_row)) _ c.saturating_sub-d.ensures _ _ c.fill_eight-used.ensures)
 
 pub returns : goal.returns
-returns c = eights_end _ _ _ _ _ _ c.loop-k.invariant (omega (arith, all_eights c.requires))
+returns c = eights_end_row _ _ _ _ _ _ c.loop-k.invariant c.requires (omega arith)
