@@ -1,6 +1,6 @@
 -- The loop of `fold`.
 use Rattle.std.specs.Prelude.{◌≡◌, refl, List, [], ◌∷◌, ◌++◌, ℕ, ◌+◌, ◌-◌, ◌%◌, ◌≤◌, ◌<◌, length, get_or, set, take, drop}
-use Rattle.std.proofs.Common.{ap, sym, ◌∙◌, append_assoc, arith, add-one, length-drop, take-append-drop, get_or-drop}
+use Rattle.std.proofs.Common.{ap, sym, ◌∙◌, append-nil, append_assoc, arith, add-one, length-drop, take-append-drop, drop_of_length-le, get_or-drop}
 use Rattle.std.proofs.Common.{get_or-take, take_all, take-take, drop-drop, length-take-le}
 use Rattle.numbers.specs.Front.{front, front-suc, front-after}
 use Rattle.numbers.specs.Halves.{drop-take}
@@ -69,3 +69,8 @@ module _ (d : List ℕ) (h : ℕ) (e : h + h ≤ length d) where
       ∙ ap (λ (l : List ℕ). sums d h ++ l) rest
       ∙ sym (append_assoc (sums d h) (take h (drop h d)) (drop (h + h) d))
       ∙ rw (first, second) refl
+
+-- a word that ends with its block
+pub on_all : (f : List ℕ → List ℕ) (b : ℕ) (x : List ℕ) → length x ≡ b → on_front f b x ≡ f x
+on_all f b x e =
+    ap (λ (l : List ℕ). f (take b x) ++ l) (drop_of_length-le x {i = b} (omega arith)) ∙ append-nil (f (take b x)) ∙ ap f (take_all b x (omega arith))

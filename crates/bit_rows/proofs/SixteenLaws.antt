@@ -100,6 +100,9 @@ pub record Putting (f : List ℕ → List ℕ) (x row : List ℕ) (k : ℕ) : Ty
   pub is : take (16 * k) row ++ blocks f 16 (drop (16 * k) x) ≡ blocks f 16 x
 
 module _ (f : List ℕ → List ℕ) (x : List ℕ) where
+  pub first_put : (row : List ℕ) → length row ≡ length x → Putting f x row 0
+  first_put row e = record { within = omega arith; same = e; is = refl }
+
   module _ (row : List ℕ) (k : ℕ) (p : Putting f x row k) where
     abbrev s : ℕ
     s = 16 * k
@@ -116,6 +119,13 @@ module _ (f : List ℕ → List ℕ) (x : List ℕ) where
     module _ (left : k < length x / 16) where
       more : 16 ≤ length x - s
       more = omega arith
+
+      pub put_asked : Bits x → (16 ≤ length (mid_of s (length x - s) x)) × (16 ≤ length (mid_of s (length row - s) row)) × Bits (mid_of s (length x - s) x)
+      put_asked bits = (
+        rw (lent_from s x) (simp length-drop more),
+        rw (lent_from s row) (simp length-drop (omega (arith, p.same, more))),
+        subst Bits (sym (lent_from s x)) (bits_drop s x bits),
+      )
 
       pub next_put : Keeps f 16 → (out : List ℕ) → out ≡ f (take 16 (mid_of s (length x - s) x)) ++ drop 16 (mid_of s (length row - s) row)
           → Putting f x (put_mid s (length row - s) row out) (k + 1)

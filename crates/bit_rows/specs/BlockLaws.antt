@@ -3,7 +3,7 @@ use Rattle.std.specs.Prelude.{◌≡◌, refl}
 use Rattle.std.proofs.Math.Path.{ap, subst}
 use Rattle.std.proofs.Common.{sym, ◌∙◌, arith, suc-mul, mul_comm, div-mul-le_self, take-append-drop, take_at, length-take-le}
 use mathlib.Core.List.{List, ◌++◌, append_assoc}
-use Prim.Native.Nat.{ℕ, zero, suc, ◌+◌, ◌*◌, ◌-◌, ◌^◌, ◌/◌, ◌≤◌, ◌<◌}
+use Prim.Native.Nat.{ℕ, zero, suc, ◌+◌, ◌*◌, ◌-◌, ◌^◌, ◌/◌, ◌≤◌, ◌<◌, zero-le}
 use Rattle.std.proofs.Math.Numerals.{add-one}
 use Rattle.std.proofs.Math.Nat.{div-eq_of_lt, div-eq-sub-div, mod-eq-sub-mul-div, mod-lt, mul-suc, mul-le-mul_left}
 use Rattle.std.proofs.Math.ListN.{length, take, drop, length-drop, length-append}
@@ -79,6 +79,70 @@ keeps_folded h = record {
 pub keeps_transform : (k : ℕ) → Keeps (transform k) (2 ^ k)
 keeps_transform k = record { long = length-transform k; bits = λ x e. bits_transform k x }
 
+-- ---- a loop that takes one block per pass, from the front; the blocks before s are done
+pub record Blockwise (f : List ℕ → List ℕ) (b : ℕ) (x word : List ℕ) (s : ℕ) : Type 0 where
+  pub within : s ≤ length word
+  pub same : length word ≡ length x
+  pub is : take s word ++ blocks f b (drop s word) ≡ blocks f b x
+  pub bits : Bits word
+
+module _ (f : List ℕ → List ℕ) (b : ℕ) (x : List ℕ) where
+  pub first_pass : Bits x → Blockwise f b x x 0
+  first_pass h = record { within = zero-le; same = refl; is = refl; bits = h }
+
+  module _ (word : List ℕ) (s : ℕ) (w : Blockwise f b x word s) where
+    pub last_pass : length word - s < b → word ≡ blocks f b x
+    last_pass h =
+        sym (take-append-drop s word)
+        ∙ ap (λ (l : List ℕ). take s word ++ l) (sym (blocks_end f b (drop s word) (simp length-drop h)))
+        ∙ w.is
+
+    -- a pass lends the word from s on
+    pub part_asked : b ≤ length word - s → (b ≤ length (mid_of s (length word - s) word)) × Bits (mid_of s (length word - s) word)
+    part_asked more =
+        let e = lent_from s word in
+        (rw e (simp length-drop more), subst Bits (sym e) (bits_drop s word w.bits))
+
+    module _ (keeps : Keeps f b) (some : 0 < b) (more : b ≤ length word - s) where
+      length_part : length (take b (drop s word)) ≡ b
+      length_part = length-take-le b (drop s word) (simp length-drop more)
+
+      done : List ℕ
+      done = f (take b (drop s word))
+
+      length-done : length done ≡ b
+      unfolding done
+      length-done = keeps.long (take b (drop s word)) length_part
+
+      length_before : length (take s word ++ done) ≡ s + b
+      length_before = length-append (take s word) done ∙ omega (arith, length-take-le s word w.within, length-done)
+
+      turned : Blockwise f b x (take s word ++ on_front f b (drop s word)) (s + b)
+      unfolding done
+      turned =
+          let rest = drop b (drop s word) in
+          let lr : length rest ≡ length word - s - b = simp (length-drop) in
+          let cut = append_assoc (take s word) done rest in
+          subst (λ (l : List ℕ). Blockwise f b x l (s + b)) cut
+          (record {
+            within = omega (arith, length-append (take s word ++ done) rest, length_before);
+            same = length-append (take s word ++ done) rest ∙ omega (arith, length_before, lr, w.same, w.within, more);
+            is =
+                rw (take_at (take s word ++ done) rest (s + b) length_before, drop_at (take s word ++ done) rest (s + b) length_before)
+                (append_assoc (take s word) done (blocks f b rest)
+                ∙ ap (λ (l : List ℕ). take s word ++ l) (sym (blocks_more f b (drop s word) some (simp length-drop more)))
+                ∙ w.is);
+            bits =
+                bits_append (take s word ++ done) rest
+                (bits_append (take s word) done (bits_take s word w.bits)
+                (keeps.bits (take b (drop s word)) length_part (bits_take b (drop s word) (bits_drop s word w.bits))))
+                (bits_drop b (drop s word) (bits_drop s word w.bits));
+          })
+
+      pub next_pass : (out : List ℕ) → out ≡ on_front f b (mid_of s (length word - s) word)
+          → Blockwise f b x (put_mid s (length word - s) word out) (s + b)
+      next_pass out e = rw (back_from s word out, e, lent_from s word) turned
+
 -- ---- n entries are n / b blocks of b, and fewer than b more
 block_left : (n b k : ℕ) → k < n / b → b * k + b ≤ n
 block_left n b k h = omega (arith, div-mul-le_self n b, mul_comm (n / b) b, mul-suc b k, mul-le-mul_left {m = suc k} {n = n / b} b h)
@@ -88,74 +152,20 @@ none_left n b k some h g =
     let all : k ≡ n / b = omega arith in
     rw (all, ← mod-eq-sub-mul-div n b) (mod-lt n some)
 
--- ---- a loop that takes one block per pass, from the front; the first k blocks are done
-pub record Blockwise (f : List ℕ → List ℕ) (b : ℕ) (x word : List ℕ) (k : ℕ) : Type 0 where
-  pub within : b * k ≤ length word
-  pub same : length word ≡ length x
-  pub is : take (b * k) word ++ blocks f b (drop (b * k) word) ≡ blocks f b x
-  pub bits : Bits word
+-- ---- the same by the number k of blocks that are done
+module _ (f : List ℕ → List ℕ) (b : ℕ) (x word : List ℕ) (k : ℕ) (w : Blockwise f b x word (b * k)) where
+  pub last_block : 0 < b → length x / b ≤ k → k ≤ length x / b → word ≡ blocks f b x
+  last_block some h g = last_pass f b x word (b * k) w (omega (arith, none_left (length x) b k some h g, w.same))
 
-module _ (f : List ℕ → List ℕ) (b : ℕ) (x : List ℕ) where
-  module _ (word : List ℕ) (k : ℕ) (w : Blockwise f b x word k) where
-    abbrev s : ℕ
-    s = b * k
+  module _ (left : k < length x / b) where
+    more : b ≤ length word - b * k
+    more = omega (arith, block_left (length x) b k left, w.same)
 
-    pub last_pass : 0 < b → length x / b ≤ k → k ≤ length x / b → word ≡ blocks f b x
-    last_pass some h g =
-        sym (take-append-drop s word)
-        ∙ ap (λ (l : List ℕ). take s word ++ l)
-        (sym (blocks_end f b (drop s word) (simp length-drop (omega (arith, none_left (length x) b k some h g, w.same)))))
-        ∙ w.is
+    pub block_asked : (b ≤ length (mid_of (b * k) (length word - b * k) word)) × Bits (mid_of (b * k) (length word - b * k) word)
+    block_asked = part_asked f b x word (b * k) w more
 
-    module _ (left : k < length x / b) where
-      more : b ≤ length word - s
-      more = omega (arith, block_left (length x) b k left, w.same)
-
-      -- a pass lends the word from its block on
-      pub part_asked : (b ≤ length (mid_of s (length word - s) word)) × Bits (mid_of s (length word - s) word)
-      part_asked =
-          let e = lent_from s word in
-          (rw e (simp length-drop more), subst Bits (sym e) (bits_drop s word w.bits))
-
-      module _ (keeps : Keeps f b) (some : 0 < b) where
-        length_part : length (take b (drop s word)) ≡ b
-        length_part = length-take-le b (drop s word) (simp length-drop more)
-
-        done : List ℕ
-        done = f (take b (drop s word))
-
-        length-done : length done ≡ b
-        unfolding done
-        length-done = keeps.long (take b (drop s word)) length_part
-
-        length_before : length (take s word ++ done) ≡ b * (k + 1)
-        length_before =
-            length-append (take s word) done ∙ omega (arith, length-take-le s word w.within, length-done, add-one k, mul-suc b k)
-
-        turned : Blockwise f b x (take s word ++ on_front f b (drop s word)) (k + 1)
-        unfolding done
-        turned =
-            let rest = drop b (drop s word) in
-            let lr : length rest ≡ length word - s - b = simp (length-drop) in
-            let cut = append_assoc (take s word) done rest in
-            let before = length_before in
-            let end : b * (k + 1) ≡ s + b = rw (add-one, mul-suc) refl in
-            subst (λ (l : List ℕ). Blockwise f b x l (k + 1)) cut
-            (record {
-              within = omega (arith, length-append (take s word ++ done) rest, before);
-              same = length-append (take s word ++ done) rest ∙ omega (arith, before, lr, w.same, w.within, more, end);
-              is =
-                  rw (take_at (take s word ++ done) rest (b * (k + 1)) before, drop_at (take s word ++ done) rest (b * (k + 1)) before)
-                  (append_assoc (take s word) done (blocks f b rest)
-                  ∙ ap (λ (l : List ℕ). take s word ++ l) (sym (blocks_more f b (drop s word) some (simp length-drop more)))
-                  ∙ w.is);
-              bits =
-                  bits_append (take s word ++ done) rest
-                  (bits_append (take s word) done (bits_take s word w.bits)
-                  (keeps.bits (take b (drop s word)) length_part (bits_take b (drop s word) (bits_drop s word w.bits))))
-                  (bits_drop b (drop s word) (bits_drop s word w.bits));
-            })
-
-        pub next_pass : (out : List ℕ) → out ≡ on_front f b (mid_of s (length word - s) word)
-            → Blockwise f b x (put_mid s (length word - s) word out) (k + 1)
-        next_pass out e = rw (back_from s word out, e, lent_from s word) turned
+    pub next_block : Keeps f b → 0 < b → (out : List ℕ) → out ≡ on_front f b (mid_of (b * k) (length word - b * k) word)
+        → Blockwise f b x (put_mid (b * k) (length word - b * k) word out) (b * (k + 1))
+    next_block keeps some out e =
+        let end : b * (k + 1) ≡ b * k + b = rw (add-one, mul-suc) refl in
+        rw end (next_pass f b x word (b * k) w keeps some more out e)

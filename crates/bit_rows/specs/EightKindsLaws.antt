@@ -1,11 +1,11 @@
 -- That a code's row of kinds is made of such eights, and the loop that fills it by them.
 use Rattle.std.specs.Prelude.{◌≡◌, refl, Bool, true, false, leb, get_or, set, replicate, take, drop}
 use Rattle.std.proofs.Math.Path.{ap, ap₂, subst}
-use Rattle.std.proofs.Common.{sym, ◌∙◌, ⊎_elim, pow-add, length-drop, drop_of_length-le, take_at, take_all, drop-drop}
+use Rattle.std.proofs.Common.{sym, ◌∙◌, ⊎_elim, not-suc-le-zero, le_of_suc-le-suc, pow-add, length-drop, drop_of_length-le, take_at, take_all, drop-drop}
 use Rattle.std.proofs.Common.{length-take-le, le-leb}
 use Rattle.std.proofs.Math.Bool.{cond}
 use mathlib.Core.List.{List, [], ◌∷◌, ◌++◌, append-nil, append_assoc}
-use Prim.Native.Nat.{ℕ, zero, suc, ◌+◌, ◌*◌, ◌-◌, ◌^◌, ◌/◌, ◌%◌, ◌≤◌, ◌<◌}
+use Prim.Native.Nat.{ℕ, zero, suc, ◌+◌, ◌*◌, ◌-◌, ◌^◌, ◌/◌, ◌%◌, ◌≤◌, ◌<◌, zero-le}
 use native.Mathlib.Omega.{arith}
 use Rattle.std.proofs.Math.Nat.{two-pow-succ, div-div-eq-div-mul}
 use Rattle.std.specs.Int.Count as Count
@@ -94,10 +94,20 @@ pub length-eight_kinds : (d : ℕ) → length (eight_kinds d) ≡ 8
 unfolding eight_kinds
 length-eight_kinds d = length-tabulate (λ j. cond (leb d (ones 3 j)) 1 0) 8
 
+pub same_kinds : (d k : ℕ) → d ≡ k → eight_kinds d ≡ eight_kinds k
+same_kinds d k e = ap eight_kinds e
+
 -- four ones are in none of them
 pub no_kinds : (d : ℕ) → 4 ≤ d → eight_kinds d ≡ eight_kinds 4
 unfolding eight_kinds tabulate ones digit
 no_kinds d h = rw (lt-leb d 0 (omega arith), lt-leb d 1 (omega arith), lt-leb d 2 (omega arith), lt-leb d 3 (omega arith))
+
+-- ---- the bits in front, one by one
+pub first_of : (n : ℕ) (b : List ℕ) → n ≤ length b → b ≡ tabulate (λ i. get_or b i 0) n ++ drop n b
+unfolding tabulate
+first_of zero b h = refl
+first_of (suc n) [] h = absurd (not-suc-le-zero h)
+first_of (suc n) (a ∷ b) h = ap (λ (l : List ℕ). a ∷ l) (first_of n b (le_of_suc-le-suc h))
 
 -- ---- filling by parts
 pub fill-append : (p q b : List ℕ) → Bits p → sum p ≤ length b → fill (p ++ q) b ≡ fill p b ++ fill q (drop (sum p) b)
@@ -183,32 +193,35 @@ pub record ByEights (r m : ℕ) (bits row : List ℕ) (s used : ℕ) : Type 0 wh
   pub is : take s row ++ fill (drop s (kinds r m)) (drop used bits) ≡ fill (kinds r m) bits
   pub room : used + sum (drop s (kinds r m)) ≤ length bits
 
-module _ (r m : ℕ) (bits row₀ : List ℕ) (f : Fillable r m bits row₀) (row : List ℕ) (s used : ℕ) (w : ByEights r m bits row s used) where
-  -- the row is whole blocks of eight
-  blocks : 2 ^ m ≡ 8 * 2 ^ (m - 3)
-  blocks =
-      let q : 3 + (m - 3) ≡ m = omega (arith, f.eight) in
-      ap (λ (n : ℕ). 2 ^ n) (sym q) ∙ pow-add 2 3 (m - 3)
+pub eights_start : (r m : ℕ) (bits row : List ℕ) → Fillable r m bits row → ByEights r m bits row 0 0
+eights_start r m bits row f = record { whole = refl; within = zero-le; long = f.long_row; is = refl; room = omega (arith, f.enough) }
 
-  pub eights_end : length row₀ / 8 * 8 ≤ s → row ≡ fill (kinds r m) bits
+-- from m = 3 on the row is whole blocks of eight
+whole_eights : (m : ℕ) → 3 ≤ m → 2 ^ m ≡ 8 * 2 ^ (m - 3)
+whole_eights m eight =
+    let q : 3 + (m - 3) ≡ m = omega arith in
+    ap (λ (n : ℕ). 2 ^ n) (sym q) ∙ pow-add 2 3 (m - 3)
+
+module _ (r m : ℕ) (bits row : List ℕ) (s used : ℕ) (w : ByEights r m bits row s used) where
+  pub eights_end : 2 ^ m ≤ s → row ≡ fill (kinds r m) bits
   eights_end h =
-      let past : 2 ^ m ≤ s = omega (arith, f.long_row, blocks) in
       let none = drop_of_length-le (kinds r m) {i = s} (omega (arith, length-kinds r m)) in
       sym (append-nil row)
       ∙ ap₂ ◌++◌ (sym (take_all s row (omega (arith, w.long)))) (sym (ap (λ (ks : List ℕ). fill ks (drop used bits)) none))
       ∙ w.is
 
-  module _ (left : s < length row₀) where
-    more : s < 2 ^ m
-    more = omega (arith, f.long_row)
+  -- by the length of the row that is to be filled
+  pub eights_end_row : {row₀ : List ℕ} → Fillable r m bits row₀ → length row₀ / 8 * 8 ≤ s → row ≡ fill (kinds r m) bits
+  eights_end_row f h = eights_end (omega (arith, f.long_row, whole_eights m f.eight))
 
+  module _ (eight : 3 ≤ m) (more : s < 2 ^ m) where
     -- a whole block is there
     pub block_within : s + 8 ≤ 2 ^ m
-    block_within = omega (arith, w.whole, more, blocks)
+    block_within = omega (arith, w.whole, whole_eights m eight)
 
     -- its kinds, and those that are left
     cut : drop s (kinds r m) ≡ eight_kinds (m - r - ones m s) ++ drop (s + 8) (kinds r m)
-    cut = eight_kinds_lem r m s f.eight w.whole block_within
+    cut = eight_kinds_lem r m s eight w.whole block_within
 
     sums : sum (drop s (kinds r m)) ≡ sum (eight_kinds (m - r - ones m s)) + sum (drop (s + 8) (kinds r m))
     sums = ap sum cut ∙ sum-append (eight_kinds (m - r - ones m s)) (drop (s + 8) (kinds r m))

@@ -1,8 +1,8 @@
 -- The loops of `fill`, `some_frozen_one` and `first_frozen_one`: what holds before each pass, and what a pass does.
-use Rattle.std.specs.Prelude.{◌≡◌, refl, Some, Bool, true, false, not, ◌||◌, ◌&&◌, ◌⊎◌, ℕ, zero, suc, ◌+◌, ◌-◌, ◌≤◌, ◌<◌, eqb, length, get_or, set}
+use Rattle.std.specs.Prelude.{◌≡◌, refl, Some, Bool, true, false, not, ◌||◌, ◌&&◌, ◌⊎◌, ℕ, zero, suc, ◌+◌, ◌-◌, ◌≤◌, ◌<◌, ltb, eqb, length, get_or, set}
 use Rattle.std.proofs.Math.Path.{ap}
-use Rattle.std.proofs.Common.{sym, ◌∙◌, subst, true≢false, inl, inr, ⊎_elim, arith, suc-ne-zero, add-one, length-set, drop_of_length-le}
-use Rattle.std.proofs.Common.{lt-ltb}
+use Rattle.std.proofs.Common.{sym, ◌∙◌, subst, true≢false, inl, inr, ⊎_elim, zero-le, suc-le-suc, arith, suc-ne-zero, add-one, length-set, drop_of_length-le}
+use Rattle.std.proofs.Common.{lt-ltb, le-ltb, ltb-false}
 use mathlib.Core.List.{List, [], ◌∷◌}
 use Rattle.std.proofs.Math.Dec.{eqb-suc-zero}
 use Rattle.std.proofs.Math.ListN.{drop}
@@ -24,6 +24,9 @@ pub record Filled (ks b row₀ row : List ℕ) (i used : ℕ) : Type 0 where
   pub room : used + sum (drop i ks) ≤ length b
 
 module _ (ks b row₀ : List ℕ) (same : length row₀ ≡ length ks) where
+  pub fill-starts : sum ks ≤ length b → Filled ks b row₀ row₀ 0 0
+  fill-starts h = record { within = zero-le; is = refl; long = refl; rest = refl; room = omega arith }
+
   module _ (row : List ℕ) (i used : ℕ) (f : Filled ks b row₀ row i used) where
     fill_pass : (a u : ℕ) → i < length ks → drop i (fill ks b) ≡ a ∷ fill (drop (suc i) ks) (drop u b) → u + sum (drop (suc i) ks) ≤ length b
         → Filled ks b row₀ (set row i a) (i + 1) u
@@ -100,11 +103,15 @@ module _ (ks u : List ℕ) (i : ℕ) (same : length u ≡ length ks) (p : Passed
     pub pass : (get_or ks i 0 ≡ 0 → get_or u i 0 ≡ 0) → Passed ks u (i + 1)
     pass k = rw add-one (h, omega (arith, next-kind, one-passed (get_or ks i 0) (get_or u i 0) (drop (suc i) ks) (drop (suc i) u) k))
 
-    is-first : get_or ks i 0 ≡ 0 → (get_or u i 0 ≡ 0 → ⊥) → i ≡ first_frozen_one ks u
+    pub is-first : get_or ks i 0 ≡ 0 → (get_or u i 0 ≡ 0 → ⊥) → i ≡ first_frozen_one ks u
     is-first z k = omega (arith, next-kind, one_found (get_or ks i 0) (get_or u i 0) (drop (suc i) ks) (drop (suc i) u) z k)
 
     pub found : get_or ks i 0 ≡ 0 → (get_or u i 0 ≡ 0 → ⊥) → Some i ≡ found_frozen_one ks u
     found z k = rw (← is-first z k, lt-ltb i (length ks) h) refl
+
+  pub none_found : length ks ≤ i → i ≡ first_frozen_one ks u
+  unfolding first_frozen_one
+  none_found h = omega (arith, p.1, ap (λ (l : List ℕ). first_frozen_one l (drop i u)) (drop_of_length-le ks {i = i} h))
 
 -- ---- some_frozen_one: i kinds are passed, or one was found
 abbrev pub Seen : List ℕ → List ℕ → ℕ → Bool → Type 0
@@ -127,3 +134,21 @@ module _ (ks u : List ℕ) (i : ℕ) (same : length u ≡ length ks) where
       (here (get_or ks i 0) (get_or u i 0)))
       (λ w. absurd (true≢false (sym w.0)))
       s
+
+  pub see_all : (some : Bool) → length ks ≤ i → Seen ks u i some → some ≡ ltb (first_frozen_one ks u) (length ks)
+  see_all some h s =
+      ⊎_elim
+      (λ w. w.0 ∙ sym (le-ltb (first_frozen_one ks u) (length ks) (omega (arith, none_found ks u i same w.1 h))))
+      (λ w. w.0 ∙ sym (lt-ltb (first_frozen_one ks u) (length ks) w.1))
+      s
+
+most : (ks u : List ℕ) → first_frozen_one ks u ≤ length ks
+unfolding first_frozen_one
+most [] u = zero-le
+most (k ∷ ks) [] = zero-le
+most (zero ∷ ks) (zero ∷ u) = suc-le-suc (most ks u)
+most (zero ∷ ks) (suc a ∷ u) = zero-le
+most (suc k ∷ ks) (a ∷ u) = suc-le-suc (most ks u)
+
+pub none_seen : (ks u : List ℕ) → ltb (first_frozen_one ks u) (length ks) ≡ false → length ks ≡ first_frozen_one ks u
+none_seen ks u e = omega (arith, most ks u, ltb-false (first_frozen_one ks u) (length ks) e)

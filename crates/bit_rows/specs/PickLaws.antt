@@ -1,9 +1,9 @@
 -- Picking by parts: the bits of a part come before the remaining ones, and a loop that picks one part per pass.
 use Rattle.std.specs.Prelude.{◌≡◌, ℕ, zero, suc, ◌+◌, ◌-◌, ◌≤◌, ◌<◌, length, set}
 use Rattle.std.proofs.Math.Path.{refl, ap, sym, subst}
-use Rattle.std.proofs.Common.{ap₂, ◌∙◌, not-suc-le-zero, le_of_suc-le-suc, length-drop, length-append, take-append-drop, take_at, drop_at, drop-drop}
+use Rattle.std.proofs.Common.{ap₂, ◌∙◌, zero-le, not-suc-le-zero, le_of_suc-le-suc, length-drop, length-append, take-append-drop, take_at, drop_at, drop-drop}
 use Rattle.std.proofs.Common.{length-take-le}
-use mathlib.Core.List.{List, [], ◌∷◌, ◌++◌, append_assoc}
+use mathlib.Core.List.{List, [], ◌∷◌, ◌++◌, append-nil, append_assoc}
 use native.Mathlib.Omega.{arith}
 use Rattle.std.proofs.Math.Numerals.{add-one}
 use Rattle.std.proofs.Math.ListN.{get_or, take, drop, drop_of_length-le}
@@ -65,6 +65,9 @@ module _ (ks u b : List ℕ) (whole : (length u ≡ length ks) × (length b ≡ 
   pub all_pickable : Pickable ks u b
   all_pickable = record { long = omega arith; room = omega arith; bits_kinds = whole.2 }
 
+  pub picked_all : pick_front ks u b ≡ pick ks u
+  picked_all = ap (λ (l : List ℕ). pick ks u ++ l) (drop_of_length-le b {i = sum ks} (omega arith)) ∙ append-nil (pick ks u)
+
 -- ---- a loop that picks one part per pass: the kinds before i are done and gave `taken` bits
 pub record Picked (ks u b₀ b : List ℕ) (i taken : ℕ) : Type 0 where
   pub within : i ≤ length ks
@@ -73,6 +76,9 @@ pub record Picked (ks u b₀ b : List ℕ) (i taken : ℕ) : Type 0 where
   pub left : taken + sum (drop i ks) ≡ sum ks
 
 module _ (ks u b₀ : List ℕ) (a : Pickable ks u b₀) where
+  pub pick-starts : Picked ks u b₀ b₀ 0 0
+  pick-starts = record { within = zero-le; is = refl; long = refl; left = omega arith }
+
   module _ (b : List ℕ) (i taken : ℕ) (w : Picked ks u b₀ b i taken) where
     left_pickable : Pickable (drop i ks) (drop i u) (drop taken b)
     left_pickable = record {
@@ -117,6 +123,8 @@ module _ (ks u b₀ : List ℕ) (a : Pickable ks u b₀) where
         })
 
     -- a pass lends what is left
+    pub part_asked : Pickable (mid_of i (length ks - i) ks) (mid_of i (length u - i) u) (mid_of taken (length b - taken) b)
+    part_asked = rw (lent_from i ks, lent_from i u, lent_from taken b) left_pickable
 
     pub part-back : (c : ℕ) → i + c ≤ length ks → (out : List ℕ) (n : ℕ)
         → (out ≡ pick_front (take c (mid_of i (length ks - i) ks)) (mid_of i (length u - i) u) (mid_of taken (length b - taken) b))
@@ -125,6 +133,14 @@ module _ (ks u b₀ : List ℕ) (a : Pickable ks u b₀) where
     part-back c h out n e =
         rw (back_from taken b out, e.1, lent_from i ks)
         (next-part c h out (e.0 ∙ rw (lent_from i ks, lent_from i u, lent_from taken b) refl))
+
+    pub last-back : (out : List ℕ)
+        → out ≡ pick_front (mid_of i (length ks - i) ks) (mid_of i (length u - i) u) (mid_of taken (length b - taken) b)
+        → put_mid taken (length b - taken) b out ≡ pick_front ks u b₀
+    last-back out e =
+        back_from taken b out
+        ∙ ap (λ (l : List ℕ). take taken b ++ l) (e ∙ rw (lent_from i ks, lent_from i u, lent_from taken b) refl)
+        ∙ w.is
 
     -- a part of one kind
     module _ (h : i < length ks) (k : ℕ) (is-kind : get_or ks i 0 ≡ k) where

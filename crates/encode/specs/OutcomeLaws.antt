@@ -172,7 +172,15 @@ module _ (r m : ℕ) (bits word : List ℕ) where
       let p = passes r m word (2 ^ m) bits (dimension r m) (taking_back (taken_back m (kinds r m) word) bits) z in
       record { sound = p.0; long_bits = p.2; long_word = p.1; entries = p.3 }
 
--- ---- what is taken back: a word's row is its transform
+-- ---- what is taken back
+module _ (ks u bits : List ℕ) {i : ℕ} (index : i ≡ first_frozen_one ks u) where
+  pub taking_refused : i < length ks → refused (NotAWord i) bits ≡ taking_row ks u bits
+  taking_refused h = rw (← index, lt-ltb i (length ks) h)
+
+  pub taking_done : length ks ≤ i → done (pick ks u) ≡ taking_row ks u bits
+  taking_done h = rw (← index, le-ltb i (length ks) h)
+
+-- a word's row is its transform
 pub taking_word : (m : ℕ) (ks x bits : List ℕ) → taking_row ks (transform m x) bits ≡ taking_back (taken_back m ks x) bits
 unfolding taken_back
 taking_word m ks x bits =

@@ -29,7 +29,12 @@ pub fn inverse(r: u32, m: u32, word: &[u8], bits: &mut [u8]) -> Result<(), Refus
         ≡ inverting r m word.now bits.old }
 {
     let code = Code::new(r, m)?;
-    admit_bits(word, code.length(), bits.len(), code.dimension())?;
+    let n = code.length();
+    // before the dimension, since a table is made for it
+    if word.len() != n {
+        return Err(Refusal::InputLength);
+    }
+    admit_bits(word, n, bits.len(), code.dimension())?;
     take_back(code, word, bits)
 }
 

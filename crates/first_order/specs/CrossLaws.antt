@@ -46,6 +46,9 @@ module _ (d : List ℤ) (h : ℕ) (long : length d ≡ h + h) where
   abbrev pub crossing : ℕ → List ℤ
   crossing j = front (take h d) (part 0) j ++ front (drop h d) (part 1) j
 
+  pub crossing-none : d ≡ crossing 0
+  crossing-none = sym (take-append-drop h d)
+
   pub crossing-all : crossing h ≡ crossed h d
   crossing-all =
       ap₂ ◌++◌
@@ -137,6 +140,9 @@ module _ (d : List ℤ) (h : ℕ) (long : length d ≡ h + h) where
       middle-is : middle ≡ a ++ part 1
       middle-is = back_to h r a ∙ ap (λ (l : List ℤ). a ++ l) (ap (drop h) is ∙ second-crossed)
 
+      pub length-middle : length middle ≡ h + h
+      length-middle = ap length middle-is ∙ length-append a (part 1) ∙ omega (arith, length_part 1, first_long_back)
+
       abbrev pub second : List ℤ
       second = mid_of h (length middle - h) middle
 
@@ -152,6 +158,11 @@ module _ (d : List ℤ) (h : ℕ) (long : length d ≡ h + h) where
 
         last-is : last ≡ a ++ b
         last-is = back_from h middle b ∙ ap (λ (l : List ℤ). l ++ b) (ap (take h) middle-is ∙ take_at a (part 1) h first_long_back)
+
+        pub length_last : length last ≡ length d
+        length_last =
+            let lb : length b ≡ h = kept-too ∙ ap length second-lent ∙ length_part 1 in
+            ap length last-is ∙ length-append a b ∙ omega (arith, first_long_back, long)
 
         -- the transforms of both are the transform
         pub both_transformed : (m : ℕ) → h ≡ 2 ^ (m - 1) → m ≡ suc (m - 1) → a ≡ hadamard (m - 1) first → b ≡ hadamard (m - 1) second → last ≡ hadamard m d

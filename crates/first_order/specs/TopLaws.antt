@@ -1,12 +1,16 @@
 -- The largest of a row: one more entry, and what the two passes over it find together.
-use Rattle.std.specs.Prelude.{◌≡◌, ◌⊎◌, List, ℕ, ◌+◌, ◌%◌, ◌/◌, ◌≤◌, ◌<◌, max, ℤ, pos, nat_abs, length, set}
+use Rattle.std.specs.Prelude.{◌≡◌, refl, ◌⊎◌, List, ℕ, ◌+◌, ◌%◌, ◌/◌, ◌≤◌, ◌<◌, max, ℤ, pos, nat_abs, length, get_or, set}
 use Rattle.std.proofs.Common.{ap, sym, ◌∙◌, inl, inr, ⊎_elim, arith, length-set, get_or-set_same, get_or-set_other}
 use Rattle.std.proofs.Math.Decide.{ℕ_discrete}
 use Rattle.std.proofs.Math.ListN.{get_or-eq_default}
 use Rattle.numbers.specs.Choice.{lt_or_le}
+use Rattle.decoding.specs.Readings.{Within}
 use Rattle.hadamard.specs.Hadamard.{LargestTwo}
 use Rattle.hadamard.proofs.LargestLaws.{largest_two}
 use Rattle.first_order.specs.Work.{size_at, key_at, Top}
+
+pub top_none : (f : ℕ → ℕ) → Top f 0 0
+top_none f = record { none_above = λ i h. absurd (omega arith); some_has = inl refl }
 
 pub top_more : (f : ℕ → ℕ) (j most : ℕ) → Top f j most → Top f (j + 1) (max most (f j))
 top_more f j most t = record {
@@ -47,6 +51,19 @@ placed h k two short t =
       most = λ i b. omega (arith, t.none_above i b);
     })
     t.some_has
+
+-- an entry set to 0
+pub within_wiped : (n : ℕ) (h : List ℤ) (p : ℕ) → p < length h → Within n h → Within n (set h p (pos 0))
+within_wiped n h p b w i =
+    elim (ℕ_discrete i p) [
+      | yes e ↦
+          let z : nat_abs (get_or (set h p (pos 0)) i (pos 0)) ≡ 0 =
+          ap (λ (k : ℕ). nat_abs (get_or (set h p (pos 0)) k (pos 0))) e ∙ ap nat_abs (get_or-set_same h p (pos 0) (pos 0) b) in
+          omega arith
+      | no d ↦
+          let z : nat_abs (get_or (set h p (pos 0)) i (pos 0)) ≡ nat_abs (get_or h i (pos 0)) = ap nat_abs (get_or-set_other h p i (pos 0) (pos 0) d) in
+          omega (arith, w i)
+    ]
 
 -- with the entry of the best set to 0, the largest that is left is the next
 pub both_found : (h : List ℤ) (k second : ℕ) → 2 ≤ length h → Placed h k

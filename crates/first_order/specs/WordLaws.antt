@@ -1,7 +1,7 @@
 -- The loops that write the word and its information bits, by the place and the sign, and the one that adds up the sizes.
 use Rattle.std.specs.Prelude.{◌≡◌, List, [], ◌∷◌, ◌++◌, map, ℕ, zero, suc, ◌+◌, ◌-◌, ◌^◌, ◌%◌, ◌≤◌, ◌<◌, ℤ, pos, nat_abs, length, get_or, set, take, drop}
-use Rattle.std.proofs.Common.{ap, ap₂, sym, ◌∙◌, ⊎_elim, arith, add-one, length-drop, length-append, pow_mono, take_at}
-use Rattle.std.proofs.Common.{length-take-le}
+use Rattle.std.proofs.Common.{ap, ap₂, sym, ◌∙◌, ⊎_elim, append_assoc, arith, add-one, length-drop, length-append, take-append-drop, pow_mono, take_at}
+use Rattle.std.proofs.Common.{take_all, drop-drop, length-take-le}
 use Rattle.std.proofs.Math.Nat.{two-pow-succ}
 use Rattle.std.specs.Int.Count as Count
 use Rattle.std.proofs.lemmas.List.{length-map}
@@ -59,6 +59,11 @@ doubles p m h n more is long =
     let next : h + h ≡ 2 ^ suc p = omega (arith, two-pow-succ p) in
     record { next = next; room = omega arith }
 
+pub doubles_small : (p m h n : ℕ) → p < m → m ≤ 8 → h ≡ 2 ^ p → n ≡ 2 ^ m → h + h ≤ 256
+doubles_small p m h n more most is long =
+    let top : 2 ^ m ≤ 256 = pow_mono most in
+    omega (arith, (doubles p m h n more is long).room)
+
 -- the loop of `double`, after j passes
 abbrev pub doubling : List ℕ → ℕ → ℕ → ℕ → List ℕ
 doubling d h b j = take h d ++ front (drop h d) (map (λ a. (a + b) % 2) (take h d)) j
@@ -75,6 +80,14 @@ module _ (d : List ℕ) (h b : ℕ) (long : h + h ≤ length d) where
 
   length-again : length again ≡ h
   length-again = length-map (take h d) plus ∙ length_half
+
+  pub doubling-none : d ≡ doubling d h b 0
+  doubling-none = sym (take-append-drop h d)
+
+  pub doubling-all : doubling d h b h ≡ doubled h b d
+  doubling-all =
+      ap₂ (λ (x y : List ℕ). take h d ++ (x ++ y)) (take_all h again (omega (arith, length-again))) (drop-drop h h d)
+      ∙ sym (append_assoc (take h d) again (drop (h + h) d))
 
   module _ (x : List ℕ) (j : ℕ) (more : j < h) (is : x ≡ doubling d h b j) where
     pub read_again : get_or x j 0 ≡ get_or (take h d) j 0

@@ -69,3 +69,6 @@ module _ (c : Code) (l : List ℤ) (n : ℕ) (e : n ≡ 2 ^ c.m) (z k : List ℕ
         g.long_bits ∙ sym (sum-kinds c.r c.m),
         bits_kinds c.r c.m,
       )
+
+  pub code_read : (o : Outcome) → o ≡ reading_over c.m (mid_of 0 (n - 0) (put_mid 0 (n - 0) z k)) l → o ≡ reading_by c l
+  code_read o e = e ∙ ap (λ (ks : List ℕ). reading_over c.m ks l) kinds-read

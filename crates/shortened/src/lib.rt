@@ -42,6 +42,10 @@ pub fn inverse_shortened(
 {
     let code = named::admit_row(r, m, named)?;
     let n = code.length();
+    // before the indices that are left are counted, over the whole row
+    if word.len() != n {
+        return Err(Refusal::InputLength);
+    }
     encode::admit_bits(word, n, bits.len(), named::count_left(code, named))?;
     let mut kinds = [0u8; 256];
     let mut row = [0u8; 256];

@@ -6,7 +6,7 @@ use Rattle.code.specs.SoundLaws.{length_most}
 use Rattle.named.specs.Named.{row_admitted}
 use Rattle.encode.specs.Outcome.{refused, taking_back}
 use Rattle.encode.specs.WorkLaws.{zeros-lent}
-use Rattle.encode.specs.OutcomeLaws.{tested_refused, tested_passed, bits_passed}
+use Rattle.encode.specs.OutcomeLaws.{tested_input, tested_refused, tested_passed, bits_passed}
 use Rattle.shortened.specs.Outcome.{inverting_shortened}
 use Rattle.shortened.specs.OutcomeLaws.{inverting-refused, inverting-left, Allowed, is_allowed}
 use Rattle.shortened.specs.WorkLaws.{left-read, left_by_kinds}
@@ -31,6 +31,13 @@ length-n-requires c = (allowed c).sound
 
 pub count_left-requires : goal.count_left-requires
 count_left-requires c = let a = allowed (goal.at.count_left-requires c).In_ok-code in (a.sound, a.long-named)
+
+pub returns-then-word-n : goal.returns-then-word-n
+returns-then-word-n c =
+    let s = c.args in
+    let made = (goal.at.returns-then-word-n c).In_ok-code in
+    tested_input _ _ _ _ _ _ _ (allowed made).good c.length-n.ensures c.if-word-n.true
+    ∙ inverting-left s.r s.m s.named.now c.in_ok-code.code (row_is made) s.word.now s.bits.now
 
 pub returns-in_err-admit_bits : goal.returns-in_err-admit_bits
 returns-in_err-admit_bits c =
