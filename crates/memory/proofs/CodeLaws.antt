@@ -2,15 +2,16 @@
 use Rattle.std.specs.Prelude.{◌≡◌, List, ℕ, suc, ◌+◌, ◌-◌, ◌*◌, ◌^◌, ◌/◌, ◌%◌, ◌≤◌, ◌<◌, ℤ, pos, length, get_or, take, drop}
 use Rattle.std.proofs.Common.{refl, ap, sym, ◌∙◌, subst, arith, length-drop, take-take, get_or-take, pow_mono}
 use Rattle.std.proofs.Math.Nat.{two-pow-succ}
-use Rattle.std.proofs.Common.{to_z, of_z}
+use Rattle.std.proofs.Common.{SFits, to_z, of_z}
 use borrow.Rule.Slice.PartMut.{mid_of}
-use Rattle.std.specs.Int.{w32}
+use Rattle.std.specs.Int.{w16, w32}
 use Rattle.numbers.specs.Lowest.{LowestOne}
 use Rattle.words.specs.Word.{transform}
 use Rattle.decoding.specs.Readings.{sizes, sum_limit}
 use Rattle.decoding.specs.Quick.{lower_row, upper_row}
 use Rattle.decoding.specs.Walk.{value}
 use Rattle.rows.specs.Rows.{row_of, with_row}
+use Rattle.rows.specs.RowLaws.{reading-read}
 use Rattle.memory.specs.Memory.{below, new_row, remade, Arrays, Made, RowsFor, Top, ValueReady, RowsReady, LowReady}
 use Rattle.memory.proofs.RowLaws.{below-upper}
 use Rattle.memory.proofs.LowLaws.{whole_pair, start_odd, start-here, lower-new}
@@ -147,3 +148,8 @@ single_value {i = i} {y = y} l₀ z = (
   sym (ap (λ (k : ℕ). value k (take (2 ^ k) l₀) (take i y)) z ∙ get_or-take 1 l₀ 0 (pos 0) (omega arith)),
   record { rows = λ t h k. absurd (omega arith) },
 )
+
+-- as the machine reads it
+pub single : {m i : ℕ} {y : List ℕ} (l₀ : List ℤ) {s : List ℤ} → m ≡ 0 → SFits w16 (get_or l₀ 0 (pos 0))
+    → (to_z w32 (of_z w32 (to_z w16 (of_z w16 (get_or l₀ 0 (pos 0))))) ≡ value m (take (2 ^ m) l₀) (take i y)) × RowsFor m (take (2 ^ m) l₀) y i i s
+single {i = i} {y = y} l₀ {s = s} z fits = let e = single_value {i = i} {y = y} l₀ {s = s} z in (reading-read fits ∙ e.0, e.1)

@@ -4,7 +4,8 @@ use Rattle.std.proofs.Common.{ap, sym, ◌∙◌, subst, true≢false, ⊎_elim,
 use Rattle.std.proofs.Math.Nat.{two-pow-succ, div-eq_of_lt, div-eq_of_lt-le, mod-le, mul-mod_left}
 use Rattle.std.proofs.Math.Pow.{pow-lt, mod-mod-pow, split}
 use Rattle.std.specs.Int.Bits.{bit_or, bit_xor, xor_self, xor_add_and, or_add_and, or_zero_r}
-use Rattle.std.proofs.lemmas.Nat.{and_le_l, and_le_r, xor_shr, xor_lt, or_mod, or_lt}
+use Rattle.std.proofs.lemmas.Nat.{and_le_l, and_le_r, xor_shr, xor_lt, or_mod, or_lt, leading_top}
+use Rattle.std.specs.Int.Count.{count_leading_zeros}
 use Rattle.numbers.specs.Choice.{lt_or_le}
 use Rattle.numbers.specs.Lowest.{LowestOne}
 use Rattle.numbers.specs.LowestLaws.{lowest_within}
@@ -15,8 +16,8 @@ module _ (x : ℕ) where
   pub some_bit : 0 < bit_or x 1
   some_bit = omega (arith, or_add_and x 1, and_le_l x 1)
 
-  pub is_highest : (t : ℕ) → 2 ^ t ≤ bit_or x 1 → bit_or x 1 < 2 * 2 ^ t → Highest x t
-  is_highest t low high =
+  pub highest_by_power : (t : ℕ) → 2 ^ t ≤ bit_or x 1 → bit_or x 1 < 2 * 2 ^ t → Highest x t
+  highest_by_power t low high =
       record {
         above = omega (arith, two-pow-succ t, or_add_and x 1, and_le_r x 1);
         inside = λ m h k. ⊎_elim (λ (j : t < m). j)
@@ -24,6 +25,20 @@ module _ (x : ℕ) where
             absurd (omega (arith, low, most, pow_mono {i = m} {j = t} j)))
             (lt_or_le t m);
       }
+
+  -- and as the machine counts the leading zeros of 64 bits
+  module _ (fits : x < 2 ^ 64) where
+    or_fits : bit_or x 1 < 2 ^ 64
+    or_fits = or_lt 64 x 1 fits (omega arith)
+
+    pub leading_most : count_leading_zeros 64 (bit_or x 1) ≤ 63
+    leading_most = let q = leading_top 64 (bit_or x 1) some_bit or_fits in omega (arith, q.1)
+
+    pub is_highest : Highest x (63 - count_leading_zeros 64 (bit_or x 1))
+    is_highest =
+        let q = leading_top 64 (bit_or x 1) some_bit or_fits in
+        let e : q.0 ≡ 63 - count_leading_zeros 64 (bit_or x 1) = omega (arith, q.1) in
+        subst (Highest x) e (highest_by_power q.0 (omega (arith, q.2)) (omega (arith, q.3, two-pow-succ q.0)))
 
 same_of_xor : (a b : ℕ) → bit_xor a b ≡ 0 → a ≡ b
 same_of_xor a b e = omega (arith, xor_add_and a b, and_le_l a b, and_le_r a b)

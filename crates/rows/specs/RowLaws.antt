@@ -2,7 +2,7 @@
 -- of signs.
 use Rattle.std.specs.Prelude.{◌≡◌, refl, true, false, List, map, ℕ, zero, suc, ◌+◌, ◌-◌, ◌^◌, ◌≤◌, ◌<◌, ℤ, pos, negsuc, nat_abs, ◌-ℤ◌, length, get_or, set}
 use Rattle.std.specs.Prelude.{take, drop, T}
-use Rattle.std.proofs.Common.{ap, ap₂, sym, ◌∙◌, arith, add-one, take-append-drop, length-drop, get_or-take, get_or-drop, length-take-le}
+use Rattle.std.proofs.Common.{ap, ap₂, sym, ◌∙◌, arith, add-one, take-append-drop, length-drop, drop_of_length-le, get_or-take, get_or-drop, length-take-le}
 use Rattle.std.proofs.Common.{SFits, to_z, of_z, to_z-of_z}
 use Rattle.std.proofs.lemmas.List.{length-map}
 use Rattle.std.proofs.Math.ListN.{get_or-map}
@@ -11,7 +11,7 @@ use Rattle.std.proofs.Math.Seq.{paste, paste-suc}
 use Rattle.std.proofs.lemmas.List.Edits.{drop-paste}
 use Rattle.std.specs.Int.{w16, w32}
 use Rattle.std.proofs.Math.Facts.{sfits_widen}
-use Rattle.numbers.specs.Front.{front, front-suc}
+use Rattle.numbers.specs.Front.{front, front-suc, front-done}
 use Rattle.numbers.specs.Parts.{up, down}
 use Rattle.numbers.specs.PartsLaws.{less_parts, not_less_parts}
 use Rattle.decoding.specs.Readings.{loss, sizes}
@@ -69,6 +69,11 @@ row-entry d x s h j i room long is more below =
     ∙ ap (λ (k : ℕ). get_or d k (pos 0)) (sym e)
     ∙ sym (get_or-take (h + h) (drop (h + h) d) i (pos 0) below ∙ get_or-drop (h + h) d i (pos 0))
 
+-- as the machine reads it
+pub row_read : (d x s : List ℤ) (h j i : ℕ) → h + h + (h + h) ≤ length d → length x ≡ h → s ≡ paste d h x j → j < h → i < h + h
+    → SFits w32 (get_or s (h + h + i) (pos 0)) → to_z w32 (of_z w32 (get_or s (h + h + i) (pos 0))) ≡ get_or (row_of (h + h) d) i (pos 0)
+row_read d x s h j i room long is more below fits = to_z-of_z fits ∙ row-entry d x s h j i room long is more below
+
 -- a reading of 16 bits, as a number of 32
 pub reading_fits : {z : ℤ} → SFits w16 z → SFits w32 (to_z w16 (of_z w16 z))
 reading_fits f = rw (to_z-of_z f) (sfits_widen {w = w16} {w' = w32} tt f)
@@ -108,3 +113,8 @@ module _ (w v : List ℕ) (l : List ℤ) (i : ℕ) (long : length l ≡ length w
       ap₂ (λ (x : List ℕ) (b : ℕ). set x i b) e (sym (get_or-map hard l i (pos 0)))
       ∙ front-suc w s i 0 h (omega (arith, length-map l hard))
       ∙ ap (front w s) (sym (add-one i))
+
+  pub signs_done : length w ≤ i → v ≡ map hard l
+  signs_done h =
+      let s : List ℕ = map hard l in
+      e ∙ front-done w s i h (drop_of_length-le s {i = i} (omega (arith, length-map l hard)))

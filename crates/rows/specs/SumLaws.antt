@@ -30,6 +30,10 @@ module _ {X : Type 0} (whole : X → ℤ) (wholes : List X → List ℤ) (each :
   wholes-entry l i x is h =
       ap whole is ∙ sym (get_or-map whole l i x (pos 0) h) ∙ ap (λ (k : List ℤ). get_or k i (pos 0)) (sym (each l))
 
+  -- the row of 2h sums is that long
+  pub above_long : (h : ℕ) (d : List X) → h + h + (h + h) ≤ length d → length (row_of (h + h) (wholes d)) ≡ h + h
+  above_long h d room = length-row_of (h + h) (wholes d) (rw (length-wholes d) room)
+
   -- what is stored, whichever row l of 2h whole numbers is read
   module _ (d s : List X) (l : List ℤ) (h j : ℕ) (x y : ℤ) (v : X) (room : h + h ≤ length d) (long : length l ≡ h + h) (more : j < h)
       (pair : Pair h j l x y) where
@@ -49,9 +53,6 @@ module _ {X : Type 0} (whole : X → ℤ) (wholes : List X → List ℤ) (each :
     abbrev pub above : List ℤ
     above = row_of (h + h) (wholes d)
 
-    pub above_long : length above ≡ h + h
-    above_long = length-row_of (h + h) (wholes d) (rw (length-wholes d) room)
-
     entry : (r : List ℤ) → length r ≡ h → wholes s ≡ paste (wholes d) h r j → (i : ℕ) (z : X) → z ≡ get_or s (h + h + i) z → i < h + h
         → whole z ≡ get_or above i (pos 0)
     entry r long is i z e below =
@@ -62,7 +63,7 @@ module _ {X : Type 0} (whole : X → ℤ) (wholes : List X → List ℤ) (each :
     pair r long is = record { first = entry r long is j x first (omega arith); second = entry r long is (h + j) y second (omega arith) }
 
     lower-pair : wholes s ≡ paste (wholes d) h (lower_row h above) j → Pair h j above (whole x) (whole y)
-    lower-pair = pair (lower_row h above) (length-lower_row h above above_long)
+    lower-pair = pair (lower_row h above) (length-lower_row h above (above_long h d room))
 
     pub lower-asked : wholes s ≡ paste (wholes d) h (lower_row h above) j → sizes above < sum_limit
         → (nat_abs (whole x) < sum_limit) × (nat_abs (whole y) < sum_limit)
@@ -72,11 +73,11 @@ module _ {X : Type 0} (whole : X → ℤ) (wholes : List X → List ℤ) (each :
 
     pub lower-more : (v : X) → wholes s ≡ paste (wholes d) h (lower_row h above) j → whole v ≡ lower (whole x) (whole y)
         → wholes (set s (h + j) v) ≡ paste (wholes d) h (lower_row h above) (j + 1)
-    lower-more v is e = lower-stored d s above h j _ _ v (omega arith) above_long more (lower-pair is) is e
+    lower-more v is e = lower-stored d s above h j _ _ v (omega arith) (above_long h d room) more (lower-pair is) is e
 
     module _ (w : List ℕ) (word : h ≤ length w) where
       upper-pair : wholes s ≡ paste (wholes d) h (upper_row h above (take h w)) j → Pair h j above (whole x) (whole y)
-      upper-pair = pair (upper_row h above (take h w)) (length-upper_row h above above_long (take h w) (length-take-le h w word))
+      upper-pair = pair (upper_row h above (take h w)) (length-upper_row h above (above_long h d room) (take h w) (length-take-le h w word))
 
       pub upper-asked : wholes s ≡ paste (wholes d) h (upper_row h above (take h w)) j → sizes above < sum_limit
           → nat_abs (whole x) + nat_abs (whole y) < sum_limit
@@ -85,7 +86,7 @@ module _ {X : Type 0} (whole : X → ℤ) (wholes : List X → List ℤ) (each :
       pub upper-more : (v : X) → wholes s ≡ paste (wholes d) h (upper_row h above (take h w)) j
           → whole v ≡ upper (whole x) (whole y) (get_or w j 0)
           → wholes (set s (h + j) v) ≡ paste (wholes d) h (upper_row h above (take h w)) (j + 1)
-      upper-more v is e = upper-stored d s above h j _ _ v (omega arith) above_long more (upper-pair is) w word is e
+      upper-more v is e = upper-stored d s above h j _ _ v (omega arith) (above_long h d room) more (upper-pair is) w word is e
 
 -- ---- sums x and y of the readings p and q, which are read at j and h + j of the row r
 module _ {R : Type 0} (read : R → ℤ) (reads : List R → List ℤ) (each : (l : List R) → reads l ≡ map read l) where
