@@ -12,7 +12,8 @@ use Rattle.answers.specs.Reported.{reported}
 use Rattle.record.specs.Reader.{header_of, part_by}
 use Rattle.index.specs.Finding.{start_in, header_at, part_at, header_in, part_in, part_after, part_start_at, part_start}
 use Rattle.index.specs.Finding.{located_by, located_at, located_in}
-use Rattle.answers.specs.Indexed.{shown_made, found_number, found_numbers, shown_entry, shown_appended}
+use Rattle.answers.specs.Answers.{header_number}
+use Rattle.answers.specs.Indexed.{shown_made, found_number, found_numbers, entry_numbers, shown_entry, shown_appended}
 use Rattle.answers.specs.Indexed.{indexed_number, made_numbers, appended_numbers, pair_after}
 use Rattle.answers.specs.Indexed.{shown_front, fronted_number, fronted_numbers}
 use Rattle.code.specs.declared.Code.{Code}
@@ -50,6 +51,11 @@ reported-appended before a d t o returned out after e f g h =
     ∙ by_appended before a d t
     ∙ ap (shown_appended before) e
 
+-- an answer with this header, this start and this part's length
+pub reported-entry : (header : Result Code Refusal) (start : ℕ) (part out : List ℕ) (returned : ℕ) → returned ≡ header_number header
+    → out ≡ entry_numbers header start (length part) → reported returned out [] ≡ shown_entry header start part
+reported-entry header start part out returned f g = ap₂ (λ (n : ℕ) (l : List ℕ). reported n l []) f g
+
 -- a record that was found: its header, where its packed part starts, and that part
 by_header : (h : Result Code Refusal) (start : ℕ) (s : List ℕ) → let a = located_by h (part_after h start) (length (part_by h s)) in
     reported (found_number a) (found_numbers a) [] ≡ shown_entry h (part_after h start) (part_by h s)
@@ -61,10 +67,10 @@ by_found : (s : List ℕ) (p : Result ℕ Refusal) → let a = located_at s p in
 by_found s (Err why) = refl
 by_found s (Ok start) = by_header (header_of (drop start s)) start (drop start s)
 
-pub reported-entry : (answer : Result Located Refusal) (s table : List ℕ) (w : ℕ) (out : List ℕ) (returned : ℕ) → answer ≡ located_in s table w
+pub reported-found : (answer : Result Located Refusal) (s table : List ℕ) (w : ℕ) (out : List ℕ) (returned : ℕ) → answer ≡ located_in s table w
     → returned ≡ found_number answer → out ≡ found_numbers answer
     → reported returned out [] ≡ shown_entry (header_in s table w) (part_start s table w) (part_in s table w)
-reported-entry answer s table w out returned e f g =
+reported-found answer s table w out returned e f g =
     ap₂ (λ (n : ℕ) (l : List ℕ). reported n l []) f g
     ∙ ap (λ (a : Result Located Refusal). reported (found_number a) (found_numbers a) []) e
     ∙ by_found s (start_in s table w)

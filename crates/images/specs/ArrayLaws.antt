@@ -23,6 +23,14 @@ some_side m i h = ⊎_elim (λ k. k) (λ (k : m ≤ 0). absurd (omega (arith, mu
 pub shifted : (q : ℕ) → q ≤ 8 → 1 * 2 ^ q % 18446744073709551616 ≡ 2 ^ q
 shifted q h = rw one-mul (mod-eq_of_lt (omega (arith, pow_mono {i = q} {j = 8} h)))
 
+-- ---- an array that holds f up to where the loop is
+pub shows_more : (f : ℕ → ℕ) (q : ℕ) (l : List ℕ) (x : ℕ) → q < length l → x ≡ f q → Shows f q l → Shows f (q + 1) (set l q x)
+shows_more f q l x h e s i k =
+    ⊎_elim
+    (λ j. get_or-set_other l q i x 0 (λ z. omega arith) ∙ s i j)
+    (λ (j : q ≤ i). let z : i ≡ q = omega arith in rw z (get_or-set_same l q x 0 h ∙ e))
+    (lt_or_le i q)
+
 -- ---- a buffer that is filled from its front
 module _ {T : Type 0} (z : T) (f : ℕ → T) (n : ℕ) (d : List T) (long : length d ≡ n) where
   pub filled_more : (j : ℕ) (x : T) → j < n → x ≡ f j → set (front d (tabulate f n) j) j x ≡ front d (tabulate f n) (j + 1)
@@ -33,6 +41,21 @@ module _ {T : Type 0} (z : T) (f : ℕ → T) (n : ℕ) (d : List T) (long : len
   filled_all j e = rw (e ∙ sym (length-tabulate f n)) (front-all d (tabulate f n) (long ∙ sym (length-tabulate f n)))
 
 -- ---- images
+module _ (h x : ℕ) (l k : List ℕ) (i : ℕ) (room : h + h ≤ length k) (less : i < h) where
+  pub doubled-more : Doubled h i x l k → Doubled h (i + 1) x l (set k (h + i) (bit_xor (get_or k i 0) x))
+  doubled-more d =
+      let y = bit_xor (get_or k i 0) x in
+      record {
+        same = λ j a. get_or-set_other k (h + i) j y 0 (λ e. omega arith) ∙ d.same j a;
+        added = λ j a.
+            ⊎_elim
+            (λ b. get_or-set_other k (h + i) (h + j) y 0 (λ e. omega arith) ∙ d.added j b)
+            (λ (b : i ≤ j).
+            let e : j ≡ i = omega arith in
+            rw e (get_or-set_same k (h + i) y 0 (omega arith) ∙ ap (λ (n : ℕ). bit_xor n x) (d.same i less)))
+            (lt_or_le j i);
+      }
+
 pub images_start : (m : ℕ) (A l : List ℕ) → 0 < length l → Shows (image m A []) (2 ^ 0) (set l 0 0)
 images_start m A l h i less = let e : i ≡ 0 = omega arith in rw e (get_or-set_same l 0 0 0 h ∙ sym (image-zero m A))
 

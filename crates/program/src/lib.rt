@@ -56,7 +56,7 @@ impl Record<'_> {
     fn length(&self) -> usize
         ensures { result ≡ next_start self.now.bytes.now }
     {
-        record::record_length(self.bytes[0]).unwrap_or(0)
+        record::record_length(self.bytes[0])
     }
 
     fn refuse(&self, why: Refusal, text: &mut Text) -> Step

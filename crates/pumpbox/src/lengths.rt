@@ -41,7 +41,7 @@ pub extern "C" fn cinorbis_record_length(first: u32) -> usize
     ensures { result ≡ record_length first }
 {
     match u8::try_from(first) {
-        Ok(first) => record::record_length(first).unwrap_or(0),
+        Ok(first) => record::record_length(first),
         Err(_) => 0,
     }
 }

@@ -5,7 +5,7 @@ ghost use Rattle.std.specs.Prelude.{◌≡◌, suc, ◌<◌, ◌≤◌, length};
 ghost use Rattle.decoding.specs.Readings.{Within};
 ghost use Rattle.code.specs.Sound.{Sound, largest_record_reading};
 ghost use Rattle.packing.specs.Layout.{record_of, part_length};
-ghost use Rattle.record.specs.Reader.{code_of, sized_by, headed_by, header_of};
+ghost use Rattle.record.specs.Reader.{code_of, length_by, sized_by, headed_by, header_of};
 ghost use Rattle.record.specs.Reader.{outcome_of, part_by};
 ghost use Rattle.record.specs.Writing as Writing;
 ghost use Rattle.record.specs.Writing.{writable, writing};
@@ -23,8 +23,15 @@ fn code_of(first: u8) -> Result<Code, Refusal>
     Code::new(first % 16, first / 16)
 }
 
-// How many bytes a record has, by its first byte.
-pub fn record_length(first: u8) -> Result<usize, Refusal>
+// How many bytes a record has, by its first byte; 0 if that byte is refused.
+pub fn record_length(first: u8) -> usize
+    ensures { result ≡ length_by (code_of first) }
+{
+    try_record_length(first).unwrap_or(0)
+}
+
+// The same, or why that byte is refused.
+pub fn try_record_length(first: u8) -> Result<usize, Refusal>
     ensures { result ≡ sized_by (code_of first) }
 {
     let code = code_of(first)?;

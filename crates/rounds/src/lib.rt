@@ -70,7 +70,7 @@ impl Situation {
         if self.ended {
             return true;
         }
-        record::record_length(input[self.at]).unwrap_or(0) <= self.end - self.at
+        record::record_length(input[self.at]) <= self.end - self.at
     }
 
     // For an output of this many bytes.

@@ -11,14 +11,14 @@ returns-then-capture-at c = sym (step_past c.args.capture.now c.args.at (omega a
 
 pub returns-in_err-bytes : goal.returns-in_err-bytes
 returns-in_err-bytes c =
-    let none = sized-none _ _ (sym c.record_length.ensures ∙ c.in_err-bytes.was) in
+    let none = sized-none _ _ (sym c.try_record_length.ensures ∙ c.in_err-bytes.was) in
     let e = step_bad c.args.capture.now c.args.at (omega arith) none.1 in
     let same = none.0 in
     search rules
 
 -- how many bytes the record has
 some : (c : In_ok-bytes) → (c.in_ok-bytes.bytes ≡ bytes_at c.args.capture.now c.args.at) × (0 < c.in_ok-bytes.bytes)
-some c = sized-some _ _ (sym c.record_length.ensures ∙ c.in_ok-bytes.was)
+some c = sized-some _ _ (sym c.try_record_length.ensures ∙ c.in_ok-bytes.was)
 
 pub returns-then-capture-at-2 : goal.returns-then-capture-at-2
 returns-then-capture-at-2 c =

@@ -1,11 +1,11 @@
--- `record::record_length` meets its contract.
+-- `record::try_record_length` meets its contract.
 use Rattle.std.specs.Prelude.{ℕ, ◌+◌, ◌/◌, ◌%◌, Ok}
 use Rattle.std.proofs.Common.{rules, ap, sym, ◌∙◌, arith, one-add}
 use Rattle.code.specs.Sound.{Sound}
 use Rattle.code.specs.SoundLaws.{made_of}
 use Rattle.record.specs.Reader.{sized_by}
 use Rattle.record.specs.ReaderLaws.{part_small}
-use Rattle.record.proofs.record_length.Goals as goal
+use Rattle.record.proofs.try_record_length.Goals as goal
 
 pub returns-in_err-code : goal.returns-in_err-code
 returns-in_err-code c =
