@@ -1,6 +1,6 @@
 -- Laws of the memory's arrays where the sums are of any kind: what is read from them.
 use Rattle.std.specs.Prelude.{◌≡◌, List, map, ℕ, suc, ◌+◌, ◌-◌, ◌^◌, ◌≤◌, ◌<◌, ℤ, length, get_or, take}
-use Rattle.std.proofs.Common.{ap, sym, ◌∙◌, subst, arith}
+use Rattle.std.proofs.Common.{ap, sym, ◌∙◌, subst, arith, length-take, pow_pos}
 use Rattle.std.proofs.lemmas.List.{take-map}
 use Rattle.words.specs.Bits.{Bits}
 use Rattle.decoding.specs.Readings.{sizes, sum_limit}
@@ -8,7 +8,7 @@ use Rattle.decoding.specs.Walk.{value}
 use Rattle.decoding.specs.Quick.{lower_row}
 use Rattle.numbers.specs.Lowest.{LowestOne}
 use Rattle.rows.specs.Rows.{row_of, with_row}
-use Rattle.rows.specs.SumLaws.{length-wholes, wholes-entry}
+use Rattle.rows.specs.SumLaws.{length-wholes, entry-read, wholes-entry}
 use Rattle.memory.specs.Memory.{Arrays, Made, RowsFor, ValueReady, RowsReady, LowReady}
 use Rattle.memory.proofs.LowLaws.{low-room, low_small}
 use Rattle.memory.proofs.CodeLaws.{made_above, start_asked, start-made, same_arrays, value_made, single_value}
@@ -64,3 +64,11 @@ module _ {X : Type 0} (whole : X → ℤ) (wholes : List X → List ℤ) (each :
   single_read {m = m} {i = i} {y = y} l₀ {s = s} x z none some is e =
       let f = single_value {i = i} {y = y} (wholes l₀) {s = s} none in
       (e ∙ ap whole (sym is) ∙ wholes-entry whole wholes each l₀ 0 x is some ∙ f.0, f.1)
+
+  -- read with any default for missing entries
+  pub single_any : {m i : ℕ} {y : List ℕ} (l₀ : List X) {s : List ℤ} → m ≡ 0 → length (take (2 ^ m) (wholes l₀)) ≡ 2 ^ m → (none : X)
+      → (whole (get_or l₀ 0 none) ≡ value m (take (2 ^ m) (wholes l₀)) (take i y)) × RowsFor m (take (2 ^ m) (wholes l₀)) y i i s
+  single_any {m = m} {i = i} {y = y} l₀ {s = s} z long none =
+      let some : 0 < length l₀ = omega (arith, long, length-take (2 ^ m) (wholes l₀), length-wholes whole wholes each l₀, pow_pos m) in
+      let e = single_value {i = i} {y = y} (wholes l₀) {s = s} z in
+      (entry-read whole wholes each l₀ 0 none some ∙ e.0, e.1)

@@ -26,13 +26,28 @@ module _ {X : Type 0} (whole : X → ℤ) (wholes : List X → List ℤ) (each :
   wholes-set l i x = each (set l i x) ∙ map-set whole l i x ∙ ap (λ (k : List ℤ). set k i (whole x)) (sym (each l))
 
   -- an entry, whatever the default for missing ones
+  pub entry-read : (l : List X) (i : ℕ) (none : X) → i < length l → whole (get_or l i none) ≡ get_or (wholes l) i (pos 0)
+  entry-read l i none h = sym (get_or-map whole l i none (pos 0) h) ∙ ap (λ (k : List ℤ). get_or k i (pos 0)) (sym (each l))
+
   pub wholes-entry : (l : List X) (i : ℕ) (x : X) → x ≡ get_or l i x → i < length l → whole x ≡ get_or (wholes l) i (pos 0)
-  wholes-entry l i x is h =
-      ap whole is ∙ sym (get_or-map whole l i x (pos 0) h) ∙ ap (λ (k : List ℤ). get_or k i (pos 0)) (sym (each l))
+  wholes-entry l i x is h = ap whole is ∙ entry-read l i x h
 
   -- the row of 2h sums is that long
   pub above_long : (h : ℕ) (d : List X) → h + h + (h + h) ≤ length d → length (row_of (h + h) (wholes d)) ≡ h + h
   above_long h d room = length-row_of (h + h) (wholes d) (rw (length-wholes d) room)
+
+  -- the pairs that are read: of the row above, with j sums of the row r made in the array d, and of a row l of 2h sums
+  pub row-pair : (d s : List X) (r : List ℤ) (h j : ℕ) → h + h + (h + h) ≤ length d → length r ≡ h → wholes s ≡ paste (wholes d) h r j
+      → length s ≡ length d → j < h → (none : X)
+      → Pair h j (row_of (h + h) (wholes d)) (whole (get_or s (h + h + j) none)) (whole (get_or s (h + h + (h + j)) none))
+  row-pair d s r h j room long is same more none =
+      let entry = λ (i : ℕ) (below : i < h + h). entry-read s (h + h + i) none (omega arith)
+      ∙ row-entry (wholes d) r (wholes s) h j i (rw (length-wholes d) room) long is more below in
+      record { first = entry j (omega arith); second = entry (h + j) (omega arith) }
+
+  pub pair-of-row : (l : List X) (h j : ℕ) → length l ≡ h + h → j < h → (none : X)
+      → Pair h j (wholes l) (whole (get_or l j none)) (whole (get_or l (h + j) none))
+  pair-of-row l h j long more none = record { first = entry-read l j none (omega arith); second = entry-read l (h + j) none (omega arith) }
 
   -- what is stored, whichever row l of 2h whole numbers is read
   module _ (d s : List X) (l : List ℤ) (h j : ℕ) (x y : ℤ) (v : X) (room : h + h ≤ length d) (long : length l ≡ h + h) (more : j < h)
