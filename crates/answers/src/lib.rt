@@ -13,7 +13,7 @@ ghost use Rattle.answers.specs.Answers.{searched_number, searched_numbers};
 ghost use Rattle.answers.specs.Answers.{header_number, header_numbers};
 ghost use Rattle.answers.specs.EarlyLaws.{answered_number, answered_numbers};
 ghost use Rattle.answers.specs.Indexed.{pair, indexed_number, made_numbers};
-ghost use Rattle.answers.specs.Indexed.{found_number, found_numbers};
+ghost use Rattle.answers.specs.Indexed.{entry_numbers, found_number, found_numbers};
 ghost use Rattle.answers.specs.Indexed.{appended_numbers, pair_after};
 ghost use Rattle.answers.specs.Indexed.{fronted_number, fronted_numbers};
 ghost use Rattle.answers.specs.Written.{wrote_number, wrote_numbers};
@@ -255,23 +255,38 @@ pub fn put_front(answer: Result<FrontIndex, Refusal>, out: &mut [u64; 3]) -> u32
     }
 }
 
-// A record that was found, and where its packed part starts.
-pub fn put_entry(answer: Result<Located, Refusal>, out: &mut [u64; 5]) -> u32
-    ensures { (result ≡ found_number answer) × (out.new ≡ found_numbers answer) }
+// r, m, where a packed part starts, its length and place.
+pub fn put_entry(
+    header: Result<Code, Refusal>,
+    start: usize,
+    length: usize,
+    out: &mut [u64; 5],
+) -> u32
+    ensures { (result ≡ header_number header)
+        × (out.new ≡ entry_numbers header start length) }
 {
-    match answer {
-        Ok(found) => {
-            let code = found.code;
-            let start = found.start as u64;
-            let length = found.length as u64;
+    let start = start as u64;
+    let length = length as u64;
+    match header {
+        Ok(code) => {
             *out = [code.r.into(), code.m.into(), start, length, 0];
             0
         }
         Err(why) => {
             let shown = why.shown();
-            *out = [0, 0, 0, 0, shown.place as u64];
+            *out = [0, 0, start, length, shown.place as u64];
             shown.number
         }
+    }
+}
+
+// A record that was found, and where its packed part starts.
+pub fn put_located(answer: Result<Located, Refusal>, out: &mut [u64; 5]) -> u32
+    ensures { (result ≡ found_number answer) × (out.new ≡ found_numbers answer) }
+{
+    match answer {
+        Ok(found) => put_entry(Ok(found.code), found.start, found.length, out),
+        Err(why) => put_entry(Err(why), 0, 0, out),
     }
 }
 

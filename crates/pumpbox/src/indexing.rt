@@ -9,7 +9,7 @@ ghost use Rattle.answers.specs.Reported.{reported};
 ghost use Rattle.answers.specs.Indexed.{index_in, shown_made, shown_front, shown_entry};
 ghost use Rattle.answers.specs.Indexed.{shown_appended};
 
-use answers::{put_appended, put_entry, put_front, put_made};
+use answers::{put_appended, put_front, put_located, put_made};
 use index::Index;
 
 #[unsafe(no_mangle)]
@@ -50,7 +50,7 @@ pub extern "C" fn cinorbis_index_find(
         (part_in capture.now table.now w) }
 {
     let answer = index::locate(capture, table, w);
-    put_entry(answer, out)
+    put_located(answer, out)
 }
 
 // The index that was passed.
