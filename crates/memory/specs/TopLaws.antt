@@ -28,18 +28,15 @@ module _ (x : ℕ) where
 
   -- and as the machine counts the leading zeros of 64 bits
   module _ (fits : x < 2 ^ 64) where
-    or-one : 0 < bit_or x 1
-    or-one = some_bit
-
     or_fits : bit_or x 1 < 2 ^ 64
     or_fits = or_lt 64 x 1 fits (omega arith)
 
     pub leading_most : count_leading_zeros 64 (bit_or x 1) ≤ 63
-    leading_most = let q = leading_top 64 (bit_or x 1) or-one or_fits in omega (arith, q.1)
+    leading_most = let q = leading_top 64 (bit_or x 1) some_bit or_fits in omega (arith, q.1)
 
     pub is_highest : Highest x (63 - count_leading_zeros 64 (bit_or x 1))
     is_highest =
-        let q = leading_top 64 (bit_or x 1) or-one or_fits in
+        let q = leading_top 64 (bit_or x 1) some_bit or_fits in
         let e : q.0 ≡ 63 - count_leading_zeros 64 (bit_or x 1) = omega (arith, q.1) in
         subst (Highest x) e (highest_by_power q.0 (omega (arith, q.2)) (omega (arith, q.3, two-pow-succ q.0)))
 

@@ -68,14 +68,12 @@ module _ {X : Type 0} (whole : X → ℤ) (wholes : List X → List ℤ) (each :
     abbrev pub above : List ℤ
     above = row_of (h + h) (wholes d)
 
-    entry : (r : List ℤ) → length r ≡ h → wholes s ≡ paste (wholes d) h r j → (i : ℕ) (z : X) → z ≡ get_or s (h + h + i) z → i < h + h
-        → whole z ≡ get_or above i (pos 0)
-    entry r long is i z e below =
-        wholes-entry s (h + h + i) z e (omega arith)
-        ∙ row-entry (wholes d) r (wholes s) h j i (rw (length-wholes d) room) long is more below
-
     pub pair : (r : List ℤ) → length r ≡ h → wholes s ≡ paste (wholes d) h r j → Pair h j above (whole x) (whole y)
-    pair r long is = record { first = entry r long is j x first (omega arith); second = entry r long is (h + j) y second (omega arith) }
+    pair r long is =
+        record {
+          first = ap whole first ∙ (row-pair d s r h j room long is same more x).first;
+          second = ap whole second ∙ (row-pair d s r h j room long is same more y).second;
+        }
 
     lower-pair : wholes s ≡ paste (wholes d) h (lower_row h above) j → Pair h j above (whole x) (whole y)
     lower-pair = pair (lower_row h above) (length-lower_row h above (above_long h d room))
@@ -109,6 +107,6 @@ module _ {R : Type 0} (read : R → ℤ) (reads : List R → List ℤ) (each : (
       → x ≡ read p → y ≡ read q → Pair h j (reads r) x y
   top-pair r h j p q x y long more first second is_first is_second =
       record {
-        first = is_first ∙ wholes-entry read reads each r j p first (omega arith);
-        second = is_second ∙ wholes-entry read reads each r (h + j) q second (omega arith);
+        first = is_first ∙ ap read first ∙ (pair-of-row read reads each r h j long more p).first;
+        second = is_second ∙ ap read second ∙ (pair-of-row read reads each r h j long more q).second;
       }
