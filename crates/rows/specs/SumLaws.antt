@@ -68,12 +68,15 @@ module _ {X : Type 0} (whole : X → ℤ) (wholes : List X → List ℤ) (each :
     abbrev pub above : List ℤ
     above = row_of (h + h) (wholes d)
 
+    -- any entry of the row above
+    entry : (r : List ℤ) → length r ≡ h → wholes s ≡ paste (wholes d) h r j → (i : ℕ) (z : X) → z ≡ get_or s (h + h + i) z → i < h + h
+        → whole z ≡ get_or above i (pos 0)
+    entry r long is i z e below =
+        wholes-entry s (h + h + i) z e (omega arith)
+        ∙ row-entry (wholes d) r (wholes s) h j i (rw (length-wholes d) room) long is more below
+
     pub pair : (r : List ℤ) → length r ≡ h → wholes s ≡ paste (wholes d) h r j → Pair h j above (whole x) (whole y)
-    pair r long is =
-        record {
-          first = ap whole first ∙ (row-pair d s r h j room long is same more x).first;
-          second = ap whole second ∙ (row-pair d s r h j room long is same more y).second;
-        }
+    pair r long is = record { first = entry r long is j x first (omega arith); second = entry r long is (h + j) y second (omega arith) }
 
     lower-pair : wholes s ≡ paste (wholes d) h (lower_row h above) j → Pair h j above (whole x) (whole y)
     lower-pair = pair (lower_row h above) (length-lower_row h above (above_long h d room))
