@@ -36,14 +36,20 @@ module _ {X : Type 0} (whole : X → ℤ) (wholes : List X → List ℤ) (each :
   pub above_long : (h : ℕ) (d : List X) → h + h + (h + h) ≤ length d → length (row_of (h + h) (wholes d)) ≡ h + h
   above_long h d room = length-row_of (h + h) (wholes d) (rw (length-wholes d) room)
 
-  -- the pairs that are read: of the row above, with j sums of the row r made in the array d, and of a row l of 2h sums
+  -- any entry i of the row above, with j sums of the row r made in the array d
+  above-read : (d s : List X) (r : List ℤ) (h j : ℕ) → h + h + (h + h) ≤ length d → length r ≡ h → wholes s ≡ paste (wholes d) h r j
+      → length s ≡ length d → j < h → (none : X) (i : ℕ) → i < h + h
+      → whole (get_or s (h + h + i) none) ≡ get_or (row_of (h + h) (wholes d)) i (pos 0)
+  above-read d s r h j room long is same more none i below =
+      entry-read s (h + h + i) none (omega arith) ∙ row-entry (wholes d) r (wholes s) h j i (rw (length-wholes d) room) long is more below
+
+  -- the pairs that are read: of that row above, and of a row l of 2h sums
   pub row-pair : (d s : List X) (r : List ℤ) (h j : ℕ) → h + h + (h + h) ≤ length d → length r ≡ h → wholes s ≡ paste (wholes d) h r j
       → length s ≡ length d → j < h → (none : X)
       → Pair h j (row_of (h + h) (wholes d)) (whole (get_or s (h + h + j) none)) (whole (get_or s (h + h + (h + j)) none))
   row-pair d s r h j room long is same more none =
-      let entry = λ (i : ℕ) (below : i < h + h). entry-read s (h + h + i) none (omega arith)
-      ∙ row-entry (wholes d) r (wholes s) h j i (rw (length-wholes d) room) long is more below in
-      record { first = entry j (omega arith); second = entry (h + j) (omega arith) }
+      let read = above-read d s r h j room long is same more none in
+      record { first = read j (omega arith); second = read (h + j) (omega arith) }
 
   pub pair-of-row : (l : List X) (h j : ℕ) → length l ≡ h + h → j < h → (none : X)
       → Pair h j (wholes l) (whole (get_or l j none)) (whole (get_or l (h + j) none))
@@ -68,12 +74,9 @@ module _ {X : Type 0} (whole : X → ℤ) (wholes : List X → List ℤ) (each :
     abbrev pub above : List ℤ
     above = row_of (h + h) (wholes d)
 
-    -- any entry of the row above
     entry : (r : List ℤ) → length r ≡ h → wholes s ≡ paste (wholes d) h r j → (i : ℕ) (z : X) → z ≡ get_or s (h + h + i) z → i < h + h
         → whole z ≡ get_or above i (pos 0)
-    entry r long is i z e below =
-        wholes-entry s (h + h + i) z e (omega arith)
-        ∙ row-entry (wholes d) r (wholes s) h j i (rw (length-wholes d) room) long is more below
+    entry r long is i z e below = ap whole e ∙ above-read d s r h j room long is same more z i below
 
     pub pair : (r : List ℤ) → length r ≡ h → wholes s ≡ paste (wholes d) h r j → Pair h j above (whole x) (whole y)
     pair r long is = record { first = entry r long is j x first (omega arith); second = entry r long is (h + j) y second (omega arith) }
