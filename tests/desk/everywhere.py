@@ -36,7 +36,8 @@ def click(selector):
 def load(path):
     turn = b.js("desk.capture.turn")
     b.choose_file("#chosen", path)
-    b.until(f"desk.capture.turn > {turn} && ['none', 'read'].includes(desk.capture.state.phase)", 120)
+    # what is read is drawn in the frame after
+    b.until(f"desk.capture.turn > {turn} && ['none', 'read'].includes(desk.capture.state.phase) && !desk.capture.frame", 120)
 
 
 def go(number):

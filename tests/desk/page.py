@@ -37,10 +37,11 @@ def hidden(selector):
 
 
 def opened(act):
-    """a capture that is opened by `act`, until all of it is read"""
+    """a capture that is opened by `act`, until all of it is read and drawn"""
     turn = b.js("desk.capture.turn")
     act()
-    b.until(f"desk.capture.turn > {turn} && ['none', 'read'].includes(desk.capture.state.phase)", 120)
+    # what is read is drawn in the frame after
+    b.until(f"desk.capture.turn > {turn} && ['none', 'read'].includes(desk.capture.state.phase) && !desk.capture.frame", 120)
 
 
 def load(path):
